@@ -1,0 +1,43 @@
+-- Packed digits: what a slice of bytes means as a list of digits, and which bytes a list of digits makes.
+-- Document 01, "Digits and bytes": eight to a byte, first digit in the most significant bit.
+-- There is no other notion of a digit in the project: every statement on a line, a quarter or a frame goes through `digitsOf`.
+use Prim.Native.Nat.{ℕ, zero, suc, _+_, _*_, _/_, _%_, _^_, _<_}
+use mathlib.Core.List.{List, [], _∷_, _++_}
+use lib.ListN.{getD, drop}
+
+-- the eight digits of a byte, first digit in the most significant bit
+abbrev pub eight : ℕ → List ℕ
+eight b = b / 128 % 2 ∷ b / 64 % 2 ∷ b / 32 % 2 ∷ b / 16 % 2 ∷ b / 8 % 2 ∷ b / 4 % 2 ∷ b / 2 % 2 ∷ b % 2 ∷ []
+
+-- the digits of these bytes
+unfoldable pub digitsOf : List ℕ → List ℕ
+digitsOf [] = []
+digitsOf (b ∷ bs) = eight b ++ digitsOf bs
+
+-- the byte whose eight digits are the first eight of the list
+abbrev pub byteOf : List ℕ → ℕ
+byteOf ds =
+    128 * getD ds 0 0
+    + 64 * getD ds 1 0
+    + 32 * getD ds 2 0
+    + 16 * getD ds 3 0
+    + 8 * getD ds 4 0
+    + 4 * getD ds 5 0
+    + 2 * getD ds 6 0
+    + getD ds 7 0
+
+-- the first n bytes that these digits make
+unfoldable pub bytesOf : ℕ → List ℕ → List ℕ
+bytesOf zero ds = []
+bytesOf (suc n) ds = byteOf ds ∷ bytesOf n (drop 8 ds)
+
+-- every element is a byte; every element is a digit
+abbrev pub Bytes : List ℕ → Type 0
+Bytes bs = (i : ℕ) → getD bs i 0 < 256
+
+abbrev pub Binary : List ℕ → Type 0
+Binary ds = (i : ℕ) → getD ds i 0 < 2
+
+-- the byte b with d as the digit that is worth 2 to the k: the digits above it, d, the digits below it
+unfoldable pub withDigit : ℕ → ℕ → ℕ → ℕ
+withDigit b k d = (b / 2 ^ k / 2 * 2 + d) * 2 ^ k + b % 2 ^ k

@@ -1,0 +1,32 @@
+// Packed digits: read the digit at a place of a slice, write the digit at a place of a slice.
+// Digits stand eight to a byte, first digit in the most significant bit. Every crate above speaks of lists of digits
+// (specs/Digits.antt) and of the laws in proofs/Laws.antt, and of bytes no more.
+ghost use mathlib.Core.Path.{_≡_};
+ghost use Prim.Native.Nat.{_*_, _<_};
+ghost use lib.ListN.{length, getD, set};
+ghost use Rattle.digits.specs.Digits.{digitsOf, withDigit, Bytes};
+
+// The digit at place p.
+pub fn digit_at(s: &[u8], p: usize) -> u8
+    requires { ⌜ p < 8 * length (now s) ⌝ }
+    ensures { λ r. ⌜ (r ≡ getD (digitsOf (now (s .entry))) p 0) × (r < 2) ⌝ }
+{
+    (s[p / 8] >> (7 - p % 8)) % 2
+}
+
+// Digit d at place p; every other digit stays. What is left are bytes, so that equal digits are equal slices.
+pub fn put_digit(s: &mut [u8], p: usize, d: u8)
+    requires { ⌜ (p < 8 * length (now s)) × (d < 2) ⌝ }
+    ensures { λ _. ⌜ (digitsOf (now (s .exit)) ≡ set (digitsOf (now (s .entry))) p d) × Bytes (now (s .exit)) ⌝ }
+{
+    let i = p / 8;
+    s[i] = with_digit(s[i], 7 - p % 8, d);
+}
+
+// The byte b with d as the digit that is worth 2 to the k.
+fn with_digit(b: u8, k: usize, d: u8) -> u8
+    requires { ⌜ (k < 8) × (d < 2) ⌝ }
+    ensures { λ r. ⌜ r ≡ withDigit b k d ⌝ }
+{
+    (((b >> k) / 2 * 2 + d) << k) + b % (1 << k)
+}
