@@ -1,0 +1,11 @@
+pub mod Choice
+pub mod Rows
+pub mod Positions
+pub mod Ways
+pub mod Sentences
+pub mod Columns
+pub mod Counts
+pub mod Inverse
+pub mod Closed
+pub mod Majority
+pub mod Windows

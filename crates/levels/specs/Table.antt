@@ -1,0 +1,70 @@
+-- The level table of document 01, "Digits and bytes", and what its rows share.
+use mathlib.Core.Path.{_≡_}
+use mathlib.Core.Logic.{_≢_}
+use mathlib.Core.Bool.{cond}
+use Prim.Native.Nat.{ℕ, _+_, _*_, _/_, _%_, _^_, _≤_, _<_}
+use lib.Dec.{eqb}
+use Rattle.levels.specs.declared.table.Row.{Row}
+use Rattle.levels.specs.declared.table.Level.{Level}
+use Rattle.levels.specs.declared.table.Level.the-variants.{Of, NoSuchLevel}
+
+-- |                                      | level 2    | level 3    | level 4      |
+-- | frame digits N                       | 848        | 1536       | 2928         |
+-- | frame bytes                          | 106        | 192        | 366          |
+-- | sets, digits in a set                | 4, 212     | 4, 384     | 6, 488       |
+-- | alignment word, L digits             | 1111010000 | 1111010000 | 111110100000 |
+-- | remote alarm place                   | 10         | 10         | 12           |
+-- | national places                      | 11         | 11         | 13, 14, 15   |
+-- | first tributary place                | 12         | 12         | 16           |
+-- | control digits in a group            | 3          | 3          | 5            |
+-- | digits per tributary n, none stuffed | 206        | 378        | 723          |
+abbrev pub row2 : Row
+row2 =
+    record
+    { digits = 848; bytes = 106; sets = 4; set = 212; word = 0b1111010000; len = 10; alarm = 10; national = 11; nationals = 1; first = 12; control = 3; n = 206 }
+
+abbrev pub row3 : Row
+row3 =
+    record
+    { digits = 1536; bytes = 192; sets = 4; set = 384; word = 0b1111010000; len = 10; alarm = 10; national = 11; nationals = 1; first = 12; control = 3; n = 378 }
+
+abbrev pub row4 : Row
+row4 =
+    record
+    { digits = 2928; bytes = 366; sets = 6; set = 488; word = 0b111110100000; len = 12; alarm = 12; national = 13; nationals = 3; first = 16; control = 5; n = 723 }
+
+-- the row of a level; every number but 2, 3 and 4 is no level
+unfoldable pub levelOf : ℕ → Level
+levelOf level = cond (eqb level 2) (Of row2) (cond (eqb level 3) (Of row3) (cond (eqb level 4) (Of row4) NoSuchLevel))
+
+-- What all rows share, each fact by its name. Everything above the table is proved from these, once for all levels.
+pub record Shared (row : Row) : Type 0 where
+  -- the frame is its sets, and whole bytes
+  pub whole : row .digits ≡ row .sets * row .set
+  pub packed : row .digits ≡ 8 * row .bytes
+  -- there is a set after the first, and each set after the first has a control digit of each tributary
+  pub later-set : 2 ≤ row .sets
+  pub group : row .control + 1 ≡ row .sets
+  -- a group has an odd number of digits, so that a vote has a majority
+  pub odd : row .control % 2 ≡ 1
+  -- each set, and each set's tributary digits, begin anew with tributary 1; a set has room for every head
+  pub set-fours : row .set % 4 ≡ 0
+  pub first-fours : row .first % 4 ≡ 0
+  pub room : row .first + 8 ≤ row .set
+  -- the head of the first set is the word, the remote alarm digit, one to three national digits
+  pub alarm-next : row .alarm ≡ row .len
+  pub national-next : row .national ≡ row .alarm + 1
+  pub some-national : 1 ≤ row .nationals
+  pub few-national : row .nationals ≤ 3
+  pub first-next : row .first ≡ row .national + row .nationals
+  -- a word of ten digits has tributary digits from place 12 on; the only other word has twelve, and 16
+  pub ten : row .len ≡ 10 → row .first ≡ 12
+  pub twelve : row .len ≢ 10 → (row .len ≡ 12) × (row .first ≡ 16)
+  -- the word has L digits
+  pub word-fits : row .word < 2 ^ row .len
+  -- the digits per tributary: a column of four places for each, less the first set's head and the control digits
+  pub counted : row .n + row .first / 4 + row .sets ≡ row .digits / 4 + 1
+  -- the largest row
+  pub short : row .digits ≤ 2928
+  pub few-sets : row .sets ≤ 6
+  pub word-short : row .len ≤ 12

@@ -1,0 +1,164 @@
+// What a place of a frame is, and the walk along a tributary's own places, a column of four places at a time.
+use crate::table::Row;
+use crate::table::TEN_ALARM;
+use crate::table::TEN_END;
+use crate::table::TEN_NATIONAL;
+use crate::table::TWELVE_ALARM;
+use crate::table::TWELVE_END;
+use crate::table::TWELVE_NATIONAL;
+use crate::table::TWELVE_SECOND;
+use crate::table::TWELVE_THIRD;
+ghost use mathlib.Core.Path.{_≡_};
+ghost use Prim.Native.Nat.{ℕ, _+_, _%_, _<_, _≤_};
+ghost use Rattle.levels.specs.Table.{Shared, row2, row4};
+ghost use Rattle.levels.specs.Places.{firstSet, laterSet, kindOf, kindAt, posOf};
+
+// A place in a frame, 0 to N - 1, and a place in a tributary: the number of a digit in the tributary's quarter.
+// Two kinds of numbers: order.rt has the functions that turn one into the other.
+pub struct FramePlace(pub usize);
+
+pub struct TributaryPlace(pub usize);
+
+pub enum ServiceDigit {
+    RemoteAlarm,
+    FirstNational,
+    SecondNational,
+    ThirdNational,
+}
+
+pub enum Kind {
+    Word,
+    Service(ServiceDigit),
+    Control,
+    Justification,
+    Tributary,
+}
+
+// Where a walk along a line stands: the frame, the set in the frame, the place in the set, each from 0.
+pub struct At {
+    pub frame: usize,
+    pub set: usize,
+    pub place: usize,
+}
+
+// Place r of a first set whose word has ten digits.
+fn head_of_ten(r: usize) -> Kind
+    ensures { λ k. ⌜ k ≡ firstSet row2 r ⌝ }
+{
+    match r {
+        0..=TEN_END => Kind::Word,
+        TEN_ALARM => Kind::Service(ServiceDigit::RemoteAlarm),
+        TEN_NATIONAL => Kind::Service(ServiceDigit::FirstNational),
+        _ => Kind::Tributary,
+    }
+}
+
+// Place r of a first set whose word has twelve digits.
+fn head_of_twelve(r: usize) -> Kind
+    ensures { λ k. ⌜ k ≡ firstSet row4 r ⌝ }
+{
+    match r {
+        0..=TWELVE_END => Kind::Word,
+        TWELVE_ALARM => Kind::Service(ServiceDigit::RemoteAlarm),
+        TWELVE_NATIONAL => Kind::Service(ServiceDigit::FirstNational),
+        TWELVE_SECOND => Kind::Service(ServiceDigit::SecondNational),
+        TWELVE_THIRD => Kind::Service(ServiceDigit::ThirdNational),
+        _ => Kind::Tributary,
+    }
+}
+
+// Place r of the first set.
+fn first_set(row: Row, r: usize) -> Kind
+    requires { ⌜ Shared row ⌝ }
+    ensures { λ k. ⌜ k ≡ firstSet row r ⌝ }
+{
+    if row.len == TEN_END + 1 {
+        return head_of_ten(r);
+    }
+    head_of_twelve(r)
+}
+
+// Place r of a later set.
+fn later_set(last: bool, r: usize) -> Kind
+    ensures { λ k. ⌜ k ≡ laterSet last r ⌝ }
+{
+    match r {
+        0..=3 => Kind::Control,
+        4..=7 => {
+            if last {
+                Kind::Justification
+            } else {
+                Kind::Tributary
+            }
+        }
+        _ => Kind::Tributary,
+    }
+}
+
+// What the place is at which a walk stands.
+pub fn kind_of(row: Row, at: At) -> Kind
+    requires { ⌜ Shared row ⌝ }
+    ensures { λ k. ⌜ k ≡ kindOf row (at .set) (at .place) ⌝ }
+{
+    let r = at.place;
+    if at.set == 0 {
+        return first_set(row, r);
+    }
+    later_set(at.set == row.sets - 1, r)
+}
+
+// Where a place of a frame stands, in a line of this one frame.
+pub fn at_place(row: Row, p: FramePlace) -> At
+    requires { ⌜ Shared row × (p .0 < row .digits) ⌝ }
+    ensures { λ r. ⌜ r ≡ posOf row (p .0) ⌝ }
+{
+    let k = p.0;
+    At {
+        frame: 0,
+        set: k / row.set,
+        place: k % row.set,
+    }
+}
+
+// What a place of a frame is, and whose: the tributary, from 0, is the remainder by four.
+pub fn kind_at(row: Row, p: FramePlace) -> Kind
+    requires { ⌜ Shared row × (p .0 < row .digits) ⌝ }
+    ensures { λ k. ⌜ k ≡ kindAt row (p .0) ⌝ }
+{
+    kind_of(row, at_place(row, p))
+}
+
+pub fn tributary_at(p: FramePlace) -> usize
+    ensures { λ j. ⌜ j ≡ p .0 % 4 ⌝ }
+{
+    let k = p.0;
+    k % 4
+}
+
+// The next column: four places on. A call's line has at most 64 frames.
+pub fn next_column(row: Row, at: At) -> At
+    requires { ⌜ Shared row × (at .frame ≤ 64) × (at .set < row .sets) × (at .place < row .set) ⌝ }
+    ensures { λ r. ⌜ ((p : ℕ) → at ≡ posOf row p → r ≡ posOf row (p + 4)) ⌝ }
+{
+    let place = at.place + 4;
+    if place < row.set {
+        return At {
+            frame: at.frame,
+            set: at.set,
+            place,
+        };
+    }
+    let set = at.set + 1;
+    if set < row.sets {
+        return At {
+            frame: at.frame,
+            set,
+            place: place - row.set,
+        };
+    }
+    At {
+        frame: at.frame + 1,
+        set: 0,
+        place: place - row.set,
+    }
+}

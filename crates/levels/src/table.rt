@@ -1,0 +1,108 @@
+// The level table of document 01, a row to a level, and the one function that finds a level's row.
+// specs/Table.antt has the same table for a reader; that the two are equal is what `level_of` ensures.
+ghost use mathlib.Core.Path.{_≡_};
+ghost use Rattle.levels.specs.Table.{levelOf};
+
+// A row of the table.
+pub struct Row {
+    // frame digits N, frame bytes
+    pub digits: usize,
+    pub bytes: usize,
+    // sets, digits in a set
+    pub sets: usize,
+    pub set: usize,
+    // alignment word, its L digits
+    pub word: u16,
+    pub len: usize,
+    // remote alarm place
+    pub alarm: usize,
+    // first national place, how many
+    pub national: usize,
+    pub nationals: usize,
+    // first tributary place
+    pub first: usize,
+    // control digits in a group
+    pub control: usize,
+    // digits per tributary n, none stuffed
+    pub n: usize,
+}
+
+pub enum Level {
+    Of(Row),
+    NoSuchLevel,
+}
+
+// The head of the first set: the last digit of the word and the service places, where the word has ten digits and
+// where it has twelve. The table and the patterns of places.rt both read these.
+pub const TEN_END: usize = 9;
+
+pub const TEN_ALARM: usize = 10;
+
+pub const TEN_NATIONAL: usize = 11;
+
+pub const TWELVE_END: usize = 11;
+
+pub const TWELVE_ALARM: usize = 12;
+
+pub const TWELVE_NATIONAL: usize = 13;
+
+pub const TWELVE_SECOND: usize = 14;
+
+pub const TWELVE_THIRD: usize = 15;
+
+const TABLE: [Row; 3] = [
+    Row {
+        digits: 848,
+        bytes: 106,
+        sets: 4,
+        set: 212,
+        word: 0b1111010000,
+        len: TEN_END + 1,
+        alarm: TEN_ALARM,
+        national: TEN_NATIONAL,
+        nationals: 1,
+        first: 12,
+        control: 3,
+        n: 206,
+    },
+    Row {
+        digits: 1536,
+        bytes: 192,
+        sets: 4,
+        set: 384,
+        word: 0b1111010000,
+        len: TEN_END + 1,
+        alarm: TEN_ALARM,
+        national: TEN_NATIONAL,
+        nationals: 1,
+        first: 12,
+        control: 3,
+        n: 378,
+    },
+    Row {
+        digits: 2928,
+        bytes: 366,
+        sets: 6,
+        set: 488,
+        word: 0b111110100000,
+        len: TWELVE_END + 1,
+        alarm: TWELVE_ALARM,
+        national: TWELVE_NATIONAL,
+        nationals: 3,
+        first: 16,
+        control: 5,
+        n: 723,
+    },
+];
+
+// The row of a level, or that there is no such level: any number may come.
+pub fn level_of(level: u64) -> Level
+    ensures { λ r. ⌜ r ≡ levelOf level ⌝ }
+{
+    match level {
+        2 => Level::Of(TABLE[0]),
+        3 => Level::Of(TABLE[1]),
+        4 => Level::Of(TABLE[2]),
+        _ => Level::NoSuchLevel,
+    }
+}
