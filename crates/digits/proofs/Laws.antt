@@ -4,12 +4,12 @@ use mathlib.Core.Path.{_≡_, refl, sym, ap, ap₂, _∙_}
 use mathlib.Core.Logic.{_≢_}
 use mathlib.Core.List.{List, [], _∷_, _++_}
 use Prim.Native.Nat.{ℕ, zero, suc, _+_, _-_, _*_, _/_, _%_, _^_, _<_}
-use native.Mathlib.Nat.{zero-div}
+use native.Mathlib.Nat.{zero-div, add-zero, zero-add, not-suc-le-zero}
 use native.Mathlib.Omega.{arith}
 use native.Mathlib.Decide.{decLt, ℕ-discrete}
 use lib.ListN.{length, getD, set, take, drop, replicate, length-set, length-drop, take-append-drop, drop-of-length-le, List·getD-append, replicate-append-replicate}
 use lib.Seq.{ext-getD, getD-set-same, getD-set-other, getD-append-add, getD-take, getD-drop, take-append-add, drop-append-add, take-nil, drop-nil}
-use Rattle.digits.specs.Digits.{eight, digitsOf, bytesOf, Bytes, Binary, withDigit}
+use Rattle.digits.specs.Digits.{eight, digitsOf, bytesOf, tab, Bytes, Binary, withDigit}
 use Rattle.digits.proofs.Bits.{eight-at, digit-same, digit-other, byte-fits, eight-byte, byte-is}
 
 pub digits-length : (bs : List ℕ) → length (digitsOf bs) ≡ 8 * length bs
@@ -154,3 +154,27 @@ by-digit P z o (suc (suc d)) h = absurd (over h)
   where
     over : suc (suc d) < 2 → ⊥
     over h = omega arith
+
+-- a list given by its places
+pub tab-length : (n p : ℕ) (f : ℕ → ℕ) → length (tab n p f) ≡ n
+unfolding tab
+tab-length zero p f = refl
+tab-length (suc n) p f = ap suc (tab-length n (suc p) f)
+
+pub tab-at : (n p : ℕ) (f : ℕ → ℕ) (i : ℕ) → i < n → getD (tab n p f) i 0 ≡ f (p + i)
+unfolding tab
+tab-at zero p f i h = absurd (not-suc-le-zero h)
+tab-at (suc n) p f zero h = rw (add-zero p)
+tab-at (suc n) p f (suc i) h = let e : p + suc i ≡ suc p + i = omega arith in rw e (tab-at n (suc p) f i (omega arith))
+
+-- a list of digits that agrees with f at each place is the list that f gives
+pub tab-of : (ds : List ℕ) (n : ℕ) (f : ℕ → ℕ) → length ds ≡ n → ((i : ℕ) → i < n → getD ds i 0 ≡ f i) → ds ≡ tab n 0 f
+tab-of ds n f e h =
+    ext-getD 0 ds (tab n 0 f) (e ∙ sym (tab-length n 0 f))
+    (λ i hi. let hn : i < n = omega arith in h i hn ∙ sym (tab-at n 0 f i hn ∙ ap f (zero-add i)))
+
+-- bytes are those that their digits make
+pub bytes-by-place : (bs : List ℕ) (f : ℕ → ℕ) → Bytes bs → ((p : ℕ) → p < 8 * length bs → getD (digitsOf bs) p 0 ≡ f p)
+    → bs ≡ bytesOf (length bs) (tab (8 * length bs) 0 f)
+bytes-by-place bs f b h =
+    sym (bytes-of-digits bs b) ∙ ap (λ (ds : List ℕ). bytesOf (length bs) ds) (tab-of (digitsOf bs) (8 * length bs) f (digits-length bs) h)

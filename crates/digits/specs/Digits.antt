@@ -31,6 +31,11 @@ unfoldable pub bytesOf : ℕ → List ℕ → List ℕ
 bytesOf zero ds = []
 bytesOf (suc n) ds = byteOf ds ∷ bytesOf n (drop 8 ds)
 
+-- the list of n digits whose first is f p, whose second is f (p + 1), and so on
+unfoldable pub tab : ℕ → ℕ → (ℕ → ℕ) → List ℕ
+tab zero p f = []
+tab (suc n) p f = f p ∷ tab n (suc p) f
+
 -- every element is a byte; every element is a digit
 abbrev pub Bytes : List ℕ → Type 0
 Bytes bs = (i : ℕ) → getD bs i 0 < 256

@@ -7,12 +7,12 @@ use Prim.Native.Nat.{ℕ, zero, suc, _+_, _*_, _/_, _-_, _≤_, _<_}
 use native.Mathlib.Omega.{arith}
 use native.Mathlib.Decide.{decLe, decLt, ℕ-discrete}
 use native.Mathlib.Numerals.{add-one}
-use native.Mathlib.Nat.{add-zero, add-suc, suc-mul, zero-mul}
+use native.Mathlib.Nat.{add-zero, add-suc, suc-mul, zero-mul, mul-left-comm}
 use lib.Dec.{eqb, leb}
 use borrow.Author.Tests.{le-leb, lt-leb, eq-eqb, ne-eqb}
 use Rattle.levels.specs.declared.table.Row.{Row}
 use Rattle.levels.specs.Table.{Shared}
-use Rattle.levels.specs.Order.{carries, before, stuffedTo}
+use Rattle.levels.specs.Order.{carries, before, stuffedTo, countOf}
 use Rattle.levels.proofs.Sentences.{set-start}
 use Rattle.levels.proofs.Columns.{wide, columns, headColumns, line-carries}
 
@@ -98,3 +98,11 @@ module _ (row : Row) (sh : Shared row) where
     unfolding before stuffedTo
     line-count zero = rw (zero-mul (columns row), zero-mul (row .n))
     line-count (suc F) = omega (arith, line-count F, frame-count F, suc-mul F (row .n))
+
+    -- the columns of a line of F frames carry F·n − s digits
+    pub count-of : (F bytes : ℕ) → bytes ≡ F * row .bytes → count (2 * bytes) ≡ countOf row decided F
+    unfolding countOf
+    count-of F bytes e =
+        let half : columns row ≡ 2 * row .bytes = omega (arith, sh .packed) in
+        let all : 2 * bytes ≡ F * columns row = ap (λ (k : ℕ). 2 * k) e ∙ mul-left-comm 2 F (row .bytes) ∙ ap (λ (k : ℕ). F * k) (sym half) in
+        rw all (omega (arith, line-count F))

@@ -3,7 +3,7 @@
 -- Column x of tributary j is place 4 * x + j of a line. A tributary's decisions are a function of the frame: true is stuffed.
 use mathlib.Core.Bool.{Bool, cond, true, false, not}
 use mathlib.Core.List.{List, [], _∷_, _++_}
-use Prim.Native.Nat.{ℕ, zero, suc, _+_, _*_, _/_, _%_, _^_}
+use Prim.Native.Nat.{ℕ, zero, suc, _+_, _*_, _-_, _/_, _%_, _^_}
 use lib.Dec.{eqb}
 use lib.ListN.{getD}
 use Rattle.levels.specs.declared.table.Row.{Row}
@@ -44,3 +44,12 @@ placesOf row decided j (suc x) = placesOf row decided j x ++ cond (carries row d
 unfoldable pub stuffedTo : (ℕ → Bool) → ℕ → ℕ
 stuffedTo decided zero = 0
 stuffedTo decided (suc f) = stuffedTo decided f + cond (decided f) 1 0
+
+-- "With F frames, of which s are stuffed for a tributary, that tributary has F·n − s digits"
+unfoldable pub countOf : Row → (ℕ → Bool) → ℕ → ℕ
+countOf row decided F = F * row .n - stuffedTo decided F
+
+-- the counts of the four tributaries, by the notes
+abbrev pub countsOf : Row → List ℕ → ℕ → List ℕ
+countsOf row notes F =
+    countOf row (decisions notes 0) F ∷ countOf row (decisions notes 1) F ∷ countOf row (decisions notes 2) F ∷ countOf row (decisions notes 3) F ∷ []

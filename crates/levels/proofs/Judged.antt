@@ -1,0 +1,47 @@
+-- What a call may rely on where its lengths are accepted: the line is F whole frames, F at most 64; there are F notes; the
+-- buffer is four quarters, and each has room for F·n digits.
+use mathlib.Core.Path.{_≡_, refl, sym, _∙_}
+use mathlib.Core.Bool.{Bool, cond, true, false, not, _||_, true≢false}
+use Prim.Native.Nat.{ℕ, _+_, _*_, _/_, _%_, _≤_, _<_}
+use native.Mathlib.Omega.{arith}
+use native.Mathlib.Nat.{mul-le-mul, div-add-mod'}
+use lib.Dec.{eqb, ltb}
+use borrow.Author.Tests.{eqb-true, ltb-false, not-false}
+use Rattle.levels.specs.declared.table.Row.{Row}
+use Rattle.levels.specs.Table.{Shared}
+use Rattle.levels.specs.Sizes.{framesOf, badLine, badNotes, badBuffer, sizeRefusal, Accepted}
+
+pub room-small : (row : Row) → Shared row → (f : ℕ) → f ≤ 64 → f * row .n ≤ 47360
+room-small row sh f h = omega (arith, mul-le-mul {n₁ = f} {m₁ = row .n} {n₂ = 64} {m₂ = 740} h (omega (arith, sh .counted, sh .short)))
+
+-- where neither of two faults is there
+neither : (a b : Bool) → not a || b ≡ false → (a ≡ true) × (b ≡ false)
+neither true b e = (refl, e)
+neither false b e = absurd (true≢false e)
+
+pub line-frames : (row : Row) (line : ℕ) → badLine row line ≡ false → (line % row .bytes ≡ 0) × (framesOf row line ≤ 64)
+line-frames row line e =
+    let both = neither (eqb (line % row .bytes) 0) (ltb 64 (framesOf row line)) e in
+    (eqb-true (line % row .bytes) 0 (both .0), ltb-false 64 (framesOf row line) (both .1))
+
+-- a refusal number that is 0 was given by no test
+unrefused : (t : Bool) (a b : ℕ) → (a ≡ 0 → ⊥) → cond t a b ≡ 0 → (t ≡ false) × (b ≡ 0)
+unrefused true a b n e = absurd (n e)
+unrefused false a b n e = (refl, e)
+
+pub accepted : (row : Row) (line notes buffer : ℕ) → sizeRefusal row line notes buffer ≡ 0 → Accepted row line notes buffer
+unfolding sizeRefusal
+accepted row line notes buffer e =
+    let two = unrefused (badLine row line) 2 _ (λ z. omega arith) e in
+    let three = unrefused (badNotes row line notes) 3 _ (λ z. omega arith) (two .1) in
+    let four = unrefused (badBuffer row line buffer) 4 0 (λ z. omega arith) (three .1) in
+    let whole = line-frames row line (two .0) in
+    let room = neither (eqb (buffer % 4) 0) (ltb (8 * (buffer / 4)) (framesOf row line * row .n)) (four .0) in
+    let fours = eqb-true (buffer % 4) 0 (room .0) in
+    record {
+      frames = omega (arith, div-add-mod' line (row .bytes), whole .0);
+      few = whole .1;
+      noted = eqb-true notes (framesOf row line) (not-false (eqb notes (framesOf row line)) (three .0));
+      quarters = omega arith;
+      room = ltb-false (8 * (buffer / 4)) (framesOf row line * row .n) (room .1);
+    }

@@ -1,0 +1,73 @@
+-- The walk along one tributary's columns, as the multiplexer's pass and the demultiplexer's extraction both make it: what they carry
+-- along, how it moves on, and what is known of a column inside a line of F frames.
+use mathlib.Core.Path.{_≡_, refl, sym, _∙_, ap}
+use mathlib.Core.Bool.{Bool, cond, true}
+use Prim.Native.Nat.{ℕ, suc, _+_, _*_, _≤_, _<_}
+use native.Mathlib.Omega.{arith}
+use native.Mathlib.Numerals.{add-one}
+use native.Mathlib.Nat.{lt-of-mul-lt-mul-right, mul-left-comm}
+use Rattle.levels.specs.declared.table.Row.{Row}
+use Rattle.levels.specs.declared.places.At.{At}
+use Rattle.levels.specs.Table.{Shared}
+use Rattle.levels.specs.Places.{kindOf, posOf}
+use Rattle.levels.specs.Order.{carried, carries, before, countOf}
+use Rattle.levels.proofs.Positions.{Stands, stands-at, pos-of-sum}
+use Rattle.levels.proofs.Counts.{count-of}
+use Rattle.levels.proofs.Inverse.{before-rises}
+use Rattle.levels.proofs.Judged.{room-small}
+
+module _ (row : Row) (sh : Shared row) (j : ℕ) (jh : j < 4) (decided : ℕ → Bool) where
+  -- at column x: the number of the tributary's next digit, and where the column stands
+  pub record Walking (x i : ℕ) (at : At) : Type 0 where
+    pub index : i ≡ before row decided j x
+    pub place : at ≡ posOf row (4 * x + j)
+
+  pub walk-start : Walking 0 0 (record { frame = 0; set = 0; place = j })
+  unfolding before
+  walk-start =
+      record {
+        index = refl;
+        place = sym (pos-of-sum row sh (4 * 0 + j) 0 0 j (omega arith) (omega (arith, sh .later-set)) (omega (arith, sh .room)));
+      }
+
+  -- the column's kind and the frame's decision say whether it carries a digit
+  pub here : (x i : ℕ) (at : At) → Walking x i at → carried (kindOf row (at .set) (at .place)) (decided (at .frame)) ≡ carries row decided (4 * x + j)
+  unfolding carries
+  here x i at w = rw (w .place)
+
+  -- one column on
+  pub walk-next : (x i : ℕ) (at : At) → Walking x i at → (i′ : ℕ) (at′ : At)
+      → i′ ≡ i + cond (carried (kindOf row (at .set) (at .place)) (decided (at .frame))) 1 0
+      → ((p : ℕ) → at ≡ posOf row p → at′ ≡ posOf row (p + 4))
+      → Walking (x + 1) i′ at′
+  unfolding before
+  walk-next x i at w i′ at′ ei ea =
+      let four : 4 * x + j + 4 ≡ 4 * (x + 1) + j = omega arith in
+      record {
+        index = ei ∙ rw (here x i at w, w .index, add-one x) refl;
+        place = ea (4 * x + j) (w .place) ∙ ap (λ (p : ℕ). posOf row p) four;
+      }
+
+  -- a column inside a line of F frames
+  module _ (F bytes : ℕ) (whole : bytes ≡ F * row .bytes) (few : F ≤ 64) (x i : ℕ) (at : At) (h : x < 2 * bytes) (w : Walking x i at) where
+    pub column-in : Stands row sh (4 * x + j) at
+    column-in = stands-at row sh (4 * x + j) at (w .place)
+
+    line-digits : 8 * bytes ≡ F * row .digits
+    line-digits = ap (λ (k : ℕ). 8 * k) whole ∙ mul-left-comm 8 F (row .bytes) ∙ ap (λ (k : ℕ). F * k) (sym (sh .packed))
+
+    pub frame-in : at .frame < F
+    frame-in = lt-of-mul-lt-mul-right (row .digits) (omega (arith, column-in .sum, line-digits))
+
+    most : before row decided j (2 * bytes) ≤ F * row .n
+    unfolding countOf
+    most = omega (arith, count-of row sh j jh decided F bytes whole)
+
+    pub index-small : i < 65536
+    index-small = omega (arith, w .index, before-rises row decided j x (2 * bytes) (omega arith), most, room-small row sh F few)
+
+    pub index-room : carried (kindOf row (at .set) (at .place)) (decided (at .frame)) ≡ true → i < F * row .n
+    unfolding before
+    index-room c =
+        let one : cond {A = ℕ} (carries row decided (4 * x + j)) 1 0 ≡ 1 = rw (sym (here x i at w) ∙ c) in
+        omega (arith, w .index, one, before-rises row decided j (suc x) (2 * bytes) (omega arith), most)

@@ -1,0 +1,49 @@
+-- What the lengths of a call are judged by: refusals 1 to 4 of document 01, "Refusal numbers", and F, the number of frames.
+-- The level comes first: a call goes on with the level's row or is refused with 1.
+use mathlib.Core.Path.{_≡_}
+use mathlib.Core.Bool.{Bool, cond, _||_, not}
+use mathlib.Core.List.{List}
+use Prim.Native.Nat.{ℕ, _*_, _/_, _%_, _≤_}
+use lib.Dec.{eqb, ltb}
+use lib.ListN.{length, take, drop}
+use Rattle.levels.specs.declared.table.Row.{Row}
+use Rattle.levels.specs.declared.table.Level.{Level}
+use Rattle.levels.specs.declared.table.Level.the-variants.{Of, NoSuchLevel}
+
+-- go on with a level's row, or answer that there is no such level
+abbrev pub onLevel {ℓ} : {A : Type ℓ} → Level → (Row → A) → A → A
+onLevel (Of row) go none = go row
+onLevel NoSuchLevel go none = none
+
+-- F is the line's length divided by the frame bytes
+abbrev pub framesOf : Row → ℕ → ℕ
+framesOf row line = line / row .bytes
+
+-- 2: "line is not a whole number of frames, or over 64 frames"
+abbrev pub badLine : Row → ℕ → Bool
+badLine row line = not (eqb (line % row .bytes) 0) || ltb 64 (framesOf row line)
+
+-- 3: "notes are not exactly F bytes"
+abbrev pub badNotes : Row → ℕ → ℕ → Bool
+badNotes row line notes = not (eqb notes (framesOf row line))
+
+-- 4: "the buffer's length is not a multiple of 4, or eight times a quarter's bytes is less than F·n"
+abbrev pub badBuffer : Row → ℕ → ℕ → Bool
+badBuffer row line buffer = not (eqb (buffer % 4) 0) || ltb (8 * (buffer / 4)) (framesOf row line * row .n)
+
+-- the first of them that applies, or 0, by the lengths of line, notes and buffer in bytes
+unfoldable pub sizeRefusal : Row → ℕ → ℕ → ℕ → ℕ
+sizeRefusal row line notes buffer =
+    cond (badLine row line) 2 (cond (badNotes row line notes) 3 (cond (badBuffer row line buffer) 4 0))
+
+-- "one buffer in four equal quarters, quarter j for tributary j": j from 0 here
+abbrev pub quarterOf : List ℕ → ℕ → List ℕ
+quarterOf buffer j = take (length buffer / 4) (drop (j * (length buffer / 4)) buffer)
+
+-- what accepted lengths say: the line is F whole frames, at most 64; there are F notes; the buffer is four quarters with room for F·n digits each
+pub record Accepted (row : Row) (line notes buffer : ℕ) : Type 0 where
+  pub frames : line ≡ framesOf row line * row .bytes
+  pub few : framesOf row line ≤ 64
+  pub noted : notes ≡ framesOf row line
+  pub quarters : buffer ≡ 4 * (buffer / 4)
+  pub room : framesOf row line * row .n ≤ 8 * (buffer / 4)
