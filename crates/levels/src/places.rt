@@ -11,7 +11,7 @@ use crate::table::TWELVE_THIRD;
 ghost use mathlib.Core.Path.{_≡_};
 ghost use Prim.Native.Nat.{ℕ, _+_, _%_, _<_, _≤_};
 ghost use Rattle.levels.specs.Table.{Shared, row2, row4};
-ghost use Rattle.levels.specs.Places.{firstSet, laterSet, kindOf, kindAt, posOf};
+ghost use Rattle.levels.specs.Places.{firstSet, laterSet, kindOf, kindAt, posOf, isOwn};
 
 // A place in a frame, 0 to N - 1, and a place in a tributary: the number of a digit in the tributary's quarter.
 // Two kinds of numbers: order.rt has the functions that turn one into the other.
@@ -120,7 +120,7 @@ pub fn at_place(row: Row, p: FramePlace) -> At
     }
 }
 
-// What a place of a frame is, and whose: the tributary, from 0, is the remainder by four.
+// What a place of a frame is.
 pub fn kind_at(row: Row, p: FramePlace) -> Kind
     requires { ⌜ Shared row × (p .0 < row .digits) ⌝ }
     ensures { λ k. ⌜ k ≡ kindAt row (p .0) ⌝ }
@@ -128,6 +128,20 @@ pub fn kind_at(row: Row, p: FramePlace) -> Kind
     kind_of(row, at_place(row, p))
 }
 
+// Whether a place of this kind is one of its tributary's own places.
+pub fn is_own(kind: Kind) -> bool
+    ensures { λ r. ⌜ r ≡ isOwn kind ⌝ }
+{
+    match kind {
+        Kind::Word => false,
+        Kind::Service(_) => false,
+        Kind::Control => true,
+        Kind::Justification => true,
+        Kind::Tributary => true,
+    }
+}
+
+// Whose a place of a frame is: the tributary, from 0, is the remainder by four.
 pub fn tributary_at(p: FramePlace) -> usize
     ensures { λ j. ⌜ j ≡ p .0 % 4 ⌝ }
 {
