@@ -1,0 +1,101 @@
+-- "Further input digits are not looked at": two buffers of one length that agree on the first F·n − s digits of each quarter give the
+-- same line and the same answer.
+use mathlib.Core.Path.{_≡_, refl, sym, _∙_, ap}
+use mathlib.Core.Bool.{Bool, cond, true, false, not, true≢false}
+use mathlib.Core.List.{List}
+use Prim.Native.Nat.{ℕ, suc, _+_, _*_, _/_, _%_, _≤_, _<_}
+use native.Mathlib.Omega.{arith}
+use native.Mathlib.Nat.{zero-add}
+use native.Mathlib.Decide.{ℕ-discrete}
+use lib.Dec.{eqb}
+use borrow.Author.Tests.{eqb-true, ne-eqb}
+use lib.ListN.{length, getD}
+use Rattle.digits.specs.Digits.{digitsOf, bytesOf, tab}
+use Rattle.digits.proofs.Laws.{tab-of, tab-at, tab-length}
+use Rattle.levels.specs.declared.table.Row.{Row}
+use Rattle.levels.specs.declared.places.Kind.{Kind}
+use Rattle.levels.specs.declared.places.Kind.the-variants.{Word, Service, Control, Justification, Tributary}
+use Rattle.levels.specs.declared.table.Level.{Level}
+use Rattle.levels.specs.declared.table.Level.the-variants.{Of, NoSuchLevel}
+use Rattle.levels.specs.Table.{Shared, levelOf}
+use Rattle.levels.specs.Places.{kindAt, posOf}
+use Rattle.levels.specs.Order.{stuffed, decisions, carried, carries, before, countOf}
+use Rattle.levels.specs.Sizes.{onLevel, quarterOf, sizeRefusal}
+use Rattle.levels.proofs.Rows.{shared-row}
+use Rattle.levels.proofs.Counts.{count-of}
+use Rattle.levels.proofs.Inverse.{before-rises}
+use Rattle.levels.proofs.Judged.{accepted}
+use Rattle.multiplex.specs.Line.{digitBy, lineDigit, lineOf}
+use Rattle.multiplex.specs.Multiplex.{refusalOn, lineOn, lineAfter}
+
+-- a place that carries no digit does not look at one
+idle : (row : Row) (note j r a b : ℕ) (k : Kind) → carried k (stuffed note j) ≡ false → digitBy row note j r a k ≡ digitBy row note j r b k
+idle row note j r a b Word c = refl
+idle row note j r a b (Service s) c = refl
+idle row note j r a b Control c = refl
+idle row note j r a b Justification c = go (stuffed note j) c
+  where
+    go : (st : Bool) → not st ≡ false → cond st 1 a ≡ cond st 1 b
+    go true c = refl
+    go false c = absurd (true≢false c)
+idle row note j r a b Tributary c = absurd (true≢false c)
+
+-- the tributaries t and u agree on the digits that F frames with these notes take
+abbrev pub Agree : Row → List ℕ → (ℕ → List ℕ) → (ℕ → List ℕ) → Type 0
+Agree row notes t u = (j i : ℕ) → j < 4 → i < countOf row (decisions notes j) (length notes) → getD (t j) i 0 ≡ getD (u j) i 0
+
+module _ (row : Row) (sh : Shared row) (notes : List ℕ) (t u : ℕ → List ℕ) (same : Agree row notes t u) (bytes : ℕ) (whole : bytes ≡ length notes * row .bytes) where
+  -- the digit that a carrying place takes is one of them
+  taken : (p : ℕ) → p < 8 * bytes → carries row (decisions notes (p % 4)) p ≡ true → before row (decisions notes (p % 4)) (p % 4) (p / 4) < countOf row (decisions notes (p % 4)) (length notes)
+  unfolding before
+  taken p h c =
+      let j = p % 4 in
+      let x = p / 4 in
+      let place : 4 * x + j ≡ p = omega arith in
+      let one : cond {A = ℕ} (carries row (decisions notes j) (4 * x + j)) 1 0 ≡ 1 = rw (place, c) in
+      omega (arith, one, before-rises row (decisions notes j) j (suc x) (2 * bytes) (omega arith), count-of row sh j (omega arith) (decisions notes j) (length notes) bytes whole)
+
+  same-digit : (p : ℕ) → p < 8 * bytes → lineDigit row notes t p ≡ lineDigit row notes u p
+  unfolding lineDigit carries
+  same-digit p h = go (carries row (decisions notes (p % 4)) p) refl
+    where
+      go : (c : Bool) → carries row (decisions notes (p % 4)) p ≡ c → lineDigit row notes t p ≡ lineDigit row notes u p
+      go true e = rw (same (p % 4) (before row (decisions notes (p % 4)) (p % 4) (p / 4)) (omega arith) (taken p h e))
+      go false e = idle row (getD notes (posOf row p .frame) 0) (p % 4) (posOf row p .place) _ _ (kindAt row p) e
+
+  pub same-line : lineOf row notes t bytes ≡ lineOf row notes u bytes
+  same-line =
+      let n = 8 * bytes in
+      let f = lineDigit row notes t in
+      ap (λ (ds : List ℕ). bytesOf bytes ds)
+      (tab-of (tab n 0 f) n (lineDigit row notes u) (tab-length n 0 f) (λ p h. tab-at n 0 f p h ∙ ap f (zero-add p) ∙ same-digit p h))
+
+-- a call that is not refused has accepted lengths
+pub size-accepted : (row : Row) (line : ℕ) (notes : List ℕ) (buffer : ℕ) → refusalOn row line notes buffer ≡ 0 → sizeRefusal row line (length notes) buffer ≡ 0
+unfolding refusalOn
+size-accepted row line notes buffer e =
+    let size = sizeRefusal row line (length notes) buffer in
+    elim (ℕ-discrete size 0) [
+      | yes z ↦ z
+      | no n ↦ let is : refusalOn row line notes buffer ≡ size = rw (ne-eqb size 0 n) in sym is ∙ e
+    ]
+
+-- the same of the call: its answer looks only at the buffer's length
+pub not-looked-at : (level : ℕ) (line notes b b′ : List ℕ) → length b ≡ length b′
+    → ((row : Row) → levelOf level ≡ Of row → Agree row notes (λ (j : ℕ). digitsOf (quarterOf b j)) (λ (j : ℕ). digitsOf (quarterOf b′ j)))
+    → lineAfter level line notes b ≡ lineAfter level line notes b′
+not-looked-at level line notes b b′ len same = go (levelOf level) refl
+  where
+    on-row : (row : Row) → levelOf level ≡ Of row → (r : Bool) → eqb (refusalOn row (length line) notes (length b′)) 0 ≡ r → lineOn row line notes b ≡ lineOn row line notes b′
+    on-row row e true er =
+        let er′ : eqb (refusalOn row (length line) notes (length b)) 0 ≡ true = rw len er in
+        let ok = accepted row (length line) (length notes) (length b′) (size-accepted row (length line) notes (length b′) (eqb-true (refusalOn row (length line) notes (length b′)) 0 er)) in
+        rw (er′, er)
+        (same-line row (shared-row level row e) notes _ _ (same row e) (length line) (ok .frames ∙ ap (λ (F : ℕ). F * row .bytes) (sym (ok .noted))))
+    on-row row e false er =
+        let er′ : eqb (refusalOn row (length line) notes (length b)) 0 ≡ false = rw len er in
+        rw (er′, er)
+
+    go : (l : Level) → levelOf level ≡ l → onLevel l (λ (row : Row). lineOn row line notes b) line ≡ onLevel l (λ (row : Row). lineOn row line notes b′) line
+    go (Of row) e = on-row row e (eqb (refusalOn row (length line) notes (length b′)) 0) refl
+    go NoSuchLevel e = refl
