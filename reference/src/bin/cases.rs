@@ -1,0 +1,185 @@
+//! Prints what a program on the cases below must write, a line to a case: worked cases 9,
+//! 10 and 11, each refusal at its border, and each pair of faults that tells the order.
+//!
+//! The text is made so that a program in any language can write it: fixed words, single
+//! spaces, and numbers in the decimal system. How the inputs are made:
+//!
+//! - the line of a multiplex call and the notes and buffer of a demultiplex call hold 165
+//!   in every byte beforehand, so that a byte left alone can be told from a byte cleared;
+//! - byte i of a multiplex call's buffer is i modulo 256;
+//! - a multiplex call's notes are 0 before frame `from`, and `note` from that frame on;
+//! - every byte of a demultiplex call's line is `fill`;
+//! - the bytes of a piece, and of the frame store of a given state, are 0.
+//!
+//! A `sum` is taken after the call over all bytes: byte i counts i + 1 times.
+
+use reference::{demultiplex, feed, fresh, multiplex, Fed, State};
+
+/// What a byte that will be written holds before.
+const BEFORE: u8 = 165;
+const MAX: u64 = u64::MAX;
+
+/// level, line bytes, notes, note, from, buffer bytes
+type Sending = (u64, usize, usize, u8, usize, usize);
+/// level, line bytes, fill, notes, buffer bytes
+type Receiving = (u64, usize, u8, usize, usize);
+/// level, window, seen, mode, place, slice bytes, first, count
+type Feeding = (u64, u64, u64, u64, u64, usize, u64, u64);
+
+const SENDINGS: [Sending; 27] = [
+    // Case 9, and the other levels at the same borders.
+    (2, 6784, 64, 15, 32, 6592),
+    (2, 6890, 65, 0, 0, 6696),
+    (2, 105, 1, 0, 0, 104),
+    (2, 106, 1, 0, 0, 104),
+    (2, 106, 1, 0, 0, 100),
+    (3, 12288, 64, 5, 1, 12096),
+    (3, 12480, 65, 0, 0, 12288),
+    (4, 23424, 64, 250, 1, 23136),
+    (4, 23790, 65, 0, 0, 23500),
+    // Case 10, and the note alone.
+    (2, 106, 1, 64, 0, 100),
+    (2, 106, 1, 64, 0, 104),
+    (3, 960, 5, 128, 3, 960),
+    (4, 366, 1, 64, 0, 364),
+    // Notes one short and one long, buffers that are no multiple of 4.
+    (2, 212, 1, 0, 0, 208),
+    (2, 106, 2, 0, 0, 104),
+    (2, 106, 1, 0, 0, 103),
+    (2, 106, 1, 0, 0, 105),
+    // Room is asked for F·n digits even where frames are stuffed.
+    (2, 848, 8, 15, 0, 820),
+    (2, 848, 8, 15, 0, 824),
+    // No frames, and levels that there are not.
+    (2, 0, 0, 0, 0, 0),
+    (2, 0, 0, 0, 0, 3),
+    (258, 0, 0, 0, 0, 0),
+    (MAX, 0, 0, 0, 0, 0),
+    // The order 1, 2, 3, 4, 5: the first wrong thing, and all later ones wrong as well.
+    (5, 105, 2, 64, 0, 103),
+    (2, 105, 2, 64, 0, 103),
+    (2, 106, 2, 64, 0, 103),
+    (2, 106, 1, 64, 0, 103),
+];
+
+const RECEIVINGS: [Receiving; 10] = [
+    (2, 6784, 240, 64, 6592),
+    (2, 6890, 0, 65, 6696),
+    (2, 105, 0, 1, 104),
+    (2, 106, 255, 1, 104),
+    (2, 106, 0, 1, 100),
+    (4, 732, 19, 2, 728),
+    (2, 0, 0, 0, 4),
+    // The order 1, 2, 3, 4.
+    (5, 105, 0, 2, 103),
+    (2, 105, 0, 2, 103),
+    (2, 106, 0, 2, 103),
+];
+
+const FEEDINGS: [Feeding; 14] = [
+    (2, 1023, 10, 6, 847, 1, 0, 8),
+    (2, 1024, 10, 6, 847, 1, 0, 8),
+    (2, 1023, 11, 6, 847, 1, 0, 8),
+    (2, 1023, 10, 7, 847, 1, 0, 8),
+    (2, 1023, 10, 6, 848, 1, 0, 8),
+    (2, 1023, 9, 6, 847, 1, 0, 8),
+    (2, 0, 0, 0, 1, 1, 0, 8),
+    (4, 2000, 11, 0, 0, 1, 0, 5),
+    (2, 0, 10, 3, 837, 1, 7, 1),
+    (2, 0, 0, 0, 0, 65_537, 0, 0),
+    (2, 0, 0, 0, 0, 1, 1, 8),
+    (2, 0, 0, 0, 0, 1, MAX, 2),
+    // The order 6, 2, 7.
+    (2, 0, 0, 7, 0, 65_537, MAX, 1),
+    (2, 0, 0, 0, 0, 65_537, MAX, 1),
+];
+
+fn sum(bytes: &[u8]) -> u64 {
+    (1..).zip(bytes).map(|(weight, &byte)| weight * u64::from(byte)).sum()
+}
+
+fn counts(counts: [u64; 4]) -> String {
+    format!("{} {} {} {}", counts[0], counts[1], counts[2], counts[3])
+}
+
+fn sending((level, line, notes, note, from, buffer): Sending) {
+    let mut bytes = vec![BEFORE; line];
+    let list: Vec<u8> = (0..notes).map(|k| if k < from { 0 } else { note }).collect();
+    let quarters: Vec<u8> = (0..buffer).map(|i| (i % 256) as u8).collect();
+    let answer = multiplex(level, &mut bytes, &list, &quarters);
+    println!(
+        "multiplex level {level} line {line} notes {notes} note {note} from {from} \
+         buffer {buffer}: refusal {} frame {} counts {} sum {}",
+        answer.refusal,
+        answer.frame,
+        counts(answer.counts),
+        sum(&bytes),
+    );
+}
+
+fn receiving((level, line, fill, notes, buffer): Receiving) {
+    let (mut list, mut quarters) = (vec![BEFORE; notes], vec![BEFORE; buffer]);
+    let answer = demultiplex(level, &vec![fill; line], &mut list, &mut quarters);
+    println!(
+        "demultiplex level {level} line {line} fill {fill} notes {notes} \
+         buffer {buffer}: refusal {} counts {} alignment {} groups {} notes sum {} sum {}",
+        answer.refusal,
+        counts(answer.counts),
+        answer.alignment,
+        answer.groups,
+        sum(&list),
+        sum(&quarters),
+    );
+}
+
+/// The part of a line that every feed call has: the answer, then the state's numbers.
+fn fed(answer: &Fed) -> String {
+    let state = &answer.state;
+    format!(
+        "refusal {} taken {} ready {} all-ones {} state {} {} {} {} {}",
+        answer.refusal,
+        answer.taken,
+        u64::from(answer.ready),
+        u64::from(answer.all_ones),
+        state.level,
+        state.window,
+        state.seen,
+        state.mode,
+        state.place,
+    )
+}
+
+fn feeding((level, window, seen, mode, place, slice, first, count): Feeding) {
+    let state = State { level, window, seen, mode, place, frame: [0; 366] };
+    let answer = feed(&state, &vec![0; slice], first, count);
+    println!(
+        "feed level {level} window {window} seen {seen} mode {mode} place {place} \
+         slice {slice} first {first} count {count}: {}",
+        fed(&answer)
+    );
+}
+
+/// Case 11 in pieces of at most `size` digits: a line to each frame that is ready, with
+/// the frame's 106 bytes.
+fn case_11(size: u64) {
+    let mut line = [0; 106];
+    multiplex(2, &mut line, &[0], &[0; 104]);
+    let four = line.repeat(4);
+    let (mut state, mut first) = (fresh(2).1, 0);
+    while first < 3392 {
+        let answer = feed(&state, &four, first, size.min(3392 - first));
+        first += answer.taken;
+        if answer.ready {
+            let bytes: String = answer.state.frame[..106].iter().map(|b| format!(" {b}")).collect();
+            println!("case 11 pieces {size} digits {first}: {} frame{bytes}", fed(&answer));
+        }
+        state = answer.state;
+    }
+}
+
+fn main() {
+    SENDINGS.into_iter().for_each(sending);
+    RECEIVINGS.into_iter().for_each(receiving);
+    FEEDINGS.into_iter().for_each(feeding);
+    [3392, 1, 7, 1000].into_iter().for_each(case_11);
+}

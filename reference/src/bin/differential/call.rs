@@ -1,0 +1,147 @@
+//! A call with its inputs, what came of it, and what the reference says of it.
+
+use reference::{demultiplex, feed, fresh, line_digit, multiplex, State};
+
+/// What a multiplex or demultiplex call is lent.
+#[derive(Clone)]
+pub struct Lending {
+    pub level: u64,
+    pub line: Vec<u8>,
+    pub notes: Vec<u8>,
+    pub buffer: Vec<u8>,
+}
+
+#[derive(Clone)]
+pub struct Piece {
+    pub state: State,
+    pub slice: Vec<u8>,
+    pub first: u64,
+    pub count: u64,
+}
+
+pub enum Call {
+    Multiplex(Lending),
+    Demultiplex(Lending),
+    Fresh(u64),
+    Feed(Box<Piece>),
+    LineDigit(Vec<u8>, u64),
+}
+
+/// The names of the calls, in the order of their numbers.
+pub const NAMES: [&str; 5] =
+    ["multiplex", "demultiplex", "receiver_fresh", "receiver_feed", "line_digit"];
+
+/// All that a call answers and leaves: two outcomes are equal or there is a disagreement.
+#[derive(Clone, PartialEq)]
+pub struct Outcome {
+    /// The number returned.
+    pub returned: u64,
+    /// The answer and then the state, as arrays of numbers.
+    pub numbers: Vec<u64>,
+    /// Each lent slice after the call, also those that the call may only read.
+    pub lent: Vec<(&'static str, Vec<u8>)>,
+    /// Where something was written beside what was lent.
+    pub outside: Vec<&'static str>,
+}
+
+impl Call {
+    /// The call's number: its place among the names.
+    pub fn kind(&self) -> usize {
+        match self {
+            Call::Multiplex(_) => 0,
+            Call::Demultiplex(_) => 1,
+            Call::Fresh(_) => 2,
+            Call::Feed(_) => 3,
+            Call::LineDigit(..) => 4,
+        }
+    }
+
+    /// What the outcome's numbers are.
+    pub fn legend(&self) -> &'static str {
+        match self {
+            Call::Multiplex(_) => "four counts, frame",
+            Call::Demultiplex(_) => "four counts, frame, alignment, groups",
+            Call::Fresh(_) => "level, window, seen, mode, place",
+            Call::Feed(_) => "taken, ready, all-ones; level, window, seen, mode, place",
+            Call::LineDigit(..) => "none",
+        }
+    }
+
+    pub fn short(&self) -> String {
+        match self {
+            Call::Multiplex(with) | Call::Demultiplex(with) => format!(
+                "level {}; line {}; notes {}; buffer {}",
+                with.level,
+                in_short(&with.line),
+                in_short(&with.notes),
+                in_short(&with.buffer)
+            ),
+            Call::Fresh(level) => format!("level {level}"),
+            Call::Feed(piece) => format!(
+                "state {:?}; frame store {}; slice {}; first {} count {}",
+                state_numbers(&piece.state),
+                in_short(&piece.state.frame),
+                in_short(&piece.slice),
+                piece.first,
+                piece.count
+            ),
+            Call::LineDigit(line, place) => format!("line {}; place {place}", in_short(line)),
+        }
+    }
+
+    pub fn by_reference(&self) -> Outcome {
+        match self {
+            Call::Multiplex(with) => multiplexed(with.clone()),
+            Call::Demultiplex(with) => demultiplexed(with.clone()),
+            Call::Fresh(level) => {
+                let (refusal, state) = fresh(*level);
+                let lent = vec![("frame store", state.frame.to_vec())];
+                outcome(refusal, state_numbers(&state).to_vec(), lent)
+            }
+            Call::Feed(piece) => fed(piece),
+            Call::LineDigit(line, place) => {
+                outcome(line_digit(line, *place), vec![], vec![("line", line.clone())])
+            }
+        }
+    }
+}
+
+pub fn state_numbers(state: &State) -> [u64; 5] {
+    [state.level, state.window, state.seen, state.mode, state.place]
+}
+
+fn outcome(returned: u64, numbers: Vec<u64>, lent: Vec<(&'static str, Vec<u8>)>) -> Outcome {
+    Outcome { returned, numbers, lent, outside: vec![] }
+}
+
+fn multiplexed(mut with: Lending) -> Outcome {
+    let answer = multiplex(with.level, &mut with.line, &with.notes, &with.buffer);
+    let numbers = [&answer.counts[..], &[answer.frame]].concat();
+    outcome(answer.refusal, numbers, slices(with))
+}
+
+fn demultiplexed(mut with: Lending) -> Outcome {
+    let answer = demultiplex(with.level, &with.line, &mut with.notes, &mut with.buffer);
+    // Demultiplexing never names a frame; the face has a number for it that is 0.
+    let numbers = [&answer.counts[..], &[0, answer.alignment, answer.groups]].concat();
+    outcome(answer.refusal, numbers, slices(with))
+}
+
+fn slices(with: Lending) -> Vec<(&'static str, Vec<u8>)> {
+    vec![("line", with.line), ("notes", with.notes), ("buffer", with.buffer)]
+}
+
+fn fed(piece: &Piece) -> Outcome {
+    let answer = feed(&piece.state, &piece.slice, piece.first, piece.count);
+    let numbers = [answer.taken, u64::from(answer.ready), u64::from(answer.all_ones)];
+    let numbers = [&numbers[..], &state_numbers(&answer.state)].concat();
+    let lent = vec![("frame store", answer.state.frame.to_vec()), ("slice", piece.slice.clone())];
+    outcome(answer.refusal, numbers, lent)
+}
+
+/// A slice in a few words: its length and its first bytes.
+fn in_short(bytes: &[u8]) -> String {
+    let first: String = bytes.iter().take(16).map(|byte| format!("{byte:02x} ")).collect();
+    let more = if bytes.len() > 16 { ".." } else { "" };
+    format!("{} bytes [{}{more}]", bytes.len(), first.trim_end())
+}

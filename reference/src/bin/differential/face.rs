@@ -1,0 +1,144 @@
+//! The product's C face, and the calls made through it with guards around all that is lent.
+
+use crate::call::{state_numbers, Call, Lending, Outcome, Piece};
+
+#[rustfmt::skip]
+extern "C" {
+    pub fn spritbobbin_multiplex(
+        level: u64, line: *mut u8, line_bytes: usize, notes: *const u8, notes_bytes: usize,
+        buffer: *const u8, buffer_bytes: usize, answer: *mut u64,
+    ) -> u64;
+    pub fn spritbobbin_demultiplex(
+        level: u64, line: *const u8, line_bytes: usize, notes: *mut u8, notes_bytes: usize,
+        buffer: *mut u8, buffer_bytes: usize, answer: *mut u64,
+    ) -> u64;
+    pub fn spritbobbin_receiver_fresh(level: u64, state: *mut u64, frame: *mut u8) -> u64;
+    pub fn spritbobbin_receiver_feed(
+        state: *mut u64, frame: *mut u8, piece: *const u8, piece_bytes: usize,
+        first: u64, count: u64, answer: *mut u64,
+    ) -> u64;
+    pub fn spritbobbin_line_digit(line: *const u8, line_bytes: usize, place: u64) -> u64;
+}
+
+/// What stands in an array of numbers before the call, so that one left unwritten is seen.
+pub const UNWRITTEN: u64 = 0xA5A5_A5A5_A5A5_A5A5;
+
+/// Elements of guard on either side of what is lent.
+const GUARDS: usize = 64;
+
+/// What is lent, with guards before and after it.
+pub struct Lent<T> {
+    name: &'static str,
+    all: Vec<T>,
+    guard: T,
+}
+
+impl<T: Copy + PartialEq> Lent<T> {
+    fn with_guard(name: &'static str, inner: &[T], guard: T) -> Lent<T> {
+        let all = [&[guard; GUARDS], inner, &[guard; GUARDS]].concat();
+        Lent { name, all, guard }
+    }
+
+    pub fn pointer(&mut self) -> *mut T {
+        self.all[GUARDS..].as_mut_ptr()
+    }
+
+    pub fn count(&self) -> usize {
+        self.all.len() - 2 * GUARDS
+    }
+
+    pub fn inner(&self) -> &[T] {
+        &self.all[GUARDS..GUARDS + self.count()]
+    }
+
+    /// The name, if a guard was written over.
+    fn broken(&self) -> Option<&'static str> {
+        let (before, after) = (&self.all[..GUARDS], &self.all[GUARDS + self.count()..]);
+        let intact = before.iter().chain(after).all(|guard| *guard == self.guard);
+        (!intact).then_some(self.name)
+    }
+}
+
+/// Bytes to lend.
+pub fn bytes(name: &'static str, inner: &[u8]) -> Lent<u8> {
+    Lent::with_guard(name, inner, 0x5C)
+}
+
+/// Numbers to lend.
+pub fn numbers(name: &'static str, inner: &[u64]) -> Lent<u64> {
+    Lent::with_guard(name, inner, 0x5C5C_5C5C_5C5C_5C5C)
+}
+
+pub fn by_face(call: &Call) -> Outcome {
+    match call {
+        Call::Multiplex(with) => multiplex(with),
+        Call::Demultiplex(with) => demultiplex(with),
+        Call::Fresh(level) => fresh(*level),
+        Call::Feed(piece) => feed(piece),
+        Call::LineDigit(line, place) => line_digit(line, *place),
+    }
+}
+
+fn outcome(returned: u64, arrays: &[Lent<u64>], slices: &[Lent<u8>]) -> Outcome {
+    let numbers = arrays.iter().map(|array| array.inner()).collect::<Vec<_>>().concat();
+    let lent = slices.iter().map(|slice| (slice.name, slice.inner().to_vec())).collect();
+    let broken = arrays.iter().filter_map(Lent::broken);
+    let outside = broken.chain(slices.iter().filter_map(Lent::broken)).collect();
+    Outcome { returned, numbers, lent, outside }
+}
+
+fn multiplex(with: &Lending) -> Outcome {
+    let mut line = bytes("line", &with.line);
+    let mut notes = bytes("notes", &with.notes);
+    let mut buffer = bytes("buffer", &with.buffer);
+    let mut answer = numbers("answer", &[UNWRITTEN; 5]);
+    // Sound if the face keeps to what it is lent: every pointer comes with its own count.
+    let refusal = unsafe {
+        let (l, n, b) = (line.pointer(), notes.pointer(), buffer.pointer());
+        let (lc, nc, bc) = (line.count(), notes.count(), buffer.count());
+        spritbobbin_multiplex(with.level, l, lc, n, nc, b, bc, answer.pointer())
+    };
+    outcome(refusal, &[answer], &[line, notes, buffer])
+}
+
+fn demultiplex(with: &Lending) -> Outcome {
+    let mut line = bytes("line", &with.line);
+    let mut notes = bytes("notes", &with.notes);
+    let mut buffer = bytes("buffer", &with.buffer);
+    let mut answer = numbers("answer", &[UNWRITTEN; 7]);
+    // Sound as above.
+    let refusal = unsafe {
+        let (l, n, b) = (line.pointer(), notes.pointer(), buffer.pointer());
+        let (lc, nc, bc) = (line.count(), notes.count(), buffer.count());
+        spritbobbin_demultiplex(with.level, l, lc, n, nc, b, bc, answer.pointer())
+    };
+    outcome(refusal, &[answer], &[line, notes, buffer])
+}
+
+fn fresh(level: u64) -> Outcome {
+    let mut state = numbers("state", &[UNWRITTEN; 5]);
+    let mut frame = bytes("frame store", &[0xA5; 366]);
+    // Sound as above; the two arrays have the lengths that the face asks for.
+    let refusal = unsafe { spritbobbin_receiver_fresh(level, state.pointer(), frame.pointer()) };
+    outcome(refusal, &[state], &[frame])
+}
+
+fn feed(piece: &Piece) -> Outcome {
+    let mut state = numbers("state", &state_numbers(&piece.state));
+    let mut frame = bytes("frame store", &piece.state.frame);
+    let mut slice = bytes("slice", &piece.slice);
+    let mut answer = numbers("answer", &[UNWRITTEN; 3]);
+    // Sound as above.
+    let refusal = unsafe {
+        let (s, f, p, a) = (state.pointer(), frame.pointer(), slice.pointer(), answer.pointer());
+        spritbobbin_receiver_feed(s, f, p, slice.count(), piece.first, piece.count, a)
+    };
+    outcome(refusal, &[answer, state], &[frame, slice])
+}
+
+fn line_digit(line: &[u8], place: u64) -> Outcome {
+    let mut line = bytes("line", line);
+    // Sound as above.
+    let digit = unsafe { spritbobbin_line_digit(line.pointer(), line.count(), place) };
+    outcome(digit, &[], &[line])
+}

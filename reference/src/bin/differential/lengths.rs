@@ -1,0 +1,257 @@
+//! Lengths far beyond what a call accepts, which a cut to 32 bits would make small, and
+//! then pointers and lengths that lend no memory at all.
+
+use crate::face::{self, spritbobbin_demultiplex, spritbobbin_line_digit};
+use crate::face::{spritbobbin_multiplex, spritbobbin_receiver_feed, UNWRITTEN};
+use crate::Run;
+use reference::{demultiplex, feed, feed_refusal, fresh, length_refusal, line_digit, multiplex};
+use std::alloc::{alloc_zeroed, dealloc, Layout};
+
+/// 2 to the 32.
+const WIDE: usize = 1 << 32;
+
+pub fn part(run: &mut Run) {
+    match Memory::new(WIDE + (1 << 20)) {
+        Some(mut memory) => long_lengths(run, &mut memory),
+        None => println!("this machine lends no 4 GiB: long lengths left out"),
+    }
+    if !run.lent_only {
+        // Said before, because a face may well stop the program here.
+        println!("now null pointers and lengths that no memory holds (left out by lent-only)");
+        null_pointers(run);
+        false_lengths(run);
+    }
+}
+
+/// Memory of zeros that costs nothing as long as nobody touches it.
+struct Memory {
+    start: *mut u8,
+    layout: Layout,
+}
+
+impl Memory {
+    fn new(count: usize) -> Option<Memory> {
+        let layout = Layout::array::<u8>(count).ok()?;
+        // Sound: the layout is not empty.
+        let start = unsafe { alloc_zeroed(layout) };
+        (!start.is_null()).then_some(Memory { start, layout })
+    }
+
+    fn slice(&mut self, count: usize) -> &mut [u8] {
+        // Sound: within the memory, which is written before and borrowed as long as this is.
+        unsafe { std::slice::from_raw_parts_mut(self.start, count.min(self.layout.size())) }
+    }
+}
+
+impl Drop for Memory {
+    fn drop(&mut self) {
+        // Sound: made by `alloc_zeroed` with this layout.
+        unsafe { dealloc(self.start, self.layout) }
+    }
+}
+
+fn long_lengths(run: &mut Run, memory: &mut Memory) {
+    for (level, frame_bytes) in [(2, 106), (3, 192), (4, 366)] {
+        for line in [WIDE, WIDE + 2, WIDE + frame_bytes, WIDE + 64 * frame_bytes] {
+            long_line(run, level, memory.slice(line));
+        }
+        for notes in [WIDE, WIDE + 1, WIDE + 2] {
+            long_notes(run, level, frame_bytes, memory.slice(notes));
+        }
+        for over in [0, 1, 2, 4, 100, 104, 192, 364] {
+            long_buffer(run, level, frame_bytes, memory.slice(WIDE + over));
+        }
+    }
+    for slice in [WIDE, WIDE + 1, WIDE + 2, WIDE + 65_536] {
+        long_piece(run, memory.slice(slice));
+    }
+}
+
+/// A call through the face whose slices are only given by pointer and length.
+fn raw_multiplex(level: u64, line: &mut [u8], notes: &[u8], buffer: &[u8]) -> Vec<u64> {
+    let mut answer = [UNWRITTEN; 5];
+    // Sound if the face keeps to what it is lent.
+    let refusal = unsafe {
+        let (l, n, b) = (line.as_mut_ptr(), notes.as_ptr(), buffer.as_ptr());
+        let (lc, nc, bc) = (line.len(), notes.len(), buffer.len());
+        spritbobbin_multiplex(level, l, lc, n, nc, b, bc, answer.as_mut_ptr())
+    };
+    [&[refusal], &answer[..]].concat()
+}
+
+fn raw_demultiplex(level: u64, line: &[u8], notes: &mut [u8], buffer: &mut [u8]) -> Vec<u64> {
+    let mut answer = [UNWRITTEN; 7];
+    // Sound as above.
+    let refusal = unsafe {
+        let (l, n, b) = (line.as_ptr(), notes.as_mut_ptr(), buffer.as_mut_ptr());
+        let (lc, nc, bc) = (line.len(), notes.len(), buffer.len());
+        spritbobbin_demultiplex(level, l, lc, n, nc, b, bc, answer.as_mut_ptr())
+    };
+    [&[refusal], &answer[..]].concat()
+}
+
+fn multiplexed(level: u64, line: &mut [u8], notes: &[u8], buffer: &[u8]) -> Vec<u64> {
+    let answer = multiplex(level, line, notes, buffer);
+    [&[answer.refusal], &answer.counts[..], &[answer.frame]].concat()
+}
+
+fn demultiplexed(level: u64, line: &[u8], notes: &mut [u8], buffer: &mut [u8]) -> Vec<u64> {
+    let answer = demultiplex(level, line, notes, buffer);
+    let errors = [0, answer.alignment, answer.groups];
+    [&[answer.refusal], &answer.counts[..], &errors].concat()
+}
+
+/// The beginning of long memory must still be zero: all calls that may write it are refused.
+fn untouched(run: &mut Run, inputs: &str, long: &[u8]) {
+    if long[..1 << 16].iter().any(|byte| *byte != 0) {
+        println!("DISAGREEMENT: a refused call wrote; {inputs}");
+        run.end_with_disagreement();
+    }
+}
+
+fn long_line(run: &mut Run, level: u64, line: &mut [u8]) {
+    let inputs = format!("level {level}, line {} bytes, 1 note, buffer 4096", line.len());
+    let expected = multiplexed(level, line, &[0], &[0; 4096]);
+    run.expect(0, &inputs, &expected, &raw_multiplex(level, line, &[0], &[0; 4096]));
+    let expected = demultiplexed(level, line, &mut [0], &mut [0; 4096]);
+    let received = raw_demultiplex(level, line, &mut [0], &mut [0; 4096]);
+    run.expect(1, &inputs, &expected, &received);
+    untouched(run, &inputs, line);
+}
+
+fn long_notes(run: &mut Run, level: u64, frame_bytes: usize, notes: &mut [u8]) {
+    let inputs = format!("level {level}, one frame, {} notes, buffer 4096", notes.len());
+    let mut line = vec![0; frame_bytes];
+    let expected = multiplexed(level, &mut line, notes, &[0; 4096]);
+    run.expect(0, &inputs, &expected, &raw_multiplex(level, &mut line, notes, &[0; 4096]));
+    let expected = demultiplexed(level, &line, notes, &mut [0; 4096]);
+    let received = raw_demultiplex(level, &line, notes, &mut [0; 4096]);
+    run.expect(1, &inputs, &expected, &received);
+    untouched(run, &inputs, notes);
+}
+
+/// Multiplexing may accept a long buffer, whose quarters then begin far apart.
+/// Demultiplexing is asked only where it refuses: else it would clear 4 GiB.
+fn long_buffer(run: &mut Run, level: u64, frame_bytes: usize, buffer: &mut [u8]) {
+    let inputs = format!("level {level}, one frame, 1 note, buffer {}", buffer.len());
+    if !buffer.len().is_multiple_of(4) {
+        let line = vec![0; frame_bytes];
+        let expected = demultiplexed(level, &line, &mut [0], buffer);
+        run.expect(1, &inputs, &expected, &raw_demultiplex(level, &line, &mut [0], buffer));
+        untouched(run, &inputs, buffer);
+    }
+    let quarter = buffer.len() / 4;
+    for j in 0..4 {
+        buffer[j * quarter..][..100].copy_from_slice(&run.random.bytes(100));
+    }
+    let (mut ours, mut theirs) = (vec![0; frame_bytes], vec![0; frame_bytes]);
+    let expected = multiplexed(level, &mut ours, &[5], buffer);
+    let sent = raw_multiplex(level, &mut theirs, &[5], buffer);
+    run.expect(0, &inputs, &expected, &sent);
+    let wide = |line: Vec<u8>| line.into_iter().map(u64::from).collect::<Vec<_>>();
+    run.expect(0, &format!("{inputs}: the line"), &wide(ours), &wide(theirs));
+    for j in 0..4 {
+        buffer[j * quarter..][..100].fill(0);
+    }
+}
+
+fn long_piece(run: &mut Run, slice: &[u8]) {
+    let inputs = format!("fresh state of level 2, slice {} bytes", slice.len());
+    for (first, count) in [(0, 0), (0, 16), (0, 1 << 32), (1 << 33, 1 << 33)] {
+        let state = fresh(2).1;
+        let expected = feed(&state, slice, first, count);
+        let received = raw_feed(slice.as_ptr(), slice.len(), first, count);
+        run.expect(3, &inputs, &[expected.refusal, 0, 0, 0], &received);
+    }
+    for place in [0, 1 << 32, 1 << 35, u64::MAX] {
+        // Sound as above.
+        let digit = unsafe { spritbobbin_line_digit(slice.as_ptr(), slice.len(), place) };
+        run.expect(4, &inputs, &[line_digit(slice, place)], &[digit]);
+    }
+}
+
+/// Feeds a fresh state of level 2 and checks that a refused call leaves it so.
+fn raw_feed(piece: *const u8, piece_bytes: usize, first: u64, count: u64) -> Vec<u64> {
+    let mut state = face::numbers("state", &[2, 0, 0, 0, 0]);
+    let mut frame = face::bytes("frame store", &[0; 366]);
+    let mut answer = face::numbers("answer", &[UNWRITTEN; 3]);
+    // Sound as above; where the length is false the call must be refused unread.
+    let refusal = unsafe {
+        let (s, f, a) = (state.pointer(), frame.pointer(), answer.pointer());
+        spritbobbin_receiver_feed(s, f, piece, piece_bytes, first, count, a)
+    };
+    let kept = state.inner() == [2, 0, 0, 0, 0] && frame.inner() == [0; 366];
+    let written = if kept { &[][..] } else { &[UNWRITTEN] };
+    [&[refusal], answer.inner(), written].concat()
+}
+
+/// Nothing lent, by a null pointer and the length 0, as C programs do.
+fn null_pointers(run: &mut Run) {
+    let (null, null_mut) = (std::ptr::null(), std::ptr::null_mut());
+    for level in 1..=5 {
+        let (mut answer, mut back) = ([UNWRITTEN; 5], [UNWRITTEN; 7]);
+        // Sound if the face makes no slice of a null pointer.
+        let sent = unsafe {
+            spritbobbin_multiplex(level, null_mut, 0, null, 0, null, 0, answer.as_mut_ptr())
+        };
+        let refusal = length_refusal(level, 0, 0, 0);
+        let inputs = format!("level {level}, null pointers");
+        run.expect(0, &inputs, &[refusal, 0, 0, 0, 0, 0], &[&[sent], &answer[..]].concat());
+        // Sound as above.
+        let received = unsafe {
+            spritbobbin_demultiplex(level, null, 0, null_mut, 0, null_mut, 0, back.as_mut_ptr())
+        };
+        let expected = [refusal, 0, 0, 0, 0, 0, 0, 0];
+        run.expect(1, &inputs, &expected, &[&[received], &back[..]].concat());
+    }
+    for (first, count) in [(0, 0), (0, 1), (1, 0), (u64::MAX, 1)] {
+        let expected = [feed_refusal(&fresh(2).1, 0, first, count), 0, 0, 0];
+        run.expect(3, "null piece", &expected, &raw_feed(null, 0, first, count));
+        // Sound as above.
+        let digit = unsafe { spritbobbin_line_digit(null, 0, first) };
+        run.expect(4, "null line", &[2], &[digit]);
+    }
+}
+
+/// Lengths that no memory holds. Each of these calls is refused for its lengths alone, so a
+/// face that judges them first never reads or writes there.
+fn false_lengths(run: &mut Run) {
+    let lengths = [1 << 62, (1 << 63) - 1, 1 << 63, u64::MAX - 105, u64::MAX - 3, u64::MAX];
+    for level in 1..=5 {
+        for long in lengths {
+            one_false_length(run, level, [long, 1, 104]);
+            one_false_length(run, level, [106, long, 104]);
+            one_false_length(run, level, [106, 1, long]);
+            one_false_length(run, level, [long, long, long]);
+        }
+    }
+    let memory = [0; 4096];
+    for long in lengths {
+        let expected = [feed_refusal(&fresh(2).1, long, 0, 8), 0, 0, 0];
+        let fed = raw_feed(memory.as_ptr(), long as usize, 0, 8);
+        run.expect(3, &format!("slice of {long} bytes"), &expected, &fed);
+        // Sound as there.
+        let digit = unsafe { spritbobbin_line_digit(memory.as_ptr(), long as usize, 0) };
+        run.expect(4, &format!("line of {long} bytes"), &[2], &[digit]);
+    }
+}
+
+fn one_false_length(run: &mut Run, level: u64, [line, notes, buffer]: [u64; 3]) {
+    let refusal = length_refusal(level, line, notes, buffer);
+    if refusal == 0 {
+        return;
+    }
+    let (mut memory, mut sent, mut received) = ([0_u8; 4096], [UNWRITTEN; 5], [UNWRITTEN; 7]);
+    let inputs = format!("level {level}, line {line}, notes {notes}, buffer {buffer} bytes");
+    let (at, l, n, b) = (memory.as_mut_ptr(), line as usize, notes as usize, buffer as usize);
+    // Sound if the face judges lengths before it reads or writes; nothing is lent but a
+    // little memory that all three pointers share.
+    let numbers = unsafe {
+        [
+            spritbobbin_multiplex(level, at, l, at, n, at, b, sent.as_mut_ptr()),
+            spritbobbin_demultiplex(level, at, l, at, n, at, b, received.as_mut_ptr()),
+        ]
+    };
+    run.expect(0, &inputs, &[refusal, 0, 0, 0, 0, 0], &[&numbers[..1], &sent].concat());
+    run.expect(1, &inputs, &[refusal, 0, 0, 0, 0, 0, 0, 0], &[&numbers[1..], &received].concat());
+}

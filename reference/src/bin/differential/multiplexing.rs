@@ -1,0 +1,178 @@
+//! Multiplex and demultiplex calls: sound ones, damaged lines, and every set of faults.
+
+use crate::call::{Call, Lending};
+use crate::random::Random;
+use crate::Run;
+use reference::level::{row, Row};
+
+/// Faults by refusal number: number 1 is the lowest bit, number 5 the highest.
+type Faults = u64;
+const ALL_FAULTS: Faults = 1 << 5;
+
+pub fn part(run: &mut Run) {
+    every_frame_count(run);
+    every_set_of_faults(run);
+    anything(run);
+}
+
+/// Every level with every number of frames, there and back.
+fn every_frame_count(run: &mut Run) {
+    for level in 2..=4 {
+        for frames in 0..=64 {
+            there_and_back(run, level, frames);
+        }
+    }
+}
+
+fn every_set_of_faults(run: &mut Run) {
+    for _ in 0..20 {
+        for faults in 0..ALL_FAULTS {
+            for level in 2..=4 {
+                let frames = run.random.index(4);
+                let with = lending(&mut run.random, level, frames, faults);
+                run.compare(&Call::Multiplex(with.clone()));
+                run.compare(&Call::Demultiplex(with));
+            }
+        }
+    }
+}
+
+fn anything(run: &mut Run) {
+    for _ in 0..12_000 {
+        let level = 2 + run.random.below(3);
+        let most = run.random.pick(&[2, 4, 8, 65]);
+        let frames = run.random.index(most);
+        if run.random.once_in(4) {
+            let faults = run.random.below(ALL_FAULTS);
+            let with = lending(&mut run.random, level, frames, faults);
+            run.compare(&Call::Multiplex(with.clone()));
+            run.compare(&Call::Demultiplex(with));
+        } else {
+            there_and_back(run, level, frames);
+        }
+    }
+}
+
+/// A sound send, its line damaged in some way or replaced, and the line read back.
+fn there_and_back(run: &mut Run, level: u64, frames: usize) {
+    let mut with = lending(&mut run.random, level, frames, 0);
+    let sent = run.compare(&Call::Multiplex(with.clone()));
+    with.line.clone_from(&sent.lent[0].1);
+    damage(&mut run.random, &mut with);
+    with.notes = run.random.bytes(with.notes.len());
+    with.buffer = run.random.filled(with.buffer.len());
+    run.compare(&Call::Demultiplex(with));
+}
+
+/// Changes some digits of a line: any, or only control digits, so that groups split.
+fn damage(random: &mut Random, with: &mut Lending) {
+    let Some(row) = row(with.level) else { return };
+    let digits = with.line.len() * 8;
+    let changes = digits.min(random.index(60));
+    match random.below(5) {
+        0 => {}
+        1 => with.line = random.filled(with.line.len()),
+        2 => (0..changes).for_each(|_| flip(&mut with.line, random.index(digits))),
+        _ => {
+            (0..changes * 4).for_each(|_| flip(&mut with.line, control_place(random, row, digits)))
+        }
+    }
+}
+
+fn flip(line: &mut [u8], place: usize) {
+    line[place / 8] ^= 0x80 >> (place % 8);
+}
+
+fn control_place(random: &mut Random, row: &Row, digits: usize) -> usize {
+    let frame = random.index(digits / row.frame_digits);
+    let set = 1 + random.index(row.sets - 1);
+    frame * row.frame_digits + set * row.set_digits + random.index(4)
+}
+
+/// What a call is lent, with the given faults. The length of everything fits everything
+/// else but for the faults, so that each fault can be the only one.
+fn lending(random: &mut Random, level: u64, frames: usize, faults: Faults) -> Lending {
+    let has = |number: u64| faults >> (number - 1) & 1 == 1;
+    let Some(row) = row(level) else { unreachable!("sound levels only") };
+    let frames = if has(2) && random.once_in(2) { 65 + random.index(2) } else { frames };
+    let mut line = frames * row.frame_bytes();
+    if has(2) && frames <= 64 {
+        line = wrong_line(random, row, line);
+    }
+    let mut notes = decisions(random, level, frames);
+    if has(5) && frames > 0 {
+        // More than one wrong note, at times, so that the first can be told from the last.
+        for _ in 0..random.pick(&[1, 1, 2, 5]) {
+            notes[random.index(frames)] |= random.pick(&[0x40, 0x80, 0xC0]);
+        }
+    }
+    if has(3) {
+        wrong_notes(random, &mut notes);
+    }
+    let least = (frames * row.tributary_digits).div_ceil(8);
+    let quarter = least + random.pick(&[0, 0, 1, 2, 17]);
+    let buffer = if has(4) { wrong_buffer(random, least) } else { 4 * quarter };
+    Lending {
+        level: if has(1) { wrong_level(random) } else { level },
+        line: random.filled(line),
+        notes,
+        buffer: random.filled(buffer),
+    }
+}
+
+fn wrong_level(random: &mut Random) -> u64 {
+    loop {
+        let level = random.hostile();
+        if row(level).is_none() {
+            return level;
+        }
+    }
+}
+
+fn wrong_line(random: &mut Random, row: &Row, right: usize) -> usize {
+    let off = random.pick(&[1, 2, row.frame_bytes() - 1, row.frame_bytes() / 2]);
+    if random.once_in(2) && right >= off {
+        right - off
+    } else {
+        right + off
+    }
+}
+
+fn wrong_notes(random: &mut Random, notes: &mut Vec<u8>) {
+    if random.once_in(2) && !notes.is_empty() {
+        notes.truncate(notes.len() - random.pick(&[1, 1, notes.len()]));
+    } else {
+        notes.resize(notes.len() + random.pick(&[1, 1, 64, 256]), 0);
+    }
+}
+
+/// A length that is not a multiple of 4, or one byte short in each quarter.
+fn wrong_buffer(random: &mut Random, least: usize) -> usize {
+    match random.below(4) {
+        0 if least > 0 => 4 * (least - 1),
+        1 if least > 0 => 4 * least - 1 - random.index(3),
+        2 if least > 0 => 4 * random.index(least),
+        _ => 4 * least + 1 + random.index(3),
+    }
+}
+
+/// Notes whose decisions are random, alternate at a pace of their own for each tributary,
+/// stay, or stay but for one frame. Decisions that stay hide a decision used late.
+fn decisions(random: &mut Random, level: u64, frames: usize) -> Vec<u8> {
+    let mut notes = match random.below(4) {
+        0 | 1 => random.bytes(frames),
+        2 => {
+            let (paces, phase) = (random.bytes(4), random.index(8));
+            let bit = |k: usize, j: usize| ((k + phase) / (1 + paces[j] as usize % 3) % 2) << j;
+            (0..frames).map(|k| (0..4).map(|j| bit(k, j)).sum::<usize>() as u8).collect()
+        }
+        _ => vec![random.number() as u8; frames],
+    };
+    if frames > 0 && random.once_in(4) {
+        notes[random.index(frames)] ^= 1 << random.index(4);
+    }
+    if level < 4 {
+        notes.iter_mut().for_each(|note| *note &= 0x3F);
+    }
+    notes
+}

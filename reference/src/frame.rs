@@ -1,0 +1,122 @@
+//! A frame as a list of named places, and the same list filled or read.
+
+use crate::level::Row;
+use std::collections::VecDeque;
+
+/// What stands at a place. Tributaries 1 to 4 are counted from 0 here, as their bits in
+/// a note are; so are the word's digits and the national digits.
+#[derive(Clone, Copy, Debug, PartialEq, Eq)]
+pub enum Place {
+    Word(usize),
+    RemoteAlarm,
+    National(usize),
+    Control(usize),
+    Justification(usize),
+    Tributary(usize),
+}
+
+/// The digits of one tributary that are still to be sent.
+pub type Waiting = VecDeque<u8>;
+
+/// All places of a frame in order, set by set: each set's head, then tributary digits in
+/// turn until the set is full.
+pub fn layout(row: &Row) -> Vec<Place> {
+    let mut places = Vec::new();
+    for set in 0..row.sets {
+        let mut these = head(row, set);
+        for tributary in (0..4).cycle().take(row.set_digits - these.len()) {
+            these.push(Place::Tributary(tributary));
+        }
+        places.extend(these);
+    }
+    places
+}
+
+fn head(row: &Row, set: usize) -> Vec<Place> {
+    let mut places = Vec::new();
+    if set == 0 {
+        places.extend((0..row.word_length()).map(Place::Word));
+        places.push(Place::RemoteAlarm);
+        places.extend((0..row.national_digits).map(Place::National));
+    } else {
+        places.extend((0..4).map(Place::Control));
+    }
+    if set == row.sets - 1 {
+        places.extend((0..4).map(Place::Justification));
+    }
+    places
+}
+
+/// Bit `bit` of a note, as a digit.
+fn note_digit(note: u8, bit: usize) -> u8 {
+    note >> bit & 1
+}
+
+/// The digits of one frame, its note's decisions used in this same frame.
+pub fn fill(row: &Row, note: u8, waiting: &mut [Waiting]) -> Vec<u8> {
+    let word = row.word_digits();
+    let mut digit_at = |place| match place {
+        Place::Word(k) => word[k],
+        Place::RemoteAlarm => note_digit(note, 4),
+        Place::National(k) => note_digit(note, 5 + k),
+        Place::Control(j) => note_digit(note, j),
+        // A stuffing digit is sent as 1.
+        Place::Justification(j) if note_digit(note, j) == 1 => 1,
+        // Room for every frame's n digits was asked for, so the list never runs dry.
+        Place::Justification(j) | Place::Tributary(j) => waiting[j].pop_front().unwrap_or(0),
+    };
+    layout(row).into_iter().map(&mut digit_at).collect()
+}
+
+/// What one received frame says.
+pub struct Taken {
+    pub note: u8,
+    /// The four tributaries' digits in this frame.
+    pub tributaries: [Vec<u8>; 4],
+    /// Alignment digits that differ from the word.
+    pub alignment: u64,
+    /// Control groups that were not unanimous.
+    pub groups: u64,
+}
+
+/// Takes one frame apart: first all control groups, since they decide what the
+/// justification digits of the same frame are, then the digits.
+pub fn take(row: &Row, digits: &[u8]) -> Taken {
+    let named: Vec<(Place, u8)> = layout(row).into_iter().zip(digits.iter().copied()).collect();
+    let group = |j| pick(&named, Place::Control(j));
+    let mut taken = Taken {
+        note: 0,
+        tributaries: [0, 1, 2, 3].map(|_| Vec::new()),
+        alignment: wrong_digits(row, digits),
+        groups: (0..4).filter(|&j| !unanimous(&group(j))).count() as u64,
+    };
+    for &(place, digit) in &named {
+        match place {
+            Place::RemoteAlarm => taken.note |= digit << 4,
+            Place::National(k) => taken.note |= digit << (5 + k),
+            Place::Justification(j) if stuffed(&group(j)) => taken.note |= 1 << j,
+            Place::Justification(j) | Place::Tributary(j) => taken.tributaries[j].push(digit),
+            Place::Word(_) | Place::Control(_) => {}
+        }
+    }
+    taken
+}
+
+fn pick(named: &[(Place, u8)], wanted: Place) -> Vec<u8> {
+    named.iter().filter(|(place, _)| *place == wanted).map(|&(_, digit)| digit).collect()
+}
+
+fn wrong_digits(row: &Row, digits: &[u8]) -> u64 {
+    let word = row.word_digits();
+    word.iter().zip(digits).filter(|(sent, received)| sent != received).count() as u64
+}
+
+/// The majority of a control group: at least 2 of 3, or 3 of 5.
+pub fn stuffed(group: &[u8]) -> bool {
+    let ones = group.iter().filter(|&&digit| digit == 1).count();
+    ones > group.len() - ones
+}
+
+pub fn unanimous(group: &[u8]) -> bool {
+    group.iter().all(|digit| *digit == group[0])
+}

@@ -1,0 +1,118 @@
+//! The receiver once more, for a stream that began with a fresh state: no step by step
+//! state, but a search through the list of all digits received. It says in another way
+//! what `feed` says, so that the two can be compared.
+
+use crate::digits::{number, pack};
+use crate::level::{row, Row, STORE_BYTES};
+use crate::receiver::{fresh, State};
+
+/// A frame that was handed over.
+#[derive(Clone, Debug, PartialEq, Eq)]
+pub struct HandedOver {
+    /// How many digits of the stream had come when it was handed over.
+    pub after: usize,
+    /// Its bytes, with zeros up to the end of the store.
+    pub bytes: [u8; STORE_BYTES],
+    pub all_ones: bool,
+}
+
+/// All frames that the stream hands over, and the state that it leaves. A level that is
+/// not 2, 3 or 4 takes no digits.
+pub fn whole(level: u64, stream: &[u8]) -> (Vec<HandedOver>, State) {
+    let (_, mut state) = fresh(level);
+    let mut frames = Vec::new();
+    let Some(row) = row(level) else {
+        return (frames, state);
+    };
+    let length = row.word_length();
+    state.seen = stream.len().min(length) as u64;
+    state.window = number(&stream[stream.len().saturating_sub(length)..]);
+    let mut from = length;
+    while let Some(found) = next_word(row, stream, from) {
+        let run = follow(row, stream, found);
+        frames.extend(run.handed_over(row, stream));
+        state.frame = run.in_hand(row, stream);
+        let Some(lost) = run.lost else {
+            state.mode = *run.modes.last().unwrap_or(&0);
+            state.place = (stream.len() - run.last_word(row)) as u64;
+            break;
+        };
+        // The digit of the failed check is not looked at again, the digits before it are.
+        from = lost + 1;
+    }
+    (frames, state)
+}
+
+/// Where a word ends, at `from` digits or later.
+fn next_word(row: &Row, stream: &[u8], from: usize) -> Option<usize> {
+    (from..=stream.len()).find(|&end| word_ends(row, stream, end))
+}
+
+fn word_ends(row: &Row, stream: &[u8], end: usize) -> bool {
+    stream[end - row.word_length()..end] == row.word_digits()
+}
+
+/// A run of words a frame apart, from the first one found to the check that loses it.
+struct Run {
+    /// Where the first word ends.
+    first: usize,
+    /// The mode from each of the words on.
+    modes: Vec<u64>,
+    /// Where the check failed that ended the run, if it has ended.
+    lost: Option<usize>,
+}
+
+fn follow(row: &Row, stream: &[u8], first: usize) -> Run {
+    let mut run = Run { first, modes: vec![1], lost: None };
+    let mut words = vec![true];
+    for end in (first + row.frame_digits..=stream.len()).step_by(row.frame_digits) {
+        words.push(word_ends(row, stream, end));
+        let missed = words.iter().rev().take_while(|good| !**good).count();
+        // Of the first three words none may be wrong, later no four in a row.
+        if missed == 4 || missed > 0 && words.len() <= 3 {
+            run.lost = Some(end);
+            break;
+        }
+        run.modes.push(if words.len() == 2 { 2 } else { 3 + missed as u64 });
+    }
+    run
+}
+
+impl Run {
+    /// Where the frame's word ends from which on the run's k-th mode holds.
+    fn word(&self, row: &Row, k: usize) -> usize {
+        self.first + k * row.frame_digits
+    }
+
+    fn last_word(&self, row: &Row) -> usize {
+        self.word(row, self.modes.len() - 1)
+    }
+
+    /// The frames that begin with the third word and later ones, if they are whole.
+    fn handed_over(&self, row: &Row, stream: &[u8]) -> Vec<HandedOver> {
+        let mut frames = Vec::new();
+        for k in 2..self.modes.len() {
+            let start = self.word(row, k) - row.word_length();
+            let after = start + row.frame_digits;
+            if after <= stream.len() {
+                let rest = &stream[start + row.word_length()..after];
+                let all_ones = rest.iter().all(|&digit| digit == 1);
+                frames.push(HandedOver { after, bytes: store(&stream[start..after]), all_ones });
+            }
+        }
+        frames
+    }
+
+    /// The frame store as the run leaves it: the last frame begun, as far as it came.
+    fn in_hand(&self, row: &Row, stream: &[u8]) -> [u8; STORE_BYTES] {
+        let start = self.last_word(row) - row.word_length();
+        store(&stream[start..stream.len().min(start + row.frame_digits)])
+    }
+}
+
+fn store(digits: &[u8]) -> [u8; STORE_BYTES] {
+    let mut bytes = [0; STORE_BYTES];
+    let packed = pack(digits);
+    bytes[..packed.len()].copy_from_slice(&packed);
+    bytes
+}

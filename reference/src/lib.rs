@@ -1,0 +1,19 @@
+//! A second implementation of the three multiplex levels with positive justification,
+//! written from the specification alone, to compare the product with.
+//!
+//! It works on lists of digits, one digit to an element: a frame is first laid out as a
+//! list of named places and then filled place by place. It is meant to be plainly right,
+//! not fast. All numbers are `u64` and are judged as they are: nothing wraps, and no
+//! input makes a call panic.
+
+#![forbid(unsafe_code)]
+
+pub mod digits;
+pub mod frame;
+pub mod history;
+pub mod level;
+mod multiplexing;
+mod receiver;
+
+pub use multiplexing::{demultiplex, length_refusal, multiplex, Demultiplexed, Multiplexed};
+pub use receiver::{feed, feed_refusal, fresh, line_digit, Fed, State};

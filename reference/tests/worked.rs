@@ -1,0 +1,601 @@
+//! The worked cases of the specification, each refusal at its border, and the smallest
+//! inputs on which two careful readers could differ.
+
+use reference::digits::{pack, unpack};
+use reference::frame::{self, Place};
+use reference::level::row;
+use reference::{
+    demultiplex, feed, fresh, history, line_digit, multiplex, Demultiplexed, Fed, Multiplexed,
+    State,
+};
+
+const WORD: &str = "1111010000";
+
+/// Multiplexes from quarters that are zero.
+fn from_zero(level: u64, line: usize, notes: &[u8], buffer: usize) -> (Multiplexed, Vec<u8>) {
+    let mut bytes = vec![0xA5; line];
+    let answer = multiplex(level, &mut bytes, notes, &vec![0; buffer]);
+    if answer.refusal != 0 {
+        assert_eq!(bytes, vec![0xA5; line], "a refused call wrote to the line");
+    }
+    (answer, bytes)
+}
+
+fn refusal(level: u64, line: usize, notes: &[u8], buffer: usize) -> u64 {
+    let (answer, _) = from_zero(level, line, notes, buffer);
+    if answer.refusal != 0 {
+        assert_eq!(answer.counts, [0; 4]);
+    }
+    if answer.refusal != 5 {
+        assert_eq!(answer.frame, 0);
+    }
+    answer.refusal
+}
+
+/// The refusal of demultiplexing a line of zeros; a refused call must leave all it was lent.
+fn back_refusal(level: u64, line: usize, notes: usize, buffer: usize) -> u64 {
+    let (mut notes, mut buffer) = (vec![0xA5; notes], vec![0xA5; buffer]);
+    let answer = demultiplex(level, &vec![0; line], &mut notes, &mut buffer);
+    if answer.refusal != 0 {
+        let refused = Demultiplexed { refusal: answer.refusal, ..Demultiplexed::default() };
+        assert_eq!(answer, refused);
+        assert!(notes.iter().chain(&buffer).all(|&byte| byte == 0xA5));
+    }
+    answer.refusal
+}
+
+fn accepted(counts: [u64; 4]) -> Multiplexed {
+    Multiplexed { refusal: 0, frame: 0, counts }
+}
+
+/// A line of the given bytes, all others zero.
+fn bytes(length: usize, set: &[(usize, u8)]) -> Vec<u8> {
+    let mut line = vec![0; length];
+    for &(at, byte) in set {
+        line[at] = byte;
+    }
+    line
+}
+
+fn digits(text: &str) -> Vec<u8> {
+    text.bytes().map(|sign| sign - b'0').collect()
+}
+
+fn state(level: u64, window: u64, seen: u64, mode: u64, place: u64, store: u8) -> State {
+    State { level, window, seen, mode, place, frame: [store; 366] }
+}
+
+fn start(level: u64) -> State {
+    fresh(level).1
+}
+
+/// Feeds all digits of a list, call after call, and says after how many a frame was ready.
+fn feed_all(state: &State, list: &[u8]) -> (Vec<u64>, State) {
+    let (slice, mut at, mut ready) = (pack(list), 0, Vec::new());
+    let mut state = state.clone();
+    while at < list.len() as u64 {
+        let fed = feed(&state, &slice, at, list.len() as u64 - at);
+        assert_eq!(fed.refusal, 0);
+        at += fed.taken;
+        state = fed.state;
+        if fed.ready {
+            ready.push(at);
+        }
+    }
+    (ready, state)
+}
+
+fn feed_refused(state: &State, slice: usize, first: u64, count: u64) -> u64 {
+    let fed = feed(state, &vec![0; slice], first, count);
+    if fed.refusal != 0 {
+        let (taken, state) = (0, state.clone());
+        let expected = Fed { refusal: fed.refusal, taken, ready: false, all_ones: false, state };
+        assert_eq!(fed, expected);
+    }
+    fed.refusal
+}
+
+#[test]
+fn case_1() {
+    let (answer, line) = from_zero(2, 106, &[0], 104);
+    assert_eq!(answer, accepted([206; 4]));
+    assert_eq!(line, bytes(106, &[(0, 0xF4)]));
+}
+
+#[test]
+fn case_2() {
+    let (answer, line) = from_zero(2, 106, &[0x3F], 104);
+    assert_eq!(answer, accepted([205; 4]));
+    let set = [(0, 0xF4), (1, 0x30), (26, 0x0F), (53, 0xF0), (79, 0x0F), (80, 0xF0)];
+    assert_eq!(line, bytes(106, &set));
+}
+
+#[test]
+fn case_3() {
+    let (answer, line) = from_zero(3, 192, &[1], 192);
+    assert_eq!(answer, accepted([377, 378, 378, 378]));
+    assert_eq!(line, bytes(192, &[(0, 0xF4), (48, 0x80), (96, 0x80), (144, 0x88)]));
+}
+
+#[test]
+fn case_4() {
+    let (answer, line) = from_zero(4, 366, &[0xFF], 364);
+    assert_eq!(answer, accepted([722; 4]));
+    let groups = [(61, 0xF0), (122, 0xF0), (183, 0xF0), (244, 0xF0), (305, 0xFF)];
+    assert_eq!(line, bytes(366, &[&[(0, 0xFA), (1, 0x0F)], &groups[..]].concat()));
+}
+
+/// The place in a frame of one digit of one tributary: where the line changes if the digit
+/// does.
+fn place_of(level: u64, tributary: usize, digit: usize, note: u8) -> Vec<usize> {
+    let row = row(level).unwrap();
+    let quarter = row.tributary_digits.div_ceil(8);
+    let mut buffer = vec![0; 4 * quarter];
+    let (_, without) = from_zero(level, row.frame_bytes(), &[note], buffer.len());
+    buffer[(tributary - 1) * quarter + digit / 8] = 0x80 >> (digit % 8);
+    let mut with = without.clone();
+    multiplex(level, &mut with, &[note], &buffer);
+    let (without, with) = (unpack(&without, 2928), unpack(&with, 2928));
+    (0..with.len()).filter(|&place| with[place] != without[place]).collect()
+}
+
+#[test]
+fn cases_5_to_7() {
+    assert_eq!(place_of(2, 1, 50, 0), [216]);
+    assert_eq!(place_of(2, 1, 154, 0), [640]);
+    assert_eq!(place_of(2, 1, 154, 1), [644]);
+    assert_eq!(place_of(3, 1, 93, 0), [388]);
+    assert_eq!(place_of(3, 1, 283, 0), [1156]);
+    assert_eq!(place_of(3, 4, 377, 0), [1535]);
+    assert_eq!(place_of(4, 1, 118, 0), [492]);
+    assert_eq!(place_of(4, 1, 602, 0), [2444]);
+    assert_eq!(place_of(4, 4, 722, 0), [2927]);
+}
+
+/// The note and the group count of a zero frame with the given group for tributary 1.
+fn read_group(level: u64, group: &str) -> (u8, u64, u64) {
+    let row = row(level).unwrap();
+    let (_, line) = from_zero(level, row.frame_bytes(), &[0], 4 * 91);
+    let mut list = unpack(&line, row.frame_digits);
+    for (k, digit) in digits(group).into_iter().enumerate() {
+        list[(k + 1) * row.set_digits] = digit;
+    }
+    let mut notes = [0xA5];
+    let answer = demultiplex(level, &pack(&list), &mut notes, &mut [0; 4 * 91]);
+    assert_eq!((answer.refusal, answer.alignment), (0, 0));
+    (notes[0], answer.groups, answer.counts[0])
+}
+
+#[test]
+fn case_8() {
+    assert_eq!(read_group(2, "110"), (1, 1, 205));
+    assert_eq!(read_group(2, "100"), (0, 1, 206));
+    assert_eq!(read_group(3, "011"), (1, 1, 377));
+    assert_eq!(read_group(4, "11100"), (1, 1, 722));
+    assert_eq!(read_group(4, "11000"), (0, 1, 723));
+    assert_eq!(read_group(4, "11111"), (1, 0, 722));
+    assert_eq!(read_group(4, "00000"), (0, 0, 723));
+}
+
+#[test]
+fn case_9() {
+    assert_eq!(refusal(2, 64 * 106, &[0; 64], 4 * 1648), 0);
+    assert_eq!(refusal(2, 65 * 106, &[0; 65], 4 * 1674), 2);
+    assert_eq!(refusal(2, 105, &[0], 104), 2);
+    assert_eq!(refusal(2, 106, &[0], 4 * 26), 0);
+    assert_eq!(refusal(2, 106, &[0], 4 * 25), 4);
+    assert_eq!(back_refusal(2, 64 * 106, 64, 4 * 1648), 0);
+    assert_eq!(back_refusal(2, 65 * 106, 65, 4 * 1674), 2);
+    assert_eq!(back_refusal(2, 105, 1, 104), 2);
+    assert_eq!(back_refusal(2, 106, 1, 4 * 26), 0);
+    assert_eq!(back_refusal(2, 106, 1, 4 * 25), 4);
+}
+
+#[test]
+fn case_10() {
+    assert_eq!(refusal(2, 106, &[0x40], 100), 4);
+    assert_eq!(refusal(2, 106, &[0x40], 104), 5);
+}
+
+#[test]
+fn case_11() {
+    let (_, line) = from_zero(2, 106, &[0], 104);
+    let four = line.repeat(4);
+    let first = feed(&start(2), &four, 0, 3392);
+    assert_eq!((first.refusal, first.taken, first.ready), (0, 2544, true));
+    assert!(!first.all_ones);
+    assert_eq!(first.state.frame[..106], line);
+    assert_eq!(first.state.frame[106..], [0; 260]);
+    let second = feed(&first.state, &four, 2544, 848);
+    assert_eq!((second.refusal, second.taken, second.ready), (0, 848, true));
+    assert_eq!(second.state.frame, first.state.frame);
+}
+
+#[test]
+fn case_11_in_pieces() {
+    let (_, line) = from_zero(2, 106, &[0], 104);
+    for size in [1, 7, 1000] {
+        let (mut state, mut at, mut ready) = (start(2), 0, Vec::new());
+        while at < 3392 {
+            let fed = feed(&state, &line.repeat(4), at, size.min(3392 - at));
+            at += fed.taken;
+            state = fed.state;
+            if fed.ready {
+                ready.push(at);
+                assert_eq!(state.frame[..106], line);
+            }
+        }
+        assert_eq!(ready, [2544, 3392]);
+    }
+}
+
+#[test]
+fn the_layout_has_the_numbers_of_the_table() {
+    for level in 2..=4 {
+        let row = row(level).unwrap();
+        let places = frame::layout(row);
+        assert_eq!(places.len(), row.frame_digits);
+        let first = 10 + 2 + 4 * (level / 4) as usize;
+        assert_eq!(places.iter().position(|p| *p == Place::Tributary(0)), Some(first));
+        for j in 0..4 {
+            let of = |wanted| places.iter().filter(|p| **p == wanted).count();
+            assert_eq!(of(Place::Control(j)), row.group_digits);
+            assert_eq!(of(Place::Justification(j)), 1);
+            assert_eq!(of(Place::Tributary(j)) + 1, row.tributary_digits);
+        }
+    }
+}
+
+#[test]
+fn levels() {
+    for level in [0, 1, 5, 255, 258, (1 << 32) + 2, u64::MAX] {
+        assert_eq!(refusal(level, 0, &[], 0), 1);
+        assert_eq!(back_refusal(level, 0, 0, 0), 1);
+        assert_eq!(fresh(level), (1, state(0, 0, 0, 0, 0, 0)));
+        assert_eq!(feed_refused(&fresh(level).1, 0, 0, 0), 6);
+    }
+    for level in 2..=4 {
+        assert_eq!(refusal(level, 0, &[], 0), 0);
+        assert_eq!(fresh(level), (0, state(level, 0, 0, 0, 0, 0)));
+    }
+}
+
+#[test]
+fn lines_at_their_borders() {
+    for (level, frame_bytes, quarter) in [(2, 106, 1674), (3, 192, 3072), (4, 366, 5875)] {
+        for (frames, expected) in [(64, 0), (65, 2)] {
+            let notes = vec![0; frames];
+            assert_eq!(refusal(level, frames * frame_bytes, &notes, 4 * quarter), expected);
+            assert_eq!(back_refusal(level, frames * frame_bytes, frames, 4 * quarter), expected);
+        }
+        for line in [frame_bytes - 1, frame_bytes + 1, 2 * frame_bytes - 1] {
+            assert_eq!(refusal(level, line, &[0], 4 * quarter), 2);
+            assert_eq!(back_refusal(level, line, 1, 4 * quarter), 2);
+        }
+    }
+}
+
+#[test]
+fn notes_at_their_borders() {
+    for (frames, notes) in [(1, 0), (1, 2), (0, 1), (64, 63), (64, 65)] {
+        assert_eq!(refusal(2, frames * 106, &vec![0; notes], 8000), 3);
+        assert_eq!(back_refusal(2, frames * 106, notes, 8000), 3);
+    }
+}
+
+#[test]
+fn buffers_at_their_borders() {
+    for (level, line, quarter) in [(2, 106, 26), (3, 192, 48), (4, 366, 91)] {
+        assert_eq!(refusal(level, line, &[0], 4 * quarter), 0);
+        assert_eq!(back_refusal(level, line, 1, 4 * quarter), 0);
+        for buffer in [0, 4 * quarter - 4, 4 * quarter - 1, 4 * quarter + 1, 4 * quarter + 2] {
+            assert_eq!(refusal(level, line, &[0], buffer), 4);
+            assert_eq!(back_refusal(level, line, 1, buffer), 4);
+        }
+    }
+}
+
+#[test]
+fn notes_with_bits_that_the_level_lacks() {
+    for level in [2, 3] {
+        for note in [0x40, 0x80, 0xC0, 0xFF] {
+            let line = row(level).unwrap().frame_bytes();
+            let (answer, _) = from_zero(level, 5 * line, &[0, 0x3F, note, 0, 0x80], 8000);
+            assert_eq!(answer, Multiplexed { refusal: 5, frame: 2, counts: [0; 4] });
+        }
+    }
+    assert_eq!(refusal(4, 366, &[0xC0], 364), 0);
+}
+
+#[test]
+fn the_order_of_faults() {
+    assert_eq!(refusal(5, 105, &[], 104), 1);
+    assert_eq!(refusal(5, 0, &[0], 0), 1);
+    assert_eq!(refusal(5, 0, &[], 3), 1);
+    assert_eq!(refusal(5, 106, &[0x40], 104), 1);
+    assert_eq!(refusal(2, 105, &[0, 0], 104), 2);
+    assert_eq!(refusal(2, 105, &[0], 3), 2);
+    assert_eq!(refusal(2, 107, &[0x40], 104), 2);
+    assert_eq!(refusal(2, 106, &[0, 0], 3), 3);
+    assert_eq!(refusal(2, 106, &[0x40, 0], 104), 3);
+    assert_eq!(refusal(2, 106, &[0x40], 103), 4);
+    assert_eq!(back_refusal(5, 105, 2, 3), 1);
+    assert_eq!(back_refusal(5, 0, 1, 0), 1);
+    assert_eq!(back_refusal(5, 0, 0, 3), 1);
+    assert_eq!(back_refusal(2, 105, 2, 104), 2);
+    assert_eq!(back_refusal(2, 105, 1, 3), 2);
+    assert_eq!(back_refusal(2, 106, 2, 3), 3);
+}
+
+#[test]
+fn room_is_asked_for_unstuffed_frames() {
+    assert_eq!(refusal(2, 8 * 106, &[0x0F; 8], 4 * 205), 4);
+    assert_eq!(refusal(2, 8 * 106, &[0x0F; 8], 4 * 206), 0);
+    assert_eq!(from_zero(2, 8 * 106, &[0x0F; 8], 4 * 206).0, accepted([8 * 205; 4]));
+}
+
+#[test]
+fn no_frames() {
+    assert_eq!(from_zero(2, 0, &[], 0).0, accepted([0; 4]));
+    assert_eq!(refusal(2, 0, &[], 3), 4);
+    assert_eq!(refusal(2, 0, &[0], 0), 3);
+    assert_eq!(back_refusal(2, 0, 0, 3), 4);
+    assert_eq!(back_refusal(2, 0, 1, 0), 3);
+    let mut buffer = [0xFF; 4];
+    assert_eq!(demultiplex(2, &[], &mut [], &mut buffer), Demultiplexed::default());
+    assert_eq!(buffer, [0; 4]);
+}
+
+#[test]
+fn digits_run_on_from_frame_to_frame() {
+    let mut buffer = vec![0; 4 * 52];
+    buffer[206 / 8] = 0x80 >> (206 % 8);
+    let mut line = vec![0; 212];
+    multiplex(2, &mut line, &[0, 0], &buffer);
+    assert_eq!(line, bytes(212, &[(0, 0xF4), (106, 0xF4), (107, 0x08)]));
+    multiplex(2, &mut line, &[1, 0], &buffer);
+    assert_eq!(unpack(&line, 1696)[848 + 12..848 + 17], [0, 0, 0, 0, 1]);
+}
+
+#[test]
+fn service_digits_of_level_4() {
+    for (note, byte) in [(0x10, 0x08), (0x20, 0x04), (0x40, 0x02), (0x80, 0x01)] {
+        let (_, line) = from_zero(4, 366, &[note], 364);
+        assert_eq!(line, bytes(366, &[(0, 0xFA), (1, byte)]));
+    }
+}
+
+#[test]
+fn old_notes_are_not_judged() {
+    let (_, line) = from_zero(2, 106, &[0], 104);
+    let mut notes = [0xC0];
+    let answer = demultiplex(2, &line, &mut notes, &mut [0xFF; 104]);
+    assert_eq!(answer.refusal, 0);
+    assert_eq!(notes, [0]);
+}
+
+#[test]
+fn counts_over_all_frames() {
+    assert_eq!(back_refusal(2, 106, 1, 4), 4);
+    let answer = demultiplex(2, &[0; 212], &mut [0; 2], &mut [0; 208]);
+    assert_eq!((answer.alignment, answer.groups), (10, 0));
+    let answer = demultiplex(4, &[0xFF; 366], &mut [0; 1], &mut [0; 364]);
+    assert_eq!((answer.alignment, answer.groups), (6, 0));
+    let mut line = vec![0; 366];
+    line[61] = 0xF0;
+    let answer = demultiplex(4, &line.repeat(3), &mut [0; 3], &mut [0; 4 * 272]);
+    assert_eq!((answer.alignment, answer.groups, answer.counts), (18, 12, [3 * 723; 4]));
+}
+
+#[test]
+fn decisions_are_used_in_their_own_frame() {
+    // Decisions that alternate: one used a frame late would hand out a stuffing digit or
+    // lose a carried one, and all that follows would be shifted.
+    for (level, line, quarter) in [(2, 106, 206), (3, 192, 378), (4, 366, 723)] {
+        let sent: Vec<u8> = (0..4 * quarter).map(|k| (k * 151 % 251) as u8).collect();
+        let notes = [0x05, 0x0A, 0x0A, 0x05, 0x01, 0x00, 0x0E, 0x0F];
+        let mut bytes = vec![0; 8 * line];
+        let there = multiplex(level, &mut bytes, &notes, &sent);
+        let stuffed = |j: usize| notes.iter().filter(|&&note| note >> j & 1 == 1).count();
+        assert_eq!(there.counts, [0, 1, 2, 3].map(|j| (8 * quarter - stuffed(j)) as u64));
+        let (mut read, mut received) = ([0xFF; 8], vec![0xFF; 4 * quarter]);
+        let back = demultiplex(level, &bytes, &mut read, &mut received);
+        assert_eq!((back.counts, read), (there.counts, notes));
+        for (j, &count) in back.counts.iter().enumerate() {
+            let part = j * quarter..(j + 1) * quarter;
+            let carried = unpack(&sent[part.clone()], count as usize);
+            assert_eq!(unpack(&received[part.clone()], count as usize), carried);
+            assert!(unpack(&received[part], 8 * quarter)[count as usize..].iter().all(|d| *d == 0));
+        }
+    }
+}
+
+#[test]
+fn the_tenth_digit_can_be_the_one_found() {
+    let (_, state) = feed_all(&start(2), &digits(WORD));
+    assert_eq!((state.mode, state.place, state.seen, state.window), (1, 0, 10, 0b11_1101_0000));
+    assert_eq!(state.frame[..2], [0xF4, 0x00]);
+    assert_eq!(feed_all(&start(2), &[1, 0]).1.window, 2);
+}
+
+#[test]
+fn the_store_stays_when_alignment_is_lost() {
+    let stream = [digits(WORD), vec![1], vec![0; 847]].concat();
+    let (_, state) = feed_all(&start(2), &stream);
+    assert_eq!((state.mode, state.place, state.seen), (0, 0, 10));
+    assert_eq!(state.frame[..3], [0xF4, 0x20, 0x00]);
+}
+
+#[test]
+fn a_digit_overwrites_the_store() {
+    let (_, after) = feed_all(&state(2, 0, 10, 3, 0, 0xFF), &[0]);
+    assert_eq!(after.frame[..3], [0xFF, 0xDF, 0xFF]);
+}
+
+#[test]
+fn later_bytes_are_handed_over_as_they_are() {
+    let fed = feed(&state(2, 0, 10, 3, 837, 0xFF), &[0x80], 0, 1);
+    assert_eq!((fed.taken, fed.ready, fed.all_ones), (1, true, true));
+    assert_eq!(fed.state.frame, [0xFF; 366]);
+}
+
+#[test]
+fn the_mark_is_of_the_store() {
+    let ones = [0xFF; 106];
+    let fed = feed(&state(2, 0, 10, 3, 1, 0), &ones, 0, 837);
+    assert_eq!((fed.taken, fed.ready, fed.all_ones), (837, true, false));
+    let fed = feed(&state(2, 0, 10, 3, 0, 0), &ones, 0, 838);
+    assert_eq!((fed.taken, fed.ready, fed.all_ones), (838, true, true));
+    // A word that was missed does not matter to the mark.
+    let fed = feed(&state(2, 0, 10, 5, 0, 0), &ones, 0, 838);
+    assert!(fed.all_ones && fed.state.mode == 5);
+}
+
+/// Frames of zeros at level 2, each word right or its first digit wrong.
+fn words(good: &[bool]) -> Vec<u8> {
+    let frame = |&good: &bool| [vec![u8::from(good)], digits("111010000"), vec![0; 838]].concat();
+    good.iter().flat_map(frame).collect()
+}
+
+#[test]
+fn missed_words() {
+    assert_eq!(feed_all(&start(2), &words(&[true; 3])).0, [2544]);
+    let stream = words(&[true, true, true, false]);
+    assert_eq!(feed_all(&start(2), &stream).0, [2544, 3392]);
+    let stream = words(&[true, true, true, false, false, false, false, true]);
+    let (ready, state) = feed_all(&start(2), &stream);
+    assert_eq!(ready, [2544, 3392, 4240, 5088]);
+    assert_eq!((state.mode, state.place), (1, 838));
+    let stream = words(&[true, true, true, false, false, false, true, false]);
+    let (ready, state) = feed_all(&start(2), &stream);
+    assert_eq!(ready, [2544, 3392, 4240, 5088, 5936, 6784]);
+    assert_eq!((state.mode, state.place), (4, 838));
+    assert_eq!(feed_all(&start(2), &words(&[true, false, true, true])).0, []);
+}
+
+#[test]
+fn a_word_half_received_at_a_failed_check_is_found() {
+    let stream = [digits(WORD), vec![0; 843], digits("11110")].concat();
+    let (_, lost) = feed_all(&start(2), &stream);
+    assert_eq!((lost.mode, lost.seen, lost.window), (0, 10, 0b11110));
+    let (_, found) = feed_all(&lost, &digits("10000"));
+    assert_eq!((found.mode, found.place), (1, 0));
+}
+
+#[test]
+fn empty_pieces() {
+    let waiting = state(2, 0, 10, 3, 838, 0xFF);
+    let fed = feed(&waiting, &[], 0, 0);
+    let state_before = waiting.clone();
+    assert_eq!(
+        fed,
+        Fed { refusal: 0, taken: 0, ready: false, all_ones: false, state: state_before }
+    );
+    assert_eq!(feed_refused(&state(2, 0, 0, 0, 1, 0), 0, 0, 0), 6);
+    assert_eq!(feed_refused(&waiting, 65_537, 0, 0), 2);
+    assert_eq!(feed_refused(&waiting, 0, 1, 0), 7);
+    assert_eq!(feed_refused(&waiting, 1, 8, 0), 0);
+    assert_eq!(feed_refused(&waiting, 1, 9, 0), 7);
+}
+
+#[test]
+fn pieces_at_their_borders() {
+    assert_eq!(feed_refused(&start(2), 65_536, 524_280, 8), 0);
+    assert_eq!(feed_refused(&start(2), 65_536, 524_281, 8), 7);
+    assert_eq!(feed_refused(&start(2), 65_537, 0, 1), 2);
+    assert_eq!(feed_refused(&start(2), 1, u64::MAX, 2), 7);
+    assert_eq!(feed_refused(&start(2), 1, 2, u64::MAX), 7);
+    assert_eq!(feed_refused(&start(2), 1, u64::MAX, u64::MAX), 7);
+    let (_, line) = from_zero(2, 106, &[0], 104);
+    assert_eq!(feed(&start(2), &line.repeat(3), 0, 2545).refusal, 7);
+    assert_eq!(feed(&start(2), &line.repeat(3), 0, 2544).taken, 2544);
+}
+
+#[test]
+fn states_at_their_borders() {
+    for (level, length, last) in [(2, 10, 847), (3, 10, 1535), (4, 12, 2927)] {
+        let top = (1 << length) - 1;
+        let try_one = |window, seen, mode, place| {
+            feed_refused(&state(level, window, seen, mode, place, 0xA5), 1, 0, 1)
+        };
+        assert_eq!(try_one(top, 0, 0, 0), 0);
+        assert_eq!(try_one(top + 1, 0, 0, 0), 6);
+        assert_eq!(try_one(u64::MAX, 0, 0, 0), 6);
+        assert_eq!(try_one(0, length, 0, 0), 0);
+        assert_eq!(try_one(0, length + 1, 0, 0), 6);
+        assert_eq!(try_one(0, length, 6, 0), 0);
+        assert_eq!(try_one(0, length, 7, 0), 6);
+        assert_eq!(try_one(0, length, u64::MAX, 0), 6);
+        assert_eq!(try_one(0, length, 0, 1), 6);
+        for mode in 1..=6 {
+            assert_eq!(try_one(0, length, mode, last), 0);
+            assert_eq!(try_one(0, length, mode, last + 1), 6);
+            assert_eq!(try_one(0, length - 1, mode, 0), 6);
+        }
+    }
+}
+
+#[test]
+fn the_order_of_faults_of_a_piece() {
+    let wrong = state(2, 0, 0, 7, 0, 0);
+    assert_eq!(feed_refused(&wrong, 65_537, 0, 1), 6);
+    assert_eq!(feed_refused(&wrong, 0, 0, 1), 6);
+    assert_eq!(feed_refused(&start(2), 65_537, u64::MAX, 1), 2);
+}
+
+#[test]
+fn a_window_need_not_fit_the_digits_seen() {
+    assert_eq!(feed_refused(&state(2, 1023, 3, 0, 0, 0), 0, 0, 0), 0);
+    let after = |seen, window| feed_all(&state(2, window, seen, 0, 0, 0), &[0]).1.mode;
+    assert_eq!(after(9, 0b01_1110_1000), 1);
+    assert_eq!(after(8, 0b01_1110_1000), 0);
+    assert_eq!(after(10, 0b11_1101_0000), 0);
+}
+
+#[test]
+fn the_reader() {
+    assert_eq!([0, 1, 2, 7, 8, 9].map(|at| line_digit(&[0x81, 0x80], at)), [1, 0, 0, 1, 1, 0]);
+    for place in [16, 17, 1 << 32, u64::MAX] {
+        assert_eq!(line_digit(&[0x81, 0x80], place), 2);
+    }
+    assert_eq!(line_digit(&[], 0), 2);
+    assert_eq!(line_digit(&vec![0xFF; 65_536], 524_287), 1);
+    assert_eq!(line_digit(&vec![0xFF; 65_536], 524_288), 2);
+    assert_eq!(line_digit(&vec![0xFF; 65_537], 0), 2);
+}
+
+/// A stream with words a frame apart, some damaged, some shifted, and noise between.
+fn rough_stream(level: u64, mut seed: u64) -> Vec<u8> {
+    let row = row(level).unwrap();
+    let mut next = |below: u64| {
+        seed = seed.wrapping_mul(6364136223846793005).wrapping_add(1442695040888963407);
+        (seed >> 33) % below
+    };
+    let mut stream: Vec<u8> = (0..next(40)).map(|_| next(2) as u8).collect();
+    for _ in 0..24 {
+        let mut word = row.word_digits();
+        if next(3) == 0 {
+            word[0] ^= 1;
+        }
+        stream.extend(word);
+        let body = row.frame_digits - row.word_length();
+        let kind = next(4);
+        stream.extend((0..body).map(|_| if kind == 0 { 1 } else { next(2) as u8 }));
+        if next(9) == 0 {
+            stream.truncate(stream.len() - next(12) as usize);
+        }
+    }
+    stream
+}
+
+#[test]
+fn feeding_agrees_with_the_search_through_the_whole_stream() {
+    for seed in 0..30 {
+        let level = 2 + seed % 3;
+        let stream = rough_stream(level, seed);
+        let (frames, end) = history::whole(level, &stream);
+        let (ready, state) = feed_all(&start(level), &stream);
+        let after: Vec<u64> = frames.iter().map(|frame| frame.after as u64).collect();
+        assert_eq!((ready, state), (after, end), "seed {seed}");
+    }
+}
