@@ -1,0 +1,52 @@
+// How the inputs of the cases are made, and the sum by which a line or a buffer is told from another.
+
+// Every byte b.
+pub fn fill(s: &mut [u8], b: u8) {
+    let mut i: usize = 0;
+    while i < s.len() {
+        s[i] = b;
+        i += 1;
+    }
+}
+
+// Byte i is i modulo 256.
+pub fn count_up(s: &mut [u8]) {
+    let mut i: usize = 0;
+    while i < s.len() {
+        s[i] = (i % 256) as u8;
+        i += 1;
+    }
+}
+
+// 0 before frame `from`, and `note` from that frame on.
+pub fn notes_from(notes: &mut [u8], note: u8, from: usize) {
+    let mut f: usize = 0;
+    while f < notes.len() {
+        notes[f] = note_of(f, note, from);
+        f += 1;
+    }
+}
+
+fn note_of(f: usize, note: u8, from: usize) -> u8 {
+    if f < from {
+        return 0;
+    }
+    note
+}
+
+fn wide(b: u8) -> u64 {
+    b as u64
+}
+
+// Byte i counts i + 1 times: the sum, from the last byte to the first, of the bytes from there on.
+pub fn sum(s: &[u8]) -> u64 {
+    let mut i = s.len();
+    let mut after: u64 = 0;
+    let mut total: u64 = 0;
+    while 0 < i {
+        i -= 1;
+        after = std::num::wrapping_add_u64(after, wide(s[i]));
+        total = std::num::wrapping_add_u64(total, after);
+    }
+    total
+}

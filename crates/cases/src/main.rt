@@ -1,0 +1,435 @@
+// Runs worked cases 9 and 10 of document 01 and more of the kind: each refusal at its border, and each pair of faults that tells the
+// order. What it must write was worked out by the separate program of reference/, which shares nothing with the crates.
+mod inputs;
+mod say;
+
+use demultiplex::Demultiplexed;
+use multiplex::Multiplexed;
+
+// A multiplex call: the notes are 0 before frame `from` and `note` from there on.
+struct Sending {
+    level: u64,
+    line: usize,
+    notes: usize,
+    note: u8,
+    from: usize,
+    buffer: usize,
+}
+
+// A demultiplex call on a line whose bytes are all `fill`.
+struct Receiving {
+    level: u64,
+    line: usize,
+    fill: u8,
+    notes: usize,
+    buffer: usize,
+}
+
+const SENDINGS: [Sending; 27] = [
+    // Case 9, and the other levels at the same borders.
+    Sending {
+        level: 2,
+        line: 6784,
+        notes: 64,
+        note: 15,
+        from: 32,
+        buffer: 6592,
+    },
+    Sending {
+        level: 2,
+        line: 6890,
+        notes: 65,
+        note: 0,
+        from: 0,
+        buffer: 6696,
+    },
+    Sending {
+        level: 2,
+        line: 105,
+        notes: 1,
+        note: 0,
+        from: 0,
+        buffer: 104,
+    },
+    Sending {
+        level: 2,
+        line: 106,
+        notes: 1,
+        note: 0,
+        from: 0,
+        buffer: 104,
+    },
+    Sending {
+        level: 2,
+        line: 106,
+        notes: 1,
+        note: 0,
+        from: 0,
+        buffer: 100,
+    },
+    Sending {
+        level: 3,
+        line: 12288,
+        notes: 64,
+        note: 5,
+        from: 1,
+        buffer: 12096,
+    },
+    Sending {
+        level: 3,
+        line: 12480,
+        notes: 65,
+        note: 0,
+        from: 0,
+        buffer: 12288,
+    },
+    Sending {
+        level: 4,
+        line: 23424,
+        notes: 64,
+        note: 250,
+        from: 1,
+        buffer: 23136,
+    },
+    Sending {
+        level: 4,
+        line: 23790,
+        notes: 65,
+        note: 0,
+        from: 0,
+        buffer: 23500,
+    },
+    // Case 10, and the note alone.
+    Sending {
+        level: 2,
+        line: 106,
+        notes: 1,
+        note: 64,
+        from: 0,
+        buffer: 100,
+    },
+    Sending {
+        level: 2,
+        line: 106,
+        notes: 1,
+        note: 64,
+        from: 0,
+        buffer: 104,
+    },
+    Sending {
+        level: 3,
+        line: 960,
+        notes: 5,
+        note: 128,
+        from: 3,
+        buffer: 960,
+    },
+    Sending {
+        level: 4,
+        line: 366,
+        notes: 1,
+        note: 64,
+        from: 0,
+        buffer: 364,
+    },
+    // Notes one short and one long, buffers that are no multiple of 4.
+    Sending {
+        level: 2,
+        line: 212,
+        notes: 1,
+        note: 0,
+        from: 0,
+        buffer: 208,
+    },
+    Sending {
+        level: 2,
+        line: 106,
+        notes: 2,
+        note: 0,
+        from: 0,
+        buffer: 104,
+    },
+    Sending {
+        level: 2,
+        line: 106,
+        notes: 1,
+        note: 0,
+        from: 0,
+        buffer: 103,
+    },
+    Sending {
+        level: 2,
+        line: 106,
+        notes: 1,
+        note: 0,
+        from: 0,
+        buffer: 105,
+    },
+    // Room is asked for F·n digits even where frames are stuffed.
+    Sending {
+        level: 2,
+        line: 848,
+        notes: 8,
+        note: 15,
+        from: 0,
+        buffer: 820,
+    },
+    Sending {
+        level: 2,
+        line: 848,
+        notes: 8,
+        note: 15,
+        from: 0,
+        buffer: 824,
+    },
+    // No frames, and levels that there are not.
+    Sending {
+        level: 2,
+        line: 0,
+        notes: 0,
+        note: 0,
+        from: 0,
+        buffer: 0,
+    },
+    Sending {
+        level: 2,
+        line: 0,
+        notes: 0,
+        note: 0,
+        from: 0,
+        buffer: 3,
+    },
+    Sending {
+        level: 258,
+        line: 0,
+        notes: 0,
+        note: 0,
+        from: 0,
+        buffer: 0,
+    },
+    Sending {
+        level: 18446744073709551615,
+        line: 0,
+        notes: 0,
+        note: 0,
+        from: 0,
+        buffer: 0,
+    },
+    // The order 1, 2, 3, 4, 5: the first wrong thing, and all later ones wrong as well.
+    Sending {
+        level: 5,
+        line: 105,
+        notes: 2,
+        note: 64,
+        from: 0,
+        buffer: 103,
+    },
+    Sending {
+        level: 2,
+        line: 105,
+        notes: 2,
+        note: 64,
+        from: 0,
+        buffer: 103,
+    },
+    Sending {
+        level: 2,
+        line: 106,
+        notes: 2,
+        note: 64,
+        from: 0,
+        buffer: 103,
+    },
+    Sending {
+        level: 2,
+        line: 106,
+        notes: 1,
+        note: 64,
+        from: 0,
+        buffer: 103,
+    },
+];
+
+const RECEIVINGS: [Receiving; 10] = [
+    Receiving {
+        level: 2,
+        line: 6784,
+        fill: 240,
+        notes: 64,
+        buffer: 6592,
+    },
+    Receiving {
+        level: 2,
+        line: 6890,
+        fill: 0,
+        notes: 65,
+        buffer: 6696,
+    },
+    Receiving {
+        level: 2,
+        line: 105,
+        fill: 0,
+        notes: 1,
+        buffer: 104,
+    },
+    Receiving {
+        level: 2,
+        line: 106,
+        fill: 255,
+        notes: 1,
+        buffer: 104,
+    },
+    Receiving {
+        level: 2,
+        line: 106,
+        fill: 0,
+        notes: 1,
+        buffer: 100,
+    },
+    Receiving {
+        level: 4,
+        line: 732,
+        fill: 19,
+        notes: 2,
+        buffer: 728,
+    },
+    Receiving {
+        level: 2,
+        line: 0,
+        fill: 0,
+        notes: 0,
+        buffer: 4,
+    },
+    // The order 1, 2, 3, 4.
+    Receiving {
+        level: 5,
+        line: 105,
+        fill: 0,
+        notes: 2,
+        buffer: 103,
+    },
+    Receiving {
+        level: 2,
+        line: 105,
+        fill: 0,
+        notes: 2,
+        buffer: 103,
+    },
+    Receiving {
+        level: 2,
+        line: 106,
+        fill: 0,
+        notes: 2,
+        buffer: 103,
+    },
+];
+
+fn main() {
+    let mut k: usize = 0;
+    while k < 27 {
+        send(SENDINGS[k]);
+        k += 1;
+    }
+    receive_all();
+}
+
+fn receive_all() {
+    let mut k: usize = 0;
+    while k < 10 {
+        receive(RECEIVINGS[k]);
+        k += 1;
+    }
+}
+
+// Lends the call parts of arrays that are long enough for every row of the table.
+fn send(c: Sending) {
+    let l = c.line;
+    let f = c.notes;
+    let b = c.buffer;
+    if 65536 < l {
+        return;
+    }
+    if 65536 < f {
+        return;
+    }
+    if 65536 < b {
+        return;
+    }
+    let mut line = io::large_buffer();
+    let mut notes = io::large_buffer();
+    let mut buffer = io::large_buffer();
+    send_on(c, &mut line[..l], &mut notes[..f], &mut buffer[..b]);
+}
+
+fn send_on(c: Sending, line: &mut [u8], notes: &mut [u8], buffer: &mut [u8]) {
+    inputs::fill(line, 165);
+    inputs::notes_from(notes, c.note, c.from);
+    inputs::count_up(buffer);
+    let r = multiplex::multiplex(c.level, line, notes, buffer);
+    sent(c, r, inputs::sum(line));
+}
+
+fn sent(c: Sending, r: Multiplexed, sum: u64) {
+    say::text(b"multiplex level ");
+    say::number(c.level);
+    say::labelled(b" line ", c.line);
+    say::labelled(b" notes ", c.notes);
+    say::labelled(b" note ", c.note as usize);
+    say::labelled(b" from ", c.from);
+    say::labelled(b" buffer ", c.buffer);
+    say::text(b": refusal ");
+    say::number(r.refusal);
+    say::labelled(b" frame ", r.frame);
+    let counts = r.counts;
+    say::four(counts);
+    say::text(b" sum ");
+    say::number(sum);
+    say::text(b"\n");
+}
+
+fn receive(c: Receiving) {
+    let l = c.line;
+    let f = c.notes;
+    let b = c.buffer;
+    if 65536 < l {
+        return;
+    }
+    if 65536 < f {
+        return;
+    }
+    if 65536 < b {
+        return;
+    }
+    let mut line = io::large_buffer();
+    let mut notes = io::large_buffer();
+    let mut buffer = io::large_buffer();
+    receive_on(c, &mut line[..l], &mut notes[..f], &mut buffer[..b]);
+}
+
+fn receive_on(c: Receiving, line: &mut [u8], notes: &mut [u8], buffer: &mut [u8]) {
+    inputs::fill(line, c.fill);
+    inputs::fill(notes, 165);
+    inputs::fill(buffer, 165);
+    let r = demultiplex::demultiplex(c.level, line, notes, buffer);
+    received(c, r, inputs::sum(notes), inputs::sum(buffer));
+}
+
+fn received(c: Receiving, r: Demultiplexed, notes: u64, buffer: u64) {
+    say::text(b"demultiplex level ");
+    say::number(c.level);
+    say::labelled(b" line ", c.line);
+    say::labelled(b" fill ", c.fill as usize);
+    say::labelled(b" notes ", c.notes);
+    say::labelled(b" buffer ", c.buffer);
+    say::text(b": refusal ");
+    say::number(r.refusal);
+    let counts = r.counts;
+    say::four(counts);
+    say::labelled(b" alignment ", r.alignment);
+    say::labelled(b" groups ", r.groups);
+    say::text(b" notes sum ");
+    say::number(notes);
+    say::text(b" sum ");
+    say::number(buffer);
+    say::text(b"\n");
+}

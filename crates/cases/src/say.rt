@@ -1,0 +1,22 @@
+// Writes words and numbers to standard output.
+use libc::STDOUT_FILENO;
+
+pub fn text(words: &[u8]) {
+    io::write_all(STDOUT_FILENO, words);
+}
+
+pub fn number(n: u64) {
+    io::print_decimal(STDOUT_FILENO, n);
+}
+
+pub fn labelled(words: &[u8], n: usize) {
+    text(words);
+    number(n as u64);
+}
+
+pub fn four(counts: [usize; 4]) {
+    labelled(b" counts ", counts[0]);
+    labelled(b" ", counts[1]);
+    labelled(b" ", counts[2]);
+    labelled(b" ", counts[3]);
+}
