@@ -1,0 +1,124 @@
+-- Laws of the frame in hand: what `begin` writes is `begun`, what `put_digit` leaves is `put`, and the mark digit by digit.
+use mathlib.Core.Path.{_≡_, refl, sym, ap, ap₂, _∙_}
+use mathlib.Core.Bool.{Bool, true, false, _&&_}
+use mathlib.Core.List.{List, [], _∷_, _++_, append-assoc}
+use Prim.Native.Nat.{ℕ, zero, suc, _+_, _-_, _*_, _/_, _%_, _^_, _≤_, _<_}
+use native.Mathlib.Omega.{arith}
+use native.Mathlib.Numerals.{add-one}
+use native.Mathlib.Decide.{decLt, ℕ-discrete}
+use native.Mathlib.Nat.{div-one}
+use lib.Dec.{eqb}
+use lib.ListN.{length, getD, set, take, replicate, length-append, length-take, length-set, length-replicate, getD-replicate, List·getD-append, replicate-append-replicate, List·getD-eq-default}
+use lib.Seq.{getD-append-add, getD-take}
+use lib.Pow.{shl-lt}
+use Rattle.digits.specs.Digits.{digitsOf, bytesOf, eight, Bytes, Binary}
+use Rattle.digits.proofs.Laws.{digits-length, digits-zeros, digits-binary, bytes-of-digits, digits-of-bytes, bytes-length}
+use Rattle.levels.specs.declared.table.Row.{Row}
+use Rattle.levels.specs.Table.{Shared}
+use Rattle.receiver.specs.Frame.{written, holding, begun, put, onesFrom, markOf}
+use Rattle.receiver.proofs.Written.{written-length, written-binary, written-split, written-shift, written-mod}
+
+-- a word has digits: ten, or else twelve
+pub some-digits : (row : Row) → Shared row → 10 ≤ row .len
+some-digits row sh =
+    elim (ℕ-discrete (row .len) 10) [
+      | yes e ↦ omega arith
+      | no n ↦ omega (arith, sh .twelve n .0)
+    ]
+
+-- ---- lists of digits, and zeros
+
+pub binary-zeros : (n : ℕ) → Binary (replicate n 0)
+binary-zeros n i =
+    elim (decLt i n) [
+      | yes h ↦ rw (getD-replicate {A = ℕ} n i 0 0 h) (omega arith)
+      | no h ↦ rw (List·getD-eq-default (replicate {A = ℕ} n 0) 0 {n = i} (omega (arith, length-replicate {A = ℕ} n 0))) (omega arith)
+    ]
+
+pub binary-append : (xs ys : List ℕ) → Binary xs → Binary ys → Binary (xs ++ ys)
+binary-append xs ys bx by i =
+    elim (decLt i (length xs)) [
+      | yes h ↦ rw (List·getD-append xs ys 0 i h) (bx i)
+      | no h ↦
+          let e : i ≡ length xs + (i - length xs) = omega arith in
+          rw (e, getD-append-add xs ys (i - length xs) 0) (by (i - length xs))
+    ]
+
+pub binary-take : (n : ℕ) (xs : List ℕ) → Binary xs → Binary (take n xs)
+binary-take n xs bx i =
+    elim (decLt i n) [
+      | yes h ↦ rw (getD-take n xs i 0 h) (bx i)
+      | no h ↦ rw (List·getD-eq-default (take n xs) 0 {n = i} (omega (arith, length-take n xs))) (omega arith)
+    ]
+
+module _ (ds : List ℕ) (bin : Binary ds) (fits : length ds ≤ 2928) where
+  -- the array that holds digits has them, and zeros after
+  pub holding-digits : digitsOf (holding ds) ≡ ds ++ replicate (2928 - length ds) 0
+  unfolding holding
+  holding-digits =
+      digits-of-bytes 366 (ds ++ replicate (2928 - length ds) 0)
+      (binary-append ds (replicate (2928 - length ds) 0) bin (binary-zeros (2928 - length ds)))
+      (length-append ds (replicate (2928 - length ds) 0) ∙ omega (arith, length-replicate {A = ℕ} (2928 - length ds) 0))
+
+pub holding-length : (ds : List ℕ) → length (holding ds) ≡ 366
+unfolding holding
+holding-length ds = bytes-length 366 (ds ++ replicate (2928 - length ds) 0)
+
+-- ---- what `begin` writes
+
+-- a byte's digits, and those of two bytes
+eight-written : (b : ℕ) → eight b ≡ written 8 b
+unfolding written
+eight-written b = rw (div-one b)
+
+two-bytes : (h : ℕ) → eight (h / 256) ++ eight (h % 256) ≡ written 16 h
+two-bytes h =
+    ap₂ (λ (xs ys : List ℕ). xs ++ ys) (eight-written (h / 256)) (eight-written (h % 256))
+    ∙ ap (λ (ds : List ℕ). written 8 (h / 256) ++ ds) (written-mod 8 8 h (omega arith)) ∙ sym (written-split 8 8 h)
+
+head-digits : (h : ℕ) → digitsOf (h / 256 ∷ h % 256 ∷ replicate 364 0) ≡ written 16 h ++ replicate 2912 0
+unfolding digitsOf
+head-digits h = ap (λ (ds : List ℕ). ds ++ replicate 2912 0) (two-bytes h)
+
+pub head-fits : (row : Row) (w s : ℕ) → w < 2 ^ row .len → s + row .len ≡ 16 → w * 2 ^ s < 65536
+head-fits row w s hw hs =
+    let e : row .len + s ≡ 16 = omega arith in
+    rw e at (shl-lt {a = w} (row .len) s hw)
+
+pub begun-is : (row : Row) → Shared row → (w s : ℕ) → w < 2 ^ row .len → s + row .len ≡ 16
+    → w * 2 ^ s / 256 ∷ w * 2 ^ s % 256 ∷ replicate 364 0 ≡ begun row w
+unfolding begun holding
+begun-is row sh w s hw hs =
+    let e : 16 ≡ row .len + s = omega arith in
+    let n : 2928 - row .len ≡ s + 2912 = omega arith in
+    let zeros : replicate {A = ℕ} s 0 ++ replicate 2912 0 ≡ replicate (s + 2912) 0 = replicate-append-replicate {A = ℕ} s 2912 0 in
+    sym (bytes-of-digits (w * 2 ^ s / 256 ∷ w * 2 ^ s % 256 ∷ replicate 364 0) bytes)
+    ∙ rw (head-digits (w * 2 ^ s), e, written-shift (row .len) s w, append-assoc (written (row .len) w) (replicate s 0) (replicate 2912 0), zeros, ← n, written-length (row .len) w)
+  where
+    bytes : Bytes (w * 2 ^ s / 256 ∷ w * 2 ^ s % 256 ∷ replicate 364 0)
+    bytes zero = omega (arith, head-fits row w s hw hs)
+    bytes (suc zero) = omega arith
+    bytes (suc (suc i)) = omega (arith, binary-zeros 364 i)
+
+-- ---- what `put_digit` leaves
+
+pub put-is : (f f′ : List ℕ) (p d : ℕ) → digitsOf f′ ≡ set (digitsOf f) p d → Bytes f′ → f′ ≡ put f p d
+unfolding put
+put-is f f′ p d e bytes =
+    let l : length f′ ≡ length f =
+    omega (arith, digits-length f′, digits-length f, length-set (digitsOf f) p d, ap length e) in
+    sym (bytes-of-digits f′ bytes) ∙ rw (l, e)
+
+-- ---- the mark, from place p of the frame on
+
+pub ones-step : (ds : List ℕ) (n p : ℕ) → p < n → onesFrom ds p (n - p) ≡ (eqb (getD ds p 0) 1 && onesFrom ds (p + 1) (n - (p + 1)))
+unfolding onesFrom
+ones-step ds n p h =
+    let e : n - p ≡ suc (n - (p + 1)) = omega arith in
+    rw (e, add-one p)
+
+pub ones-end : (ds : List ℕ) (n : ℕ) → onesFrom ds n (n - n) ≡ true
+unfolding onesFrom
+ones-end ds n =
+    let e : n - n ≡ 0 = omega arith in
+    rw e

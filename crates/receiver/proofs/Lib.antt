@@ -1,0 +1,10 @@
+pub mod Written
+pub mod Holding
+pub mod Validity
+pub mod Runs
+pub mod Hunts
+pub mod Lasts
+pub mod Traces
+pub mod Pieces
+pub mod Alignment
+pub mod Words

@@ -1,0 +1,43 @@
+-- `feed_row` is `feedRow`: refused, or run.
+use borrow.Author.Needs.{needs}
+use mathlib.Core.Path.{_≡_, sym, _∙_}
+use mathlib.Core.Bool.{true}
+use Prim.Native.Nat.{ℕ}
+use borrow.Author.Tests.{eq-eqb, ne-eqb}
+use lib.ListN.{length}
+use Rattle.receiver.specs.Feed.{feedRow, refusalOf, coreOf}
+use Rattle.receiver.proofs.Validity.{accepted-if}
+use Rattle.receiver.proofs.feed_row.Statement.{statement}
+use Rattle.receiver.proofs.feed_row.Tie as tie
+
+core-of-requires : tie.Need-core-of-requires
+core-of-requires c κs = search needs
+
+refusal-of-requires : tie.Need-refusal-of-requires
+refusal-of-requires c κs = search needs
+
+refuse-requires : tie.Need-refuse-requires
+refuse-requires c κs = search needs
+
+returns : tie.Need-returns
+unfolding feedRow
+returns c =
+    let same = c .before .before .refusal-of .ensures in
+    let refused = ne-eqb (c .before .before .refusal-of .result) 0 (c .before .if1 .taken) in
+    c .refuse .ensures ∙ rw (← (c .before .before .before .core-of .ensures), ← same, refused)
+
+run-requires : tie.Need-run-requires
+run-requires c κs =
+    let a = accepted-if _ _ _ _ _ (sym (c .before .refusal-of .ensures) ∙ c .if1 .left) in
+    (c .before .before .before .before .pre, rw (c .before .before .core-of .ensures) at (a .valid), a .small, a .within)
+
+returns-2 : tie.Need-returns-2
+unfolding feedRow
+returns-2 c =
+    let accepted = eq-eqb (c .before .before .refusal-of .result) 0 (c .before .if1 .left) in
+    c .run .ensures ∙ rw (← (c .before .before .before .core-of .ensures), ← (c .before .before .refusal-of .ensures), accepted)
+
+pub feed-row-spec : {M : Type 1} → statement M
+feed-row-spec =
+    tie.close
+    (tie.spec core-of-requires refusal-of-requires refuse-requires returns run-requires returns-2)

@@ -1,0 +1,114 @@
+-- `hunt_on` leaves the same to do (proofs/Hunts.antt). The invariant: so it was for the digits taken so far.
+use borrow.Author.Needs.{needs}
+use mathlib.Core.Path.{_≡_, sym, _∙_}
+use Prim.Native.Nat.{_+_, _-_, _≤_}
+use native.Mathlib.Omega.{arith}
+use borrow.Author.Tests.{not-false}
+use Rattle.receiver.specs.Hunt.{stillHunting, Hunted}
+use Rattle.receiver.proofs.Hunts.{hunting-core, hunted-none, hunted-begin, hunted-is, hunted-more}
+use Rattle.receiver.proofs.modes.hunt_on.Statement.{statement}
+use Rattle.receiver.proofs.modes.hunt_on.Tie as tie
+
+abbrev Inv-loop : tie.InvT-loop
+Inv-loop row mask piece first end seen last window₀ at₀ window at = (at ≤ last) × (last + 1 ≡ end) × (seen ≤ row .len) × Hunted row piece end first (stillHunting row window₀ seen) at (stillHunting row window (seen + (at - first)))
+
+abbrev μ-loop : tie.MeasureT-loop
+μ-loop row mask piece first end seen last window₀ at₀ window at = last - at
+
+is-hunting-requires : tie.Need-is-hunting-requires Inv-loop μ-loop
+is-hunting-requires c κs = search needs
+
+returns : tie.Need-returns Inv-loop μ-loop
+returns c = let b = c .before .before .before in hunted-none (b .args .row) (b .pre .0) _ _ _ _ (b .pre .2) (b .pre .4)
+
+sub-last : tie.Need-sub-last Inv-loop μ-loop
+sub-last c = omega arith
+
+loop-holds : tie.Need-loop-holds Inv-loop μ-loop
+loop-holds c =
+    let b = c .before .before .before in
+    let hunts = sym (c .before .is-hunting .ensures) ∙ not-false _ (c .if1 .left) in
+    (omega arith, omega arith, b .pre .2 .seen, hunted-begin (b .args .row) (b .pre .0) _ _ _ _ (b .pre .2) hunts (b .pre .4))
+
+digit-at-requires : tie.Need-digit-at-requires Inv-loop μ-loop
+digit-at-requires c κs = omega arith
+
+window-of-requires : tie.Need-window-of-requires Inv-loop μ-loop
+unfolding stillHunting
+window-of-requires c κs = (c .before .before .before .before .before .before .pre .0, c .before .before .before .before .before .before .pre .1, c .before .before .loop .inv .3 .valid .window, c .digit-at .ensures .1)
+
+is-good-requires : tie.Need-is-good-requires Inv-loop μ-loop
+is-good-requires c κs = search needs
+
+sub-still-hunting : tie.Need-sub-still-hunting Inv-loop μ-loop
+sub-still-hunting c = omega (arith, c .before .before .before .before .before .loop .inv .3 .from)
+
+add-still-hunting : tie.Need-add-still-hunting Inv-loop μ-loop
+add-still-hunting c = omega (arith, c .before .before .before .before .before .loop .inv .3 .from)
+
+still-hunting-requires : tie.Need-still-hunting-requires Inv-loop μ-loop
+still-hunting-requires c κs = search needs
+
+returns-2 : tie.Need-returns-2 Inv-loop μ-loop
+returns-2 c =
+    let b = c .before .before .before .before .before .before .before .before .before .before in
+    let hunts = sym (c .before .before .before .before .before .before .before .before .is-hunting .ensures) ∙ not-false _ (c .before .before .before .before .before .before .before .if1 .left) in
+    hunted-is (b .args .row) (b .pre .0) _ _ _ _ _ _ _ _ (hunting-core (b .args .row) _ (b .pre .2) hunts) (c .still-hunting .ensures) (c .before .before .before .before .before .before .loop .inv .3)
+
+add-at : tie.Need-add-at Inv-loop μ-loop
+add-at c = omega arith
+
+loop-less : tie.Need-loop-less Inv-loop μ-loop
+loop-less c = omega (arith, c .before .before .before .before .loop-test)
+
+loop-again : tie.Need-loop-again Inv-loop μ-loop
+loop-again c =
+    let b = c .before .before .before .before .before .before .before .before .before in
+    let l = c .before .before .before .before .before .loop in
+    let n : b .args .c .seen + (l .at + 1 - b .args .first) ≡ b .args .c .seen + (l .at - b .args .first) + 1 = omega (arith, l .inv .3 .from) in
+    let bad = sym (c .before .is-good .ensures) ∙ c .if2 .left in (
+      omega arith,
+      l .inv .1,
+      l .inv .2,
+      rw n (hunted-more (b .args .row) (b .pre .0) _ _ _ _ (l .at) (l .window) _ _ _ (l .inv .3) (omega arith) (b .pre .5) (c .before .before .before .digit-at .ensures .0) (c .before .before .window-of .ensures) bad),
+    )
+
+sub-still-hunting-2 : tie.Need-sub-still-hunting-2 Inv-loop μ-loop
+sub-still-hunting-2 c = omega (arith, c .before .loop .inv .3 .from)
+
+add-still-hunting-2 : tie.Need-add-still-hunting-2 Inv-loop μ-loop
+add-still-hunting-2 c = omega (arith, c .before .loop .inv .3 .from)
+
+still-hunting-requires-2 : tie.Need-still-hunting-requires-2 Inv-loop μ-loop
+still-hunting-requires-2 c κs = search needs
+
+returns-3 : tie.Need-returns-3 Inv-loop μ-loop
+returns-3 c =
+    let b = c .before .before .before .before .before .before in
+    let hunts = sym (c .before .before .before .before .is-hunting .ensures) ∙ not-false _ (c .before .before .before .if1 .left) in
+    hunted-is (b .args .row) (b .pre .0) _ _ _ _ _ _ _ _ (hunting-core (b .args .row) _ (b .pre .2) hunts) (c .still-hunting2 .ensures) (c .before .before .loop .inv .3)
+
+pub hunt-on-spec : {M : Type 1} → statement M
+hunt-on-spec =
+    tie.close
+    (tie.spec
+    Inv-loop
+    μ-loop
+    is-hunting-requires
+    returns
+    sub-last
+    loop-holds
+    digit-at-requires
+    window-of-requires
+    is-good-requires
+    sub-still-hunting
+    add-still-hunting
+    still-hunting-requires
+    returns-2
+    add-at
+    loop-less
+    loop-again
+    sub-still-hunting-2
+    add-still-hunting-2
+    still-hunting-requires-2
+    returns-3)

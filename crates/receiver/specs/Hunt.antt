@@ -1,0 +1,20 @@
+-- The hunt in a hurry: what an inner function of the run promises. What is left to do after it is what was to do before.
+use mathlib.Core.Path.{_≡_}
+use mathlib.Core.List.{List}
+use Prim.Native.Nat.{ℕ, _+_, _-_, _≤_, _<_, min}
+use Rattle.levels.specs.declared.table.Row.{Row}
+use Rattle.receiver.specs.declared.Mode.the-variants.{Hunting}
+use Rattle.receiver.specs.declared.modes.Core.{Core}
+use Rattle.receiver.specs.Feed.{stateOf, runOf, pieceOf, Valid}
+
+unfoldable pub stillHunting : Row → ℕ → ℕ → Core
+stillHunting row w came = record { window = w; seen = min came (row .len); mode = Hunting; place = 0 }
+
+-- from core c at digit p of a slice, of which the digits before `end` are to be taken, it went to core c′ at digit at
+pub record Hunted (row : Row) (slice : List ℕ) (end p : ℕ) (c : Core) (at : ℕ) (c′ : Core) : Type 0 where
+  pub valid : Valid row c′
+  pub from : p ≤ at
+  pub before : at < end
+  pub same : (level taken : ℕ) (f : List ℕ)
+      → runOf row (pieceOf slice p (end - p)) taken (stateOf level c f)
+      ≡ runOf row (pieceOf slice at (end - at)) (taken + (at - p)) (stateOf level c′ f)

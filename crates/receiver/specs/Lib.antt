@@ -1,0 +1,5 @@
+pub mod Modes
+pub mod Frame
+pub mod Feed
+pub mod Hunt
+pub mod History

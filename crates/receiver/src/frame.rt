@@ -1,0 +1,86 @@
+// The frame in hand: what a digit does to it, when it is handed over, and its mark.
+use crate::Mode;
+use crate::modes::Core;
+use levels::table::Row;
+ghost use mathlib.Core.Path.{_≡_};
+ghost use Prim.Native.Nat.{_+_, _*_, _-_, _^_, _<_, _≤_};
+ghost use lib.ListN.{length};
+ghost use Rattle.digits.specs.Digits.{digitsOf};
+ghost use Rattle.levels.specs.Table.{Shared};
+ghost use Rattle.receiver.specs.Feed.{Valid};
+ghost use Rattle.receiver.specs.Frame.{begun, put, keepOf, aligned, readyOf, onesFrom, markOf};
+
+// Cleared, with the L digits of the window first: they are the first digits of the first two bytes.
+fn begin(row: Row, shift: usize, window: usize, f: &mut [u8; 366])
+    requires { ⌜ Shared row × (shift + row .len ≡ 16) × (window < 2 ^ row .len) ⌝ }
+    ensures { λ _. ⌜ now (f .exit) ≡ begun row window ⌝ }
+{
+    let head = window << shift;
+    *f = [0u8; 366];
+    f[0] = (head / 256) as u8;
+    f[1] = (head % 256) as u8;
+}
+
+// The digit put at a place of the frame.
+fn put_at(f: &mut [u8; 366], p: usize, d: u8)
+    requires { ⌜ (p < 2928) × (d < 2) ⌝ }
+    ensures { λ _. ⌜ now (f .exit) ≡ put (now (f .entry)) p d ⌝ }
+{
+    digits::put_digit(f, p, d);
+}
+
+// What the digit does to the frame in hand; c is the core that the digit made.
+pub fn keep(row: Row, shift: usize, c: Core, d: u8, f: &mut [u8; 366])
+    requires { ⌜ Shared row × (shift + row .len ≡ 16) × Valid row c × (d < 2) ⌝ }
+    ensures { λ _. ⌜ now (f .exit) ≡ keepOf row c d (now (f .entry)) ⌝ }
+{
+    let mode = c.mode;
+    if crate::modes::is_hunting(mode) {
+        return;
+    }
+    if c.place == 0 {
+        begin(row, shift, c.window, f);
+        return;
+    }
+    if c.place <= row.digits - row.len {
+        put_at(f, row.len - 1 + c.place, d);
+    }
+}
+
+fn is_aligned(mode: Mode) -> bool
+    ensures { λ r. ⌜ r ≡ aligned mode ⌝ }
+{
+    match mode {
+        Mode::Hunting => false,
+        Mode::OneFound => false,
+        Mode::TwoFound => false,
+        Mode::Aligned(_) => true,
+    }
+}
+
+// Whether a frame is handed over.
+pub fn is_ready(row: Row, c: Core) -> bool
+    requires { ⌜ Shared row ⌝ }
+    ensures { λ r. ⌜ r ≡ readyOf row c ⌝ }
+{
+    let mode = c.mode;
+    if is_aligned(mode) {
+        return c.place == row.digits - row.len;
+    }
+    false
+}
+
+// The mark: whether every digit after the word is 1.
+pub fn is_all_ones(row: Row, f: &[u8; 366]) -> bool
+    requires { ⌜ Shared row ⌝ }
+    ensures { λ r. ⌜ r ≡ markOf row (now (f .entry)) ⌝ }
+{
+    let mut p = row.len;
+    while p < row.digits {
+        if digits::digit_at(f, p) != 1 {
+            return false;
+        }
+        p += 1;
+    }
+    true
+}

@@ -1,0 +1,213 @@
+// The receiver: finding frames in a stream of digits. Two calls, `fresh` and `feed`; a state goes in by value and comes
+// back by value. Each answer equals a definition of specs/Feed.antt, for any state and any piece whatever.
+mod frame;
+mod modes;
+
+use crate::modes::Core;
+use levels::table::Level;
+use levels::table::Row;
+ghost use mathlib.Core.Path.{_≡_};
+ghost use Prim.Native.Nat.{ℕ, _+_, _*_, _-_, _^_, _<_, _≤_};
+ghost use lib.ListN.{length, take, drop};
+ghost use Rattle.digits.specs.Digits.{digitsOf};
+ghost use Rattle.levels.specs.Table.{Shared};
+ghost use Rattle.receiver.specs.Feed.{Valid, coreOf, stateOf, pieceOf, invalid, refusalOf, refused, accepted, runOf, feedRow, feedOf, freshState, freshOf};
+
+pub enum Mode {
+    Hunting,
+    OneFound,
+    TwoFound,
+    Aligned(u8),
+}
+
+// The level, the last L digits (the newest worth 1), how many digits came since reset (stopping at L), the mode, the
+// place, and the frame in hand.
+pub struct State {
+    pub level: u64,
+    pub window: usize,
+    pub seen: usize,
+    pub mode: Mode,
+    pub place: usize,
+    pub frame: [u8; 366],
+}
+
+// What making a fresh state gives.
+pub struct Made {
+    pub refusal: u64,
+    pub state: State,
+}
+
+// What a piece gives: digits taken, whether a frame is ready (it is in the state), and whether it is marked all-ones.
+pub struct Fed {
+    pub refusal: u64,
+    pub taken: usize,
+    pub ready: bool,
+    pub ones: bool,
+    pub state: State,
+}
+
+fn fresh_state(level: u64) -> State
+    ensures { λ r. ⌜ r ≡ freshState level ⌝ }
+{
+    State {
+        level,
+        window: 0,
+        seen: 0,
+        mode: Mode::Hunting,
+        place: 0,
+        frame: [0u8; 366],
+    }
+}
+
+// A fresh state of a level.
+pub fn fresh(level: u64) -> Made
+    ensures { λ r. ⌜ r ≡ freshOf level ⌝ }
+{
+    match levels::table::level_of(level) {
+        Level::Of(_) => Made {
+            refusal: 0,
+            state: fresh_state(level),
+        },
+        Level::NoSuchLevel => Made {
+            refusal: 1,
+            state: fresh_state(0),
+        },
+    }
+}
+
+fn core_of(s: State) -> Core
+    ensures { λ r. ⌜ r ≡ coreOf s ⌝ }
+{
+    let mode = s.mode;
+    Core {
+        window: s.window,
+        seen: s.seen,
+        mode,
+        place: s.place,
+    }
+}
+
+// Whether a state of this row is refused with 6, item by item.
+fn is_invalid(row: Row, c: Core) -> bool
+    requires { ⌜ Shared row ⌝ }
+    ensures { λ r. ⌜ r ≡ invalid row c ⌝ }
+{
+    let mode = c.mode;
+    if modes::mask_of(row) < c.window {
+        return true;
+    }
+    if row.len < c.seen {
+        return true;
+    }
+    if 3 < modes::missed_of(mode) {
+        return true;
+    }
+    if row.digits <= c.place {
+        return true;
+    }
+    if modes::is_hunting(mode) {
+        return c.place != 0;
+    }
+    c.seen < row.len
+}
+
+// The refusal of a piece, given the row of the state's level. The sum of first and count may be too large for a number.
+fn refusal_of(row: Row, c: Core, bytes: usize, first: usize, count: usize) -> u64
+    requires { ⌜ Shared row ⌝ }
+    ensures { λ r. ⌜ r ≡ refusalOf row c bytes first count ⌝ }
+{
+    if is_invalid(row, c) {
+        return 6;
+    }
+    if 65536 < bytes {
+        return 2;
+    }
+    if 8 * bytes < first {
+        return 7;
+    }
+    if 8 * bytes - first < count {
+        return 7;
+    }
+    0
+}
+
+fn refuse(refusal: u64, s: State) -> Fed
+    ensures { λ r. ⌜ r ≡ refused refusal s ⌝ }
+{
+    Fed {
+        refusal,
+        taken: 0,
+        ready: false,
+        ones: false,
+        state: s,
+    }
+}
+
+fn accept(level: u64, c: Core, f: [u8; 366], taken: usize, ready: bool, ones: bool) -> Fed
+    ensures { λ r. ⌜ r ≡ accepted (stateOf level c f) taken ready ones ⌝ }
+{
+    let mode = c.mode;
+    Fed {
+        refusal: 0,
+        taken,
+        ready,
+        ones,
+        state: State {
+            level,
+            window: c.window,
+            seen: c.seen,
+            mode,
+            place: c.place,
+            frame: f,
+        },
+    }
+}
+
+// The run over an accepted piece. The core goes round by value, the array is lent.
+fn run(row: Row, s: State, piece: &[u8], first: usize, count: usize) -> Fed
+    requires { ⌜ Shared row × Valid row (coreOf s) × (length (now piece) ≤ 65536) × (first + count ≤ 8 * length (now piece)) ⌝ }
+    ensures { λ r. ⌜ r ≡ runOf row (pieceOf (now (piece .entry)) first count) 0 s ⌝ }
+{
+    let level = s.level;
+    let mask = modes::mask_of(row);
+    let shift = 16 - row.len;
+    let mut c = core_of(s);
+    let mut f = s.frame;
+    let end = first + count;
+    let mut p = first;
+    while p < end {
+        let h = modes::hunt_on(row, mask, c, piece, p, end);
+        p = h.at;
+        let d = digits::digit_at(piece, p);
+        c = modes::step(row, mask, h.core, d);
+        frame::keep(row, shift, c, d, &mut f);
+        p += 1;
+        if frame::is_ready(row, c) {
+            let ones = frame::is_all_ones(row, &f);
+            return accept(level, c, f, p - first, true, ones);
+        }
+    }
+    accept(level, c, f, p - first, false, false)
+}
+
+fn feed_row(row: Row, s: State, piece: &[u8], first: usize, count: usize) -> Fed
+    requires { ⌜ Shared row ⌝ }
+    ensures { λ r. ⌜ r ≡ feedRow row s (now (piece .entry)) first count ⌝ }
+{
+    let refusal = refusal_of(row, core_of(s), piece.len(), first, count);
+    if refusal != 0 {
+        return refuse(refusal, s);
+    }
+    run(row, s, piece, first, count)
+}
+
+// Feeds count digits of the piece, from digit first on, and stops after the digit that completes a frame.
+pub fn feed(s: State, piece: &[u8], first: usize, count: usize) -> Fed
+    ensures { λ r. ⌜ r ≡ feedOf s (now (piece .entry)) first count ⌝ }
+{
+    let level = s.level;
+    match levels::table::level_of(level) {
+        Level::Of(row) => feed_row(row, s, piece, first, count),
+        Level::NoSuchLevel => refuse(6, s),
+    }
+}
