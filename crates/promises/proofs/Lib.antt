@@ -1,1 +1,12 @@
 pub mod Cases
+pub mod Lists
+pub mod Sent
+pub mod Reading
+pub mod Order
+pub mod Recovered
+pub mod Others
+pub mod RoundTrip
+pub mod Accepted
+pub mod Calls
+pub mod Levels
+pub mod Border

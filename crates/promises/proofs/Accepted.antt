@@ -1,0 +1,259 @@
+-- What an accepted call is over its level's row: the line, the counts, the notes and the quarters as the theorems speak of them.
+use mathlib.Core.Path.{_≡_, refl, sym, _∙_, ap}
+use mathlib.Core.Bool.{Bool, cond, true, false}
+use mathlib.Core.List.{List, [], _∷_, _++_, append-assoc, append-nil}
+use Prim.Native.Nat.{ℕ, zero, suc, _+_, _*_, _-_, _/_, _^_, _≤_, _<_}
+use native.Mathlib.Omega.{arith}
+use native.Mathlib.Decide.{ℕ-discrete}
+use native.Mathlib.Nat.{mul-left-comm, not-suc-le-zero}
+use lib.Dec.{eqb, ltb, leb}
+use lib.ListN.{length, getD, take, replicate, length-append, length-map, length-replicate}
+use lib.Seq.{take-at}
+use borrow.Author.Tests.{eq-eqb, ne-eqb, ltb-false, leb-false}
+use Rattle.digits.specs.Digits.{digitsOf, Binary}
+use Rattle.digits.proofs.Laws.{digits-length, digits-binary, digits-of-bytes, bytes-length, tab-length}
+use Rattle.levels.specs.declared.table.Row.{Row}
+use Rattle.levels.specs.declared.table.Level.{Level}
+use Rattle.levels.specs.declared.table.Level.the-variants.{Of, NoSuchLevel}
+use Rattle.levels.specs.Table.{Shared, levelOf}
+use Rattle.levels.specs.Sizes.{onLevel, framesOf, sizeRefusal, quarterOf, Accepted}
+use Rattle.levels.specs.Order.{decisions, countOf, countsOf, placesOf}
+use Rattle.levels.proofs.Rows.{shared-row}
+use Rattle.levels.proofs.Counts.{line-count}
+use Rattle.levels.proofs.Columns.{columns, frame-start}
+use Rattle.levels.proofs.Inverse.{places-length}
+use Rattle.levels.proofs.Judged.{accepted}
+use Rattle.multiplex.specs.declared.Multiplexed.{Multiplexed}
+use Rattle.multiplex.specs.Line.{lineDigit}
+use Rattle.multiplex.specs.Multiplex.{firstOver, firstFaulty, refusalOn, multiplexed}
+use Rattle.multiplex.specs.Multiplex as send
+use Rattle.multiplex.proofs.Passes.{quarter-length, line-few}
+use Rattle.demultiplex.specs.declared.Demultiplexed.{Demultiplexed}
+use Rattle.demultiplex.specs.Notes.{notesOf}
+use Rattle.demultiplex.specs.Extract.{takenTo, quarterFrom, quartersFrom}
+use Rattle.demultiplex.specs.Demultiplex.{demultiplexed, bufferAfter}
+use Rattle.demultiplex.specs.Demultiplex as read
+use Rattle.promises.specs.Damage.{lineDigits}
+use Rattle.promises.specs.Carried.{Sound, digitsRead}
+use Rattle.promises.specs.Calls.{Lent, SendAccepted, sentLine, sentCounts, ReadAccepted, readNotes, readDigits}
+use Rattle.promises.proofs.Lists.{of-four, map-binary, binary-append, zeros-binary, quarter-at}
+use Rattle.promises.proofs.RoundTrip.{line-binary}
+
+-- an answer that the call on no level does not give was given on a level's row
+some-level : {A : Type 0} (P : A → Type 0) (level : Level) (go : Row → A) (none : A) → (P none → ⊥) → P (onLevel level go none) → (row : Row) × (level ≡ Of row)
+some-level P (Of row) go none n h = (row, refl)
+some-level P NoSuchLevel go none n h = absurd (n h)
+
+pub send-level : (level : ℕ) (c : Lent) → SendAccepted level c → (row : Row) × (levelOf level ≡ Of row)
+send-level level c ok =
+    some-level (λ (r : Multiplexed). r .refusal ≡ 0) (levelOf level) (λ (row : Row). send.answerOn row (length (c .line)) (c .notes) (length (c .buffer))) (send.refusedWith 1 0) (λ e. omega arith) ok
+
+pub read-level : (level : ℕ) (c : Lent) → ReadAccepted level c → (row : Row) × (levelOf level ≡ Of row)
+read-level level c ok =
+    some-level (λ (r : Demultiplexed). r .refusal ≡ 0) (levelOf level) (λ (row : Row). read.answerOn row (c .line) (length (c .notes)) (length (c .buffer))) (read.refusedWith 1) (λ e. omega arith) ok
+
+-- an answer that is given by a refusal number is accepted where that number is 0
+zero-refusal : {A : Type 0} (refusal : A → ℕ) (n : ℕ) (sent refused : A) → refusal refused ≡ n → refusal (cond (eqb n 0) sent refused) ≡ 0 → n ≡ 0
+zero-refusal refusal n sent refused r e =
+    elim (ℕ-discrete n 0) [
+      | yes z ↦ z
+      | no z ↦ sym r ∙ rw (ne-eqb n 0 z) at e
+    ]
+
+-- no note is at or over a limit that none was found to be
+none-over : (limit : ℕ) (notes : List ℕ) → length notes ≤ firstOver limit notes → (f : ℕ) → f < length notes → getD notes f 0 < limit
+unfolding firstOver
+none-over limit [] h f hf = absurd (not-suc-le-zero hf)
+none-over limit (x ∷ xs) h f hf = go (leb limit x) refl h (none-over limit xs) f hf
+  where
+    go : (t : Bool) → leb limit x ≡ t → suc (length xs) ≤ cond t 0 (suc (firstOver limit xs))
+        → (length xs ≤ firstOver limit xs → (f : ℕ) → f < length xs → getD xs f 0 < limit) → (f : ℕ) → f < suc (length xs) → getD (x ∷ xs) f 0 < limit
+    go true e h rest f hf = absurd (not-suc-le-zero h)
+    go false e h rest zero hf = leb-false limit x e
+    go false e h rest (suc f) hf = rest (omega arith) f (omega arith)
+
+-- the tests of the lengths and of the notes, where none refuses
+no-refusal : (size : ℕ) (faulty : Bool) → cond {A = ℕ} (eqb size 0) (cond faulty 5 0) size ≡ 0 → (size ≡ 0) × (faulty ≡ false)
+no-refusal size faulty e =
+    elim (ℕ-discrete size 0) [
+      | yes z ↦ (z, note faulty (rw (eq-eqb size 0 z) at e))
+      | no n ↦ absurd (n (rw (ne-eqb size 0 n) at e))
+    ]
+  where
+    note : (t : Bool) → cond {A = ℕ} t 5 0 ≡ 0 → t ≡ false
+    note true e = absurd (five e)
+      where
+        five : _≡_ {A = ℕ} 5 0 → ⊥
+        five e = omega arith
+    note false e = refl
+
+-- the count of a tributary is its own of the four
+pub count-at : (row : Row) (notes : List ℕ) (F j : ℕ) → j < 4 → getD (countsOf row notes F) j 0 ≡ countOf row (decisions notes j) F
+count-at row notes F = of-four (λ (j : ℕ). getD (countsOf row notes F) j 0 ≡ countOf row (decisions notes j) F) refl refl refl refl
+
+-- the quarters that an extraction leaves are those of its tributaries
+quarter-is : (row : Row) (notes line : List ℕ) (q j : ℕ) → j < 4 → quarterOf (quartersFrom row notes line q) j ≡ quarterFrom row notes line q j
+unfolding quartersFrom quarterFrom
+quarter-is row notes line q =
+    of-four (λ (j : ℕ). quarterOf all j ≡ part j)
+    (quarter-at all [] (part 0) (part 1 ++ (part 2 ++ part 3)) 0 q refl size (omega arith) (long 0))
+    (quarter-at all (part 0) (part 1) (part 2 ++ part 3) 1 q refl size (omega (arith, long 0)) (long 1))
+    (quarter-at all (part 0 ++ part 1) (part 2) (part 3) 2 q (sym (append-assoc (part 0) (part 1) (part 2 ++ part 3))) size (two ∙ omega arith) (long 2))
+    (quarter-at all ((part 0 ++ part 1) ++ part 2) (part 3) [] 3 q last size (length-append (part 0 ++ part 1) (part 2) ∙ omega (arith, two, long 2)) (long 3))
+  where
+    part : ℕ → List ℕ
+    part j = quarterFrom row notes line q j
+
+    long : (j : ℕ) → length (part j) ≡ q
+    long j = bytes-length q _
+
+    all : List ℕ
+    all = part 0 ++ (part 1 ++ (part 2 ++ part 3))
+
+    two : length (part 0 ++ part 1) ≡ q + q
+    two = length-append (part 0) (part 1) ∙ omega (arith, long 0, long 1)
+
+    last : all ≡ ((part 0 ++ part 1) ++ part 2) ++ (part 3 ++ [])
+    last = simp (append-nil, append-assoc)
+
+    size : length all ≡ 4 * q
+    size = simp length-append (omega (arith, long 0, long 1, long 2, long 3))
+
+-- a quarter with room for a tributary's digits holds them, and zeros after them
+quarter-digits : (row : Row) (notes line taken : List ℕ) (q j : ℕ) → takenTo row notes (digitsOf line) j (2 * length line) ≡ taken → length taken ≤ 8 * q
+    → digitsOf (quarterFrom row notes line q j) ≡ taken ++ replicate (8 * q - length taken) 0
+unfolding quarterFrom takenTo
+quarter-digits row notes line taken q j e room =
+    let zeros = replicate {A = ℕ} (8 * q - length taken) 0 in
+    rw e
+    (digits-of-bytes q (taken ++ zeros) (binary-append taken zeros (rw e at small) (zeros-binary (8 * q - length taken)))
+    (length-append taken zeros ∙ omega (arith, length-replicate {A = ℕ} (8 * q - length taken) 0)))
+  where
+    small : Binary (takenTo row notes (digitsOf line) j (2 * length line))
+    small = map-binary (λ (p : ℕ). getD (digitsOf line) p 0) (placesOf row (decisions notes j) j (2 * length line)) (λ i. digits-binary line i)
+
+-- a tributary has as many digits as are counted
+pub taken-length : (row : Row) → Shared row → (notes ds : List ℕ) (F j : ℕ) → j < 4 → length (takenTo row notes ds j (F * columns row)) ≡ countOf row (decisions notes j) F
+unfolding takenTo countOf
+taken-length row sh notes ds F j hj =
+    length-map (placesOf row (decisions notes j) j (F * columns row)) (λ (p : ℕ). getD ds p 0)
+    ∙ places-length row (decisions notes j) j (F * columns row)
+    ∙ omega (arith, line-count row sh j hj (decisions notes j) F)
+
+-- the digits of a line of accepted length are those of its frames
+line-places : (row : Row) → Shared row → (line notes buffer : ℕ) → Accepted row line notes buffer → 8 * line ≡ notes * row .digits
+line-places row sh line notes buffer sizes =
+    let whole : line ≡ notes * row .bytes = sizes .frames ∙ ap (λ (F : ℕ). F * row .bytes) (sym (sizes .noted)) in
+    ap (λ (n : ℕ). 8 * n) whole ∙ mul-left-comm 8 notes (row .bytes) ∙ ap (λ (n : ℕ). notes * n) (sym (sh .packed))
+
+module _ (level : ℕ) (row : Row) (e : levelOf level ≡ Of row) where
+  pub shared : Shared row
+  shared = shared-row level row e
+
+  -- an accepted send
+  module _ (c : Lent) (ok : SendAccepted level c) where
+    abbrev F : ℕ
+    F = length (c .notes)
+
+    abbrev pub tributary : ℕ → List ℕ
+    tributary j = digitsOf (quarterOf (c .buffer) j)
+
+    abbrev refusal : ℕ
+    refusal = refusalOn row (length (c .line)) (c .notes) (length (c .buffer))
+
+    unrefused : refusal ≡ 0
+    unrefused = zero-refusal (λ (r : Multiplexed). r .refusal) refusal (send.sent row (c .notes)) (send.refusedWith refusal (cond (eqb refusal 5) (firstFaulty row (c .notes)) 0)) refl (rw e at ok)
+
+    tests : (sizeRefusal row (length (c .line)) F (length (c .buffer)) ≡ 0) × (ltb (firstFaulty row (c .notes)) F ≡ false)
+    unfolding refusalOn
+    tests = no-refusal (sizeRefusal row (length (c .line)) F (length (c .buffer))) (ltb (firstFaulty row (c .notes)) F) unrefused
+
+    sizes : Accepted row (length (c .line)) F (length (c .buffer))
+    sizes = accepted row (length (c .line)) F (length (c .buffer)) (tests .0)
+
+    pub send-places : 8 * length (c .line) ≡ F * row .digits
+    send-places = line-places row shared (length (c .line)) F (length (c .buffer)) sizes
+
+    pub send-sound : Sound row F (c .notes) tributary
+    send-sound =
+        record {
+          all-noted = refl;
+          notes-fit = none-over (2 ^ (5 + row .nationals)) (c .notes) (ltb-false (firstFaulty row (c .notes)) F (tests .1));
+          digits = λ j hj. digits-binary (quarterOf (c .buffer) j);
+          room = λ j hj. rw (digits-length, quarter-length (c .buffer) j hj) (line-few row (c .notes) (c .buffer) (c .line) sizes .1);
+        }
+
+    pub send-line : digitsOf (sentLine level c) ≡ lineDigits row (c .notes) tributary F
+    send-line =
+        rw (e, eq-eqb refusal 0 unrefused, send-places)
+        (digits-of-bytes (length (c .line)) (lineDigits row (c .notes) tributary F) (line-binary row (c .notes) tributary (send-sound .digits) F)
+        (tab-length (F * row .digits) 0 (lineDigit row (c .notes) tributary) ∙ sym send-places))
+
+    send-answer : multiplexed level (length (c .line)) (c .notes) (length (c .buffer)) ≡ send.sent row (c .notes)
+    send-answer = rw (e, eq-eqb refusal 0 unrefused)
+
+    pub send-counts : sentCounts level c ≡ countsOf row (c .notes) F
+    send-counts = ap (λ (r : Multiplexed). r .counts) send-answer
+
+  -- an accepted reading
+  module _ (c : Lent) (ok : ReadAccepted level c) where
+    abbrev frames : ℕ
+    frames = length (c .notes)
+
+    abbrev ds : List ℕ
+    ds = digitsOf (c .line)
+
+    abbrev notes : List ℕ
+    notes = notesOf row ds frames
+
+    abbrev size : ℕ
+    size = sizeRefusal row (length (c .line)) frames (length (c .buffer))
+
+    accepted-size : size ≡ 0
+    accepted-size = zero-refusal (λ (r : Demultiplexed). r .refusal) size (read.received row notes ds frames) (read.refusedWith size) refl (rw e at ok)
+
+    read-sizes : Accepted row (length (c .line)) frames (length (c .buffer))
+    read-sizes = accepted row (length (c .line)) frames (length (c .buffer)) accepted-size
+
+    pub read-places : 8 * length (c .line) ≡ frames * row .digits
+    read-places = line-places row shared (length (c .line)) frames (length (c .buffer)) read-sizes
+
+    pub read-frames : framesOf row (length (c .line)) ≡ frames
+    read-frames = sym (read-sizes .noted)
+
+    pub read-answer : demultiplexed level (c .line) frames (length (c .buffer)) ≡ read.received row notes ds frames
+    read-answer = rw (e, eq-eqb size 0 accepted-size)
+
+    pub read-notes : readNotes level c ≡ notes
+    read-notes = rw (e, eq-eqb size 0 accepted-size)
+
+    pub read-digits : (j : ℕ) → j < 4 → readDigits level c j ≡ digitsRead row frames ds j
+    unfolding countOf
+    read-digits j hj =
+        rw (ap (λ (r : Demultiplexed). r .counts) read-answer, count-at row notes frames j hj)
+        (ap (λ (l : List ℕ). take count (digitsOf l)) part
+        ∙ ap (λ (l : List ℕ). take count l) (quarter-digits row notes (c .line) taken q j whole (omega (arith, long, room)))
+        ∙ take-at taken (replicate (8 * q - length taken) 0) count long)
+      where
+        q : ℕ
+        q = length (c .buffer) / 4
+
+        count : ℕ
+        count = countOf row (decisions notes j) frames
+
+        taken : List ℕ
+        taken = digitsRead row frames ds j
+
+        long : length taken ≡ count
+        long = taken-length row shared notes ds frames j hj
+
+        room : frames * row .n ≤ 8 * q
+        room = line-few row (c .notes) (c .buffer) (c .line) read-sizes .1
+
+        whole : takenTo row notes ds j (2 * length (c .line)) ≡ taken
+        whole =
+            let all : 2 * length (c .line) ≡ frames * columns row = omega (arith, read-places, frame-start row shared j hj frames) in
+            rw all
+
+        part : quarterOf (bufferAfter level (c .line) frames (c .buffer)) j ≡ quarterFrom row notes (c .line) q j
+        part = rw (e, eq-eqb size 0 accepted-size) (quarter-is row notes (c .line) q j hj)

@@ -1,0 +1,241 @@
+-- The theorems of demand 3 are not empty, and their border is where the letter has it: as much damage as is allowed is damage, of any
+-- line; with one control digit more it is none, and two different sends meet.
+use mathlib.Core.Path.{_≡_, refl, sym, _∙_}
+use mathlib.Core.Bool.{Bool, cond, true, false, not, true≢false}
+use mathlib.Core.List.{List, [], _∷_}
+use Prim.Native.Nat.{ℕ, zero, suc, _+_, _*_, _-_, _/_, _%_, _≤_, _<_, min}
+use native.Mathlib.Omega.{arith}
+use native.Mathlib.Decide.{decLe}
+use native.Mathlib.Nat.{zero-add, lt-of-mul-lt-mul-right}
+use lib.Dec.{eqb, lit<}
+use lib.ListN.{length, getD, replicate, length-replicate, getD-replicate}
+use lib.Seq.{ext-getD}
+use lib.Pow.{pow-mono}
+use borrow.Author.Tests.{le-leb, lt-leb}
+use Rattle.digits.specs.Digits.{digitsOf, bytesOf, tab, Binary}
+use Rattle.digits.proofs.Laws.{by-digit, digits-binary, tab-at, tab-length}
+use Rattle.levels.specs.declared.table.Row.{Row}
+use Rattle.levels.specs.declared.places.ServiceDigit.the-variants.{RemoteAlarm, FirstNational, SecondNational, ThirdNational}
+use Rattle.levels.specs.declared.places.Kind.{Kind}
+use Rattle.levels.specs.declared.places.Kind.the-variants.{Word, Service, Control, Justification, Tributary}
+use Rattle.levels.specs.Table.{Shared, row2, row3, row4, levelOf}
+use Rattle.levels.specs.Sizes.{sizeRefusal}
+use Rattle.levels.specs.Places.{firstSet, laterSet, kindOf, kindAt, posOf}
+use Rattle.levels.specs.Order.{stuffed, decisions, carries, before}
+use Rattle.levels.specs.Vote.{groupOf}
+use Rattle.levels.proofs.Rows.{shared2, shared3, shared4}
+use Rattle.levels.proofs.Positions.{stands, pos-of-sum}
+use Rattle.levels.proofs.Majority.{group-length}
+use Rattle.levels.proofs.Ways.{kind-control}
+use Rattle.multiplex.specs.Line.{digitBy, lineDigit}
+use Rattle.multiplex.specs.Multiplex.{firstOver, refusalOn}
+use Rattle.promises.specs.Damage.{Liberty, at-will, counted, kept, liberty, libertyAt, groupAt, differing, allowed, DamageUpTo, Damage, lineDigits}
+use Rattle.promises.specs.Carried.{Sound}
+use Rattle.promises.specs.Calls.{SendAccepted, sentLine, DamageAt}
+use Rattle.promises.specs.Border.{inverted, spoilt, changes, early, late, noneStuffed, allStuffed, idle, Border, exampleSend, exampleLine, exampleDamaged, Example}
+use Rattle.promises.proofs.Lists.{of-four, tab-binary, zeros-at, zeros-binary, differing-more}
+use Rattle.promises.proofs.Sent.{control-place, in-line, sent-at}
+use Rattle.promises.proofs.RoundTrip.{line-binary}
+
+inverted-small : (l : Liberty) (change : Bool) (d : ℕ) → d < 2 → inverted l change d < 2
+inverted-small at-will change d h = omega arith
+inverted-small counted true d h = omega arith
+inverted-small counted false d h = h
+inverted-small kept change d h = h
+
+-- a control digit differs where it is changed, and only there
+one-differs : (change : Bool) (d : ℕ) → d < 2 → cond {A = ℕ} (eqb d (cond change (1 - d) d)) 0 1 ≡ cond change 1 0
+one-differs true = by-digit (λ (d : ℕ). cond {A = ℕ} (eqb d (1 - d)) 0 1 ≡ 1) refl refl
+one-differs false = by-digit (λ (d : ℕ). cond {A = ℕ} (eqb d d) 0 1 ≡ 0) refl refl
+
+module _ (row : Row) (sh : Shared row) (notes : List ℕ) (change : ℕ → Bool) (F : ℕ) (sent : List ℕ) (bin : Binary sent) where
+  abbrev new : List ℕ
+  new = spoilt row notes change F sent
+
+  new-at : (p : ℕ) → p < F * row .digits → getD new p 0 ≡ inverted (libertyAt row notes p) (change (posOf row p .set)) (getD sent p 0)
+  new-at p h = tab-at (F * row .digits) 0 (λ (p : ℕ). inverted (libertyAt row notes p) (change (posOf row p .set)) (getD sent p 0)) p h ∙ rw (zero-add p)
+
+  -- so many digits of a group are changed as sets are
+  module _ (f j : ℕ) (hf : f < F) (hj : j < 4) where
+    abbrev start : ℕ
+    start = f * row .digits + (row .set + j)
+
+    control-at : (i : ℕ) → i < row .control → getD new (start + i * row .set) 0 ≡ cond (change (i + 1)) (1 - getD sent (start + i * row .set) 0) (getD sent (start + i * row .set) 0)
+    control-at i hi =
+        let p = start + i * row .set in
+        let e = control-place row sh f j i in
+        let hs : i + 1 < row .sets = omega (arith, sh .group) in
+        let hr : j < row .set = omega (arith, sh .room) in
+        new-at p (in-line row sh f (i + 1) j p e hs hr F hf) ∙ rw (pos-of-sum row sh p f (i + 1) j e hs hr, kind-control row sh (i + 1) (omega arith) j hj)
+
+    changed-to : (k : ℕ) → k ≤ row .control → differing (groupOf sent start (row .set) k) (groupOf new start (row .set) k) ≡ changes change k
+    unfolding groupOf differing changes
+    changed-to zero h = refl
+    changed-to (suc k) h =
+        let d = getD sent (start + k * row .set) 0 in
+        let g = groupOf sent start (row .set) k in
+        let g′ = groupOf new start (row .set) k in
+        let one : cond {A = ℕ} (eqb d (getD new (start + k * row .set) 0)) 0 1 ≡ cond (change (k + 1)) 1 0 = rw (control-at k h) (one-differs (change (k + 1)) d (bin (start + k * row .set))) in
+        differing-more g g′ d (getD new (start + k * row .set) 0) (group-length sent start (row .set) k ∙ sym (group-length new start (row .set) k))
+        ∙ omega (arith, changed-to k (omega arith), one)
+
+    pub spoilt-group : differing (groupAt row sent f j) (groupAt row new f j) ≡ changes change (row .control)
+    spoilt-group = changed-to (row .control) (omega arith)
+
+  pub spoilt-damage : DamageUpTo (changes change (row .control)) row notes F sent new
+  spoilt-damage =
+      record {
+        digits = tab-binary (F * row .digits) 0 (λ (p : ℕ). inverted (libertyAt row notes p) (change (posOf row p .set)) (getD sent p 0))
+            (λ p. inverted-small (libertyAt row notes p) (change (posOf row p .set)) (getD sent p 0) (bin p));
+        size = tab-length (F * row .digits) 0 (λ (p : ℕ). inverted (libertyAt row notes p) (change (posOf row p .set)) (getD sent p 0));
+        others-kept = λ p h keep. new-at p h ∙ rw keep;
+        few-controls = λ f j hf hj. omega (arith, spoilt-group f j hf hj);
+      }
+
+-- a set is changed or not
+changes-both : (change : ℕ → Bool) (k : ℕ) → changes change k + changes (λ (s : ℕ). not (change s)) k ≡ k
+unfolding changes
+changes-both change zero = refl
+changes-both change (suc k) = omega (arith, changes-both change k, one (change (k + 1)))
+  where
+    one : (t : Bool) → cond {A = ℕ} t 1 0 + cond (not t) 1 0 ≡ 1
+    one true = refl
+    one false = refl
+
+changes-early : (row : Row) (k : ℕ) → changes (early row) k ≡ min k (allowed row)
+unfolding changes
+changes-early row zero = omega arith
+changes-early row (suc k) =
+    elim (decLe (k + 1) (allowed row)) [
+      | yes h ↦ rw (le-leb (k + 1) (allowed row) h) (omega (arith, changes-early row k))
+      | no h ↦ rw (lt-leb (k + 1) (allowed row) (omega arith)) (omega (arith, changes-early row k))
+    ]
+
+-- of the notes 0 and 15, bits 0 to 3
+none-bit : (j : ℕ) → j < 4 → stuffed 0 j ≡ false
+none-bit = of-four (λ (j : ℕ). stuffed 0 j ≡ false) refl refl refl refl
+
+all-bit : (j : ℕ) → j < 4 → stuffed 15 j ≡ true
+all-bit = of-four (λ (j : ℕ). stuffed 15 j ≡ true) refl refl refl refl
+
+module _ (row : Row) (sh : Shared row) where
+  -- the early sets are as many as digits of a group are allowed to change, the late ones one more
+  early-count : changes (early row) (row .control) ≡ allowed row
+  early-count = omega (arith, changes-early row (row .control))
+
+  late-count : changes (late row) (row .control) ≡ allowed row + 1
+  late-count = omega (arith, changes-both (early row) (row .control), early-count, sh .odd)
+
+  module _ (notes : List ℕ) (F : ℕ) (sent : List ℕ) (bin : Binary sent) where
+    -- every digit that is free inverted, and as many of each group as are allowed, is damage
+    pub all-allowed : Damage row notes F sent (spoilt row notes (early row) F sent)
+    all-allowed = rw early-count at (spoilt-damage row sh notes (early row) F sent bin)
+
+    -- one digit more of a group is none
+    pub one-more : 0 < F → Damage row notes F sent (spoilt row notes (late row) F sent) → ⊥
+    one-more some d =
+        omega (arith, d .few-controls 0 0 some (lit< tt), spoilt-group row sh notes (late row) F sent bin 0 0 some (lit< tt), late-count)
+
+  -- the digits of the two sends, changed, meet at every place
+  meets : (r : ℕ) (early : Bool) (j : ℕ) → j < 4 → (k : Kind)
+      → inverted (liberty k (stuffed 0 j)) early (digitBy row 0 j r 0 k) ≡ inverted (liberty k (stuffed 15 j)) (not early) (digitBy row 15 j r 0 k)
+  meets r early j hj Word = refl
+  meets r early j hj (Service RemoteAlarm) = refl
+  meets r early j hj (Service FirstNational) = refl
+  meets r early j hj (Service SecondNational) = refl
+  meets r early j hj (Service ThirdNational) = refl
+  meets r true j hj Control = rw (none-bit j hj, all-bit j hj)
+  meets r false j hj Control = rw (none-bit j hj, all-bit j hj)
+  meets r early j hj Justification = rw (none-bit j hj, all-bit j hj)
+  meets r early j hj Tributary = refl
+
+  module _ (F : ℕ) where
+    abbrev lineOf : List ℕ → List ℕ
+    lineOf notes = lineDigits row notes (idle row F) F
+
+    -- the same note in every frame, none of bits 6 and 7
+    sound : (note : ℕ) → note < 64 → Sound row F (replicate F note) (idle row F)
+    sound note h =
+        record {
+          all-noted = length-replicate F note;
+          notes-fit = λ f hf. rw (getD-replicate F f note 0 hf) (omega (arith, pow-mono {i = 6} {j = 5 + row .nationals} (omega (arith, sh .some-national))));
+          digits = λ j hj. zeros-binary (F * row .n);
+          room = λ j hj. rw (length-replicate {A = ℕ} (F * row .n) 0) (omega arith);
+        }
+
+    binary : (notes : List ℕ) → Binary (lineOf notes)
+    binary notes = line-binary row notes (idle row F) (λ j hj. zeros-binary (F * row .n)) F
+
+    long : (note : ℕ) (change : ℕ → Bool) → length (spoilt row (replicate F note) change F (lineOf (replicate F note))) ≡ F * row .digits
+    long note change = spoilt-damage row sh (replicate F note) change F (lineOf (replicate F note)) (binary (replicate F note)) .size
+
+    at-place : (note : ℕ) (change : ℕ → Bool) (p : ℕ) → p < F * row .digits
+        → getD (spoilt row (replicate F note) change F (lineOf (replicate F note))) p 0
+        ≡ inverted (liberty (kindAt row p) (stuffed note (p % 4))) (change (posOf row p .set)) (digitBy row note (p % 4) (posOf row p .place) 0 (kindAt row p))
+    at-place note change p h =
+        let notes = replicate F note in
+        let f = posOf row p .frame in
+        let hf : f < F = lt-of-mul-lt-mul-right (row .digits) (omega (arith, stands row sh p .sum)) in
+        new-at row sh notes change F (lineOf notes) (binary notes) p h
+        ∙ rw (sent-at row sh notes (idle row F) F p h, getD-replicate F f note 0 hf, zeros-at (F * row .n) (before row (decisions notes (p % 4)) (p % 4) (p / 4)))
+
+    meet : spoilt row (noneStuffed F) (early row) F (lineOf (noneStuffed F)) ≡ spoilt row (allStuffed F) (late row) F (lineOf (allStuffed F))
+    meet =
+        ext-getD 0 (spoilt row (noneStuffed F) (early row) F (lineOf (noneStuffed F))) (spoilt row (allStuffed F) (late row) F (lineOf (allStuffed F)))
+        (long 0 (early row) ∙ sym (long 15 (late row)))
+        (λ p h.
+        let in-frames : p < F * row .digits = omega (arith, long 0 (early row)) in
+        at-place 0 (early row) p in-frames
+        ∙ meets (posOf row p .place) (early row (posOf row p .set)) (p % 4) (omega arith) (kindAt row p)
+        ∙ sym (at-place 15 (late row) p in-frames))
+
+    pub border : Border row F
+    border =
+        record {
+          line = spoilt row (noneStuffed F) (early row) F (lineOf (noneStuffed F));
+          sound-one = sound 0 (lit< tt);
+          sound-other = sound 15 (lit< tt);
+          from-one = all-allowed (noneStuffed F) F (lineOf (noneStuffed F)) (binary (noneStuffed F));
+          from-other = rw (meet, ← late-count) (spoilt-damage row sh (allStuffed F) (late row) F (lineOf (allStuffed F)) (binary (allStuffed F)));
+          differ = λ j f hj hf e. true≢false (sym (rw (getD-replicate {A = ℕ} F f 0 0 hf, getD-replicate {A = ℕ} F f 15 0 hf, none-bit j hj, all-bit j hj) at e));
+        }
+
+-- at 8448 and at 34368 kbit/s the digit too much is the second of three, at 139264 the third of five
+pub two-of-three : Border row2 1
+two-of-three = border row2 shared2 1
+
+pub two-of-three-at-34368 : Border row3 1
+two-of-three-at-34368 = border row3 shared3 1
+
+pub three-of-five : Border row4 1
+three-of-five = border row4 shared4 1
+
+-- the example, by computation
+example-leaves : sentLine 2 exampleSend ≡ exampleLine
+unfolding levelOf refusalOn sizeRefusal firstOver bytesOf tab lineDigit before carries posOf kindOf firstSet laterSet digitsOf exampleLine
+example-leaves = refl
+
+example-spoilt : spoilt row2 (1 ∷ []) (early row2) 1 (digitsOf exampleLine) ≡ digitsOf exampleDamaged
+unfolding tab posOf kindOf firstSet laterSet digitsOf exampleLine exampleDamaged
+example-spoilt = refl
+
+example-accepted : SendAccepted 2 exampleSend
+unfolding levelOf refusalOn sizeRefusal firstOver
+example-accepted = refl
+
+example-seventeen : differing (digitsOf exampleLine) (digitsOf exampleDamaged) ≡ 17
+unfolding differing digitsOf exampleLine exampleDamaged
+example-seventeen = refl
+
+example-damaged : DamageAt 2 (exampleSend .notes) exampleLine exampleDamaged
+unfolding levelOf
+example-damaged = rw (← example-spoilt) (all-allowed row2 shared2 (1 ∷ []) 1 (digitsOf exampleLine) (digits-binary exampleLine))
+
+pub example : Example
+example =
+    record {
+      accepted = example-accepted;
+      leaves = example-leaves;
+      damaged = rw example-leaves example-damaged;
+      seventeen = example-seventeen;
+    }

@@ -1,0 +1,161 @@
+-- Demand 3 and the round trip as theorems on the two calls. What is assumed of a call is that it was accepted, and nothing else: level,
+-- lengths, room and notes follow from that. Of two sends, that their lines have one length: one level and one frame count.
+use mathlib.Core.Path.{_≡_, refl, sym, _∙_, ap}
+use mathlib.Core.Logic.{_≢_}
+use mathlib.Core.List.{List}
+use Prim.Native.Nat.{ℕ, _*_, _<_}
+use native.Mathlib.Omega.{arith}
+use native.Mathlib.Nat.{eq-of-mul-eq-mul-right}
+use lib.Dec.{lit<}
+use lib.ListN.{length, getD}
+use Rattle.digits.specs.Digits.{digitsOf}
+use Rattle.digits.proofs.Laws.{digits-length, digits-binary, tab-length}
+use Rattle.levels.specs.declared.table.Row.{Row}
+use Rattle.levels.specs.declared.table.Level.the-variants.{Of}
+use Rattle.levels.specs.Table.{Shared, levelOf}
+use Rattle.levels.specs.Order.{decisions, countOf, countsOf}
+use Rattle.levels.proofs.Positions.{in-frame}
+use Rattle.multiplex.specs.Line.{lineDigit}
+use Rattle.demultiplex.specs.declared.Demultiplexed.{Demultiplexed}
+use Rattle.demultiplex.specs.Notes.{notesOf}
+use Rattle.demultiplex.specs.Demultiplex.{demultiplexed, received}
+use Rattle.promises.specs.Damage.{Damage, lineDigits}
+use Rattle.promises.specs.Carried.{decisionRead, digitsRead, countRead, Returned}
+use Rattle.promises.specs.Calls.{Lent, SendAccepted, sentLine, sentCounts, sentDigits, ReadAccepted, readNotes, readCounts, readDigits, DamageAt, SameButAt, SendsSame, SendReturned, SendBack, ReadsSame}
+use Rattle.promises.proofs.Recovered.{damage-recovered}
+use Rattle.promises.proofs.Others.{others-untouched}
+use Rattle.promises.proofs.RoundTrip.{round-trip}
+use Rattle.promises.proofs.Accepted.{send-level, read-level, shared, count-at, tributary, send-places, send-sound, send-line, send-counts, read-places, read-frames, read-answer, read-notes, read-digits}
+
+-- the four counts are the same where each is
+counts-same : (row : Row) (a b : List ℕ) (F : ℕ) → ((j : ℕ) → j < 4 → countOf row (decisions a j) F ≡ countOf row (decisions b j) F) → countsOf row a F ≡ countsOf row b F
+counts-same row a b F h = rw (h 0 (lit< tt), h 1 (lit< tt), h 2 (lit< tt), h 3 (lit< tt))
+
+-- lines of one length have one frame count
+same-frames : (row : Row) → Shared row → (F G m n : ℕ) → 8 * m ≡ F * row .digits → 8 * n ≡ G * row .digits → m ≡ n → F ≡ G
+same-frames row sh F G m n f g e =
+    eq-of-mul-eq-mul-right (row .digits) (omega (arith, in-frame row sh 0 0 (omega (arith, sh .later-set)) (omega (arith, sh .room)))) F G (omega arith)
+
+module _ (level : ℕ) (row : Row) (e : levelOf level ≡ Of row) where
+  abbrev sh : Shared row
+  sh = shared level row e
+
+  abbrev given : (c : Lent) → SendAccepted level c → ℕ → List ℕ
+  given c ok = tributary level row e c ok
+
+  -- an accepted send, and what is read from a line of F frames with the digits ds
+  record AsRead (c : Lent) (F : ℕ) (ds : List ℕ) : Type 0 where
+    decided : (j f : ℕ) → j < 4 → f < F → decisions (c .notes) j f ≡ decisionRead row F ds j f
+    counted : sentCounts level c ≡ countsOf row (notesOf row ds F) F
+    digits : (j : ℕ) → j < 4 → sentDigits level c j ≡ digitsRead row F ds j
+
+  as-read : (c : Lent) (ok : SendAccepted level c) (ds : List ℕ) → Returned row (length (c .notes)) (c .notes) (given c ok) ds → AsRead c (length (c .notes)) ds
+  as-read c ok ds back =
+      let counts = send-counts level row e c ok in
+      record {
+        decided = λ j f hj hf. sym (back .decided j f hj hf);
+        counted = counts ∙ counts-same row (c .notes) (notesOf row ds (length (c .notes))) (length (c .notes)) (λ j hj. sym (back .counted j hj));
+        digits = λ j hj. rw (counts, count-at row (c .notes) (length (c .notes)) j hj) (sym (back .digits j hj));
+      }
+
+  damage-on : (notes sent received : List ℕ) → DamageAt level notes sent received → Damage row notes (length notes) (digitsOf sent) (digitsOf received)
+  damage-on notes sent received d = rw e at d
+
+  damaged : (c : Lent) → SendAccepted level c → (received : List ℕ) → DamageAt level (c .notes) (sentLine level c) received → AsRead c (length (c .notes)) (digitsOf received)
+  damaged c ok received d =
+      as-read c ok (digitsOf received)
+      (damage-recovered row sh (length (c .notes)) (c .notes) (given c ok) (digitsOf received)
+      (rw (send-line level row e c ok) at (damage-on (c .notes) (sentLine level c) received d))
+      (send-sound level row e c ok .room))
+
+  sends-on : (a b : Lent) → SendAccepted level a → SendAccepted level b → length (a .line) ≡ length (b .line) → (received other : List ℕ)
+      → DamageAt level (a .notes) (sentLine level a) received → DamageAt level (b .notes) (sentLine level b) other → received ≡ other → SendsSame level a b
+  sends-on a b ok-a ok-b len received other da db equal =
+      let one = damaged a ok-a received da in
+      let F = same-frames row sh (length (b .notes)) (length (a .notes)) (length (b .line)) (length (a .line)) (send-places level row e b ok-b) (send-places level row e a ok-a) (sym len) in
+      let two : AsRead b (length (a .notes)) (digitsOf received) = rw (← F, equal) (damaged b ok-b other db) in
+      record {
+        decided = λ j f hj hf. one .decided j f hj hf ∙ sym (two .decided j f hj hf);
+        counted = one .counted ∙ sym (two .counted);
+        digits = λ j hj. one .digits j hj ∙ sym (two .digits j hj);
+      }
+
+  -- an accepted reading of a line of F frames
+  record Reads (c : Lent) (F : ℕ) (ds : List ℕ) : Type 0 where
+    noted : readNotes level c ≡ notesOf row ds F
+    answered : demultiplexed level (c .line) (length (c .notes)) (length (c .buffer)) ≡ received row (notesOf row ds F) ds F
+    digits : (j : ℕ) → j < 4 → readDigits level c j ≡ digitsRead row F ds j
+
+  reads : (c : Lent) → ReadAccepted level c → (F : ℕ) → length (digitsOf (c .line)) ≡ F * row .digits → Reads c F (digitsOf (c .line))
+  reads c ok F h =
+      let ds = digitsOf (c .line) in
+      let same = same-frames row sh (length (c .notes)) F (length (c .line)) (length (c .line)) (read-places level row e c ok) (sym (digits-length (c .line)) ∙ h) refl in
+      record {
+        noted = read-notes level row e c ok ∙ ap (λ (n : ℕ). notesOf row ds n) same;
+        answered = read-answer level row e c ok ∙ ap (λ (n : ℕ). received row (notesOf row ds n) ds n) same;
+        digits = λ j hj. read-digits level row e c ok j hj ∙ ap (λ (n : ℕ). digitsRead row n ds j) same;
+      }
+
+  returns : (send read : Lent) (ds : List ℕ) → AsRead send (length (send .notes)) ds → Reads read (length (send .notes)) ds → SendReturned level send read
+  returns send read ds sent got =
+      record {
+        decided = λ j f hj hf. ap (λ (notes : List ℕ). decisions notes j f) (got .noted) ∙ sym (sent .decided j f hj hf);
+        counted = ap (λ (r : Demultiplexed). r .counts) (got .answered) ∙ sym (sent .counted);
+        digits = λ j hj. got .digits j hj ∙ sym (sent .digits j hj);
+      }
+
+  returned-on : (send read : Lent) → SendAccepted level send → ReadAccepted level read → DamageAt level (send .notes) (sentLine level send) (read .line)
+      → SendReturned level send read
+  returned-on send read ok ok′ d =
+      returns send read (digitsOf (read .line)) (damaged send ok (read .line) d)
+      (reads read ok′ (length (send .notes)) (damage-on (send .notes) (sentLine level send) (read .line) d .size))
+
+  back-on : (send read : Lent) → SendAccepted level send → ReadAccepted level read → read .line ≡ sentLine level send → SendBack level send read
+  back-on send read ok ok′ same =
+      let F = length (send .notes) in
+      let line = lineDigits row (send .notes) (given send ok) F in
+      let trip = round-trip row sh F (send .notes) (given send ok) (send-sound level row e send ok) in
+      let ds : digitsOf (read .line) ≡ line = ap digitsOf same ∙ send-line level row e send ok in
+      let got : Reads read F line = rw (← ds) (reads read ok′ F (ap length ds ∙ tab-length (F * row .digits) 0 (lineDigit row (send .notes) (given send ok)))) in
+      record {
+        noted = got .noted ∙ trip .noted;
+        returned = returns send read line (as-read send ok line (trip .returned)) got;
+        aligned = ap (λ (r : Demultiplexed). r .alignment) (got .answered) ∙ trip .aligned;
+        unanimous = ap (λ (r : Demultiplexed). r .groups) (got .answered) ∙ trip .unanimous;
+      }
+
+  others-on : (j k : ℕ) (a b : Lent) → ReadAccepted level a → ReadAccepted level b → length (a .line) ≡ length (b .line) → SameButAt level j (a .line) (b .line)
+      → k < 4 → k ≢ j → ReadsSame level k a b
+  others-on j k a b ok-a ok-b len same hk other =
+      let F = length (a .notes) in
+      let da = digitsOf (a .line) in
+      let db = digitsOf (b .line) in
+      let places = digits-length (a .line) ∙ read-places level row e a ok-a in
+      let out = others-untouched row sh F j da db (digits-binary (a .line)) (digits-binary (b .line)) (rw (e, read-frames level row e a ok-a) at same) k hk other in
+      let one = reads a ok-a F places in
+      let two = reads b ok-b F (omega (arith, digits-length (a .line), digits-length (b .line), places)) in
+      let counts : (c : Lent) (ds : List ℕ) → Reads c F ds → getD (readCounts level c) k 0 ≡ countRead row F ds k = λ c ds got. ap (λ (r : Demultiplexed). getD (r .counts) k 0) (got .answered) ∙ count-at row (notesOf row ds F) F k hk in
+      record {
+        decided = λ f hf. rw (one .noted, two .noted) (out .decided f hf);
+        counted = counts a da one ∙ out .counted ∙ sym (counts b db two);
+        digits = one .digits k hk ∙ out .digits ∙ sym (two .digits k hk);
+      }
+
+-- two accepted sends of one level and one frame count, whose damaged lines are equal, carried the same
+pub sends-same : (level : ℕ) (a b : Lent) → SendAccepted level a → SendAccepted level b → length (a .line) ≡ length (b .line) → (received other : List ℕ)
+    → DamageAt level (a .notes) (sentLine level a) received → DamageAt level (b .notes) (sentLine level b) other → received ≡ other → SendsSame level a b
+sends-same level a b ok-a ok-b = let on = send-level level a ok-a in sends-on level (on .0) (on .1) a b ok-a ok-b
+
+-- and an accepted reading of the damaged line returns them
+pub send-returned : (level : ℕ) (send read : Lent) → SendAccepted level send → ReadAccepted level read → DamageAt level (send .notes) (sentLine level send) (read .line)
+    → SendReturned level send read
+send-returned level send read ok = let on = send-level level send ok in returned-on level (on .0) (on .1) send read ok
+
+-- the round trip, for an accepted send and an accepted reading of its line
+pub send-back : (level : ℕ) (send read : Lent) → SendAccepted level send → ReadAccepted level read → read .line ≡ sentLine level send → SendBack level send read
+send-back level send read ok = let on = send-level level send ok in back-on level (on .0) (on .1) send read ok
+
+-- whatever is changed in tributary j's own places of any line, every other tributary k comes out as before
+pub others-come-out : (level j k : ℕ) (a b : Lent) → ReadAccepted level a → ReadAccepted level b → length (a .line) ≡ length (b .line)
+    → SameButAt level j (a .line) (b .line) → k < 4 → k ≢ j → ReadsSame level k a b
+others-come-out level j k a b ok-a = let on = read-level level a ok-a in others-on level (on .0) (on .1) j k a b ok-a

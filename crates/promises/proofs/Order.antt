@@ -1,0 +1,89 @@
+-- The order of a tributary's digits goes by the decisions of the line's frames and by nothing else; and the digits come back in it.
+use mathlib.Core.Path.{_≡_, refl, sym, _∙_, ap}
+use mathlib.Core.Bool.{Bool, cond, true, false}
+use mathlib.Core.List.{List, [], _∷_, _++_, map, append-nil}
+use Prim.Native.Nat.{ℕ, zero, suc, _+_, _*_, _≤_, _<_}
+use native.Mathlib.Omega.{arith}
+use native.Mathlib.Nat.{lt-of-mul-lt-mul-right, add-zero}
+use native.Mathlib.Numerals.{add-one}
+use lib.ListN.{length, getD, take}
+use lib.Seq.{take-suc}
+use Rattle.levels.specs.declared.table.Row.{Row}
+use Rattle.levels.specs.Table.{Shared}
+use Rattle.levels.specs.Places.{posOf}
+use Rattle.levels.specs.Order.{carries, before, placesOf, stuffedTo, countOf}
+use Rattle.levels.proofs.Positions.{stands}
+use Rattle.levels.proofs.Columns.{columns, frame-start}
+use Rattle.levels.proofs.Inverse.{places-length}
+use Rattle.promises.proofs.Lists.{map-append}
+
+module _ (row : Row) (sh : Shared row) (F j : ℕ) (jh : j < 4) where
+  -- column x of a line of F frames
+  module _ (x : ℕ) (h : x < F * columns row) where
+    pub column-place : 4 * x + j < F * row .digits
+    column-place = omega (arith, frame-start row sh j jh F)
+
+    pub column-frame : posOf row (4 * x + j) .frame < F
+    column-frame = lt-of-mul-lt-mul-right (row .digits) (omega (arith, column-place, stands row sh (4 * x + j) .sum))
+
+  module _ (d e : ℕ → Bool) (same : (f : ℕ) → f < F → d f ≡ e f) where
+    pub carries-same : (x : ℕ) → x < F * columns row → carries row d (4 * x + j) ≡ carries row e (4 * x + j)
+    unfolding carries
+    carries-same x h = rw (same (posOf row (4 * x + j) .frame) (column-frame x h))
+
+    pub places-same : (x : ℕ) → x ≤ F * columns row → placesOf row d j x ≡ placesOf row e j x
+    unfolding placesOf
+    places-same zero h = refl
+    places-same (suc x) h = rw (places-same x (omega arith), carries-same x h)
+
+    pub before-same : (x : ℕ) → x ≤ F * columns row → before row d j x ≡ before row e j x
+    before-same x h = sym (places-length row d j x) ∙ ap length (places-same x h) ∙ places-length row e j x
+
+-- the counts too
+stuffed-same : (d e : ℕ → Bool) (F : ℕ) → ((f : ℕ) → f < F → d f ≡ e f) → stuffedTo d F ≡ stuffedTo e F
+unfolding stuffedTo
+stuffed-same d e zero same = refl
+stuffed-same d e (suc F) same = rw (stuffed-same d e F (λ f h. same f (omega arith)), same F (omega arith))
+
+pub count-same : (row : Row) (d e : ℕ → Bool) (F : ℕ) → ((f : ℕ) → f < F → d f ≡ e f) → countOf row d F ≡ countOf row e F
+unfolding countOf
+count-same row d e F same = rw (stuffed-same d e F same)
+
+module _ (row : Row) (d : ℕ → Bool) (j : ℕ) where
+  -- the digits that stand at the carrying places of the first x columns
+  abbrev digitsAt : List ℕ → ℕ → List ℕ
+  digitsAt ds x = map (λ (p : ℕ). getD ds p 0) (placesOf row d j x)
+
+  abbrev at : ℕ → Bool
+  at x = carries row d (4 * x + j)
+
+  one-more : (ds : List ℕ) (x : ℕ) → digitsAt ds (suc x) ≡ digitsAt ds x ++ cond (at x) (getD ds (4 * x + j) 0 ∷ []) []
+  unfolding placesOf
+  one-more ds x = map-append (λ (p : ℕ). getD ds p 0) (placesOf row d j x) (cond (at x) ((4 * x + j) ∷ []) []) ∙ ap (λ (l : List ℕ). digitsAt ds x ++ l) (go (at x))
+    where
+      go : (t : Bool) → map (λ (p : ℕ). getD ds p 0) (cond t ((4 * x + j) ∷ []) []) ≡ cond t (getD ds (4 * x + j) 0 ∷ []) []
+      go true = refl
+      go false = refl
+
+  -- lines with the same digits in the tributary's columns
+  pub digits-same : (ds es : List ℕ) (x : ℕ) → ((y : ℕ) → y < x → getD ds (4 * y + j) 0 ≡ getD es (4 * y + j) 0) → digitsAt ds x ≡ digitsAt es x
+  unfolding placesOf
+  digits-same ds es zero h = refl
+  digits-same ds es (suc x) h =
+      rw (one-more ds x, one-more es x, digits-same ds es x (λ y hy. h y (omega arith)), h x (omega arith))
+
+  -- where every carrying place has the tributary's next digit, the digits come back in order
+  pub digits-back : (ds t : List ℕ) (x : ℕ) → ((y : ℕ) → y < x → at y ≡ true → getD ds (4 * y + j) 0 ≡ getD t (before row d j y) 0)
+      → before row d j x ≤ length t → digitsAt ds x ≡ take (before row d j x) t
+  unfolding before placesOf
+  digits-back ds t zero h room = refl
+  digits-back ds t (suc x) h room =
+      rw (one-more ds x, digits-back ds t x (λ y hy. h y (omega arith)) (omega arith)) (go (at x) (h x (omega arith)) room)
+    where
+      n : ℕ
+      n = before row d j x
+
+      go : (c : Bool) → (c ≡ true → getD ds (4 * x + j) 0 ≡ getD t n 0) → n + cond c 1 0 ≤ length t
+          → take n t ++ cond c (getD ds (4 * x + j) 0 ∷ []) [] ≡ take (n + cond c 1 0) t
+      go true e r = rw (e refl, add-one n) (sym (take-suc t n 0 (omega arith)))
+      go false e r = rw (add-zero n) (append-nil (take n t))

@@ -1,0 +1,99 @@
+-- Demand 3, first part: damage changes no vote and no digit that a tributary's place carries, so the send is read back from the damaged
+-- line; and so two sends whose damaged lines are equal carried the same.
+use mathlib.Core.Path.{_≡_, refl, sym, _∙_, ap}
+use mathlib.Core.Bool.{Bool, cond, true, false, false≢true}
+use mathlib.Core.List.{List}
+use Prim.Native.Nat.{ℕ, _+_, _*_, _%_, _<_}
+use native.Mathlib.Omega.{arith}
+use lib.ListN.{length, getD, take}
+use Rattle.digits.specs.Digits.{Binary}
+use Rattle.levels.specs.declared.table.Row.{Row}
+use Rattle.levels.specs.declared.vote.Vote.{Vote}
+use Rattle.levels.specs.declared.places.Kind.{Kind}
+use Rattle.levels.specs.declared.places.Kind.the-variants.{Word, Service, Control, Justification, Tributary}
+use Rattle.levels.specs.Table.{Shared}
+use Rattle.levels.specs.Places.{kindAt, posOf}
+use Rattle.levels.specs.Order.{decisions, carried, carries, before, countOf}
+use Rattle.levels.specs.Vote.{votesFor}
+use Rattle.levels.proofs.Columns.{columns}
+use Rattle.levels.proofs.Counts.{line-count}
+use Rattle.levels.proofs.Majority.{group-length, vote-stands}
+use Rattle.demultiplex.specs.Notes.{voteAt, notesOf}
+use Rattle.demultiplex.specs.Extract.{takenTo}
+use Rattle.promises.specs.Damage.{kept, liberty, libertyAt, groupAt, differing, Damage, lineDigits}
+use Rattle.promises.specs.Carried.{digitsRead, digitsSent, countSent, Room, SameSent, Returned}
+use Rattle.promises.proofs.Lists.{group-binary, differing-votes}
+use Rattle.promises.proofs.Sent.{sent-group, sent-carried}
+use Rattle.promises.proofs.Reading.{decisions-read}
+use Rattle.promises.proofs.Order.{column-place, places-same, count-same, digits-back}
+
+-- a place that carries a digit is kept
+carried-kept : (k : Kind) (st : Bool) → carried k st ≡ true → liberty k st ≡ kept
+carried-kept Word st c = absurd (false≢true c)
+carried-kept (Service s) st c = absurd (false≢true c)
+carried-kept Control st c = absurd (false≢true c)
+carried-kept Justification true c = absurd (false≢true c)
+carried-kept Justification false c = refl
+carried-kept Tributary st c = refl
+
+module _ (row : Row) (sh : Shared row) (F : ℕ) where
+  module _ (notes : List ℕ) (tributary : ℕ → List ℕ) (ds : List ℕ) (damage : Damage row notes F (lineDigits row notes tributary F) ds) where
+    abbrev sent : List ℕ
+    sent = lineDigits row notes tributary F
+
+    -- a group's vote is the send's decision, and the digits that dissent are those that were changed
+    pub vote-kept : (f j : ℕ) → f < F → j < 4
+        → voteAt row ds f j ≡ record { stuffed = decisions notes j f; dissent = differing (groupAt row sent f j) (groupAt row ds f j) }
+    unfolding voteAt
+    vote-kept f j hf hj =
+        let g = groupAt row ds f j in
+        let st = decisions notes j f in
+        let place = f * row .digits + (row .set + j) in
+        let bin : Binary g = group-binary ds (damage .digits) place (row .set) (row .control) in
+        let len : length g ≡ row .control = group-length ds place (row .set) (row .control) in
+        let few = damage .few-controls f j hf hj in
+        let changed : votesFor (cond st 0 1) g ≡ differing (groupAt row sent f j) g = sym (differing-votes st g bin) ∙ rw (len, sent-group row sh notes tributary F f j hf hj) in
+        rw (vote-stands st g bin (omega (arith, changed, sh .odd)), changed)
+
+    pub decision-kept : (f j : ℕ) → f < F → j < 4 → decisions (notesOf row ds F) j f ≡ decisions notes j f
+    decision-kept f j hf hj = decisions-read row ds (damage .digits) F f j hf hj ∙ ap (λ (v : Vote). v .stuffed) (vote-kept f j hf hj)
+
+    -- a digit that a place of tributary j carries has come as it was sent
+    pub digit-kept : (j : ℕ) → j < 4 → (x : ℕ) → x < F * columns row → carries row (decisions notes j) (4 * x + j) ≡ true
+        → getD ds (4 * x + j) 0 ≡ getD (tributary j) (before row (decisions notes j) j x) 0
+    unfolding carries
+    digit-kept j hj x h c =
+        let p = 4 * x + j in
+        let in-line = column-place row sh F j hj x h in
+        let w : p % 4 ≡ j = omega arith in
+        let free : libertyAt row notes p ≡ kept = rw w (carried-kept (kindAt row p) (decisions notes j (posOf row p .frame)) c) in
+        damage .others-kept p in-line free ∙ sent-carried row sh notes tributary F j x hj in-line c
+
+    pub damage-recovered : Room row F tributary → Returned row F notes tributary ds
+    unfolding takenTo countOf
+    damage-recovered room =
+        record {
+          decided = λ j f hj hf. decision-kept f j hf hj;
+          counted = λ j hj. count-same row (decisions (notesOf row ds F) j) (decisions notes j) F (λ f hf. decision-kept f j hf hj);
+          digits = back;
+        }
+      where
+        back : (j : ℕ) → j < 4 → digitsRead row F ds j ≡ digitsSent row F notes tributary j
+        back j hj =
+            let d = decisions notes j in
+            let X = F * columns row in
+            let all : before row d j X ≡ countSent row F notes j = omega (arith, line-count row sh j hj d F) in
+            rw (places-same row sh F j hj (decisions (notesOf row ds F) j) d (λ f hf. decision-kept f j hf hj) X (omega arith))
+            (digits-back row d j ds (tributary j) X (digit-kept j hj) (omega (arith, line-count row sh j hj d F, room j hj)) ∙ ap (λ (n : ℕ). take n (tributary j)) all)
+
+  -- two sends: where their damaged lines are equal, both carried the same
+  pub same-sends : (a b : List ℕ) (s t : ℕ → List ℕ) (ds es : List ℕ) → Room row F s → Room row F t
+      → Damage row a F (lineDigits row a s F) ds → Damage row b F (lineDigits row b t F) es → ds ≡ es → SameSent row F a s b t
+  same-sends a b s t ds es room-s room-t da db e =
+      let from = damage-recovered a s ds da room-s in
+      let to = rw (← e) at (damage-recovered b t es db room-t) in
+      record {
+        decided = λ j f hj hf. sym (from .decided j f hj hf) ∙ to .decided j f hj hf;
+        counted = λ j hj. sym (from .counted j hj) ∙ to .counted j hj;
+        digits = λ j hj. sym (from .digits j hj) ∙ to .digits j hj;
+      }

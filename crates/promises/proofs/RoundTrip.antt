@@ -1,0 +1,118 @@
+-- The round trip: what was multiplexed comes back from the undamaged line, whole notes, counts and digits; no alignment digit differs
+-- and every group is unanimous. The undamaged line is one that damage may leave, so that decisions and digits need no proof of their own.
+use mathlib.Core.Path.{_≡_, refl, sym}
+use mathlib.Core.List.{List}
+use Prim.Native.Nat.{ℕ, zero, suc, _+_, _*_, _/_, _%_, _^_, _≤_, _<_}
+use native.Mathlib.Omega.{arith}
+use native.Mathlib.Decide.{decLe}
+use native.Mathlib.Nat.{div-eq-of-lt}
+use lib.Dec.{lit<}
+use lib.ListN.{getD}
+use lib.Pow.{pow-mono}
+use borrow.Author.Tests.{le-leb, lt-leb, eq-eqb}
+use Rattle.digits.specs.Digits.{Binary}
+use Rattle.digits.proofs.Laws.{tab-of, tab-length}
+use Rattle.levels.specs.declared.table.Row.{Row}
+use Rattle.levels.specs.declared.places.Kind.{Kind}
+use Rattle.levels.specs.declared.places.Kind.the-variants.{Word, Service, Control, Justification, Tributary}
+use Rattle.levels.specs.Table.{Shared}
+use Rattle.levels.specs.Places.{kindAt, posOf}
+use Rattle.levels.specs.Order.{stuffed, decisions, before}
+use Rattle.levels.specs.Word.{wordDigit, wrongTo}
+use Rattle.levels.proofs.Choice.{cond-by}
+use Rattle.levels.proofs.Majority.{digit-counts}
+use Rattle.multiplex.specs.Line.{digitBy, lineDigit}
+use Rattle.demultiplex.specs.Notes.{voteAt, serviceAt, bitOf, noteOf, alignmentTo, splitIn, splitTo}
+use Rattle.promises.specs.Damage.{Damage, groupAt, lineDigits}
+use Rattle.promises.specs.Carried.{Sound, CameBack}
+use Rattle.promises.proofs.Lists.{tab-binary, differing-self, byte-of-bits}
+use Rattle.promises.proofs.Sent.{sent-word, sent-service}
+use Rattle.promises.proofs.Recovered.{vote-kept, damage-recovered}
+
+-- every digit of a line is a digit
+digit-small : (row : Row) (note j r next : ℕ) → next < 2 → (k : Kind) → digitBy row note j r next k < 2
+digit-small row note j r next h Word = omega arith
+digit-small row note j r next h (Service s) = omega arith
+digit-small row note j r next h Control = cond-by (λ (n : ℕ). n < 2) (stuffed note j) (lit< tt) (lit< tt)
+digit-small row note j r next h Justification = cond-by (λ (n : ℕ). n < 2) (stuffed note j) (lit< tt) h
+digit-small row note j r next h Tributary = h
+
+pub line-binary : (row : Row) (notes : List ℕ) (tributary : ℕ → List ℕ) → ((j : ℕ) → j < 4 → Binary (tributary j)) → (F : ℕ) → Binary (lineDigits row notes tributary F)
+unfolding lineDigit
+line-binary row notes tributary bin F =
+    tab-binary (F * row .digits) 0 (lineDigit row notes tributary)
+    (λ p.
+    digit-small row (getD notes (posOf row p .frame) 0) (p % 4) (posOf row p .place)
+    (getD (tributary (p % 4)) (before row (decisions notes (p % 4)) (p % 4) (p / 4)) 0)
+    (bin (p % 4) (omega arith) (before row (decisions notes (p % 4)) (p % 4) (p / 4)))
+    (kindAt row p))
+
+module _ (row : Row) (sh : Shared row) (F : ℕ) (notes : List ℕ) (tributary : ℕ → List ℕ) (sound : Sound row F notes tributary) where
+  abbrev line : List ℕ
+  line = lineDigits row notes tributary F
+
+  -- no change at all is damage
+  pub undamaged : Damage row notes F line line
+  undamaged =
+      record {
+        digits = line-binary row notes tributary (sound .digits) F;
+        size = tab-length (F * row .digits) 0 (lineDigit row notes tributary);
+        others-kept = λ p h e. refl;
+        few-controls = λ f j hf hj. omega (arith, differing-self (groupAt row line f j));
+      }
+
+  module _ (f : ℕ) (hf : f < F) where
+    abbrev note : ℕ
+    note = getD notes f 0
+
+    vote-back : (j : ℕ) → j < 4 → voteAt row line f j ≡ record { stuffed = decisions notes j f; dissent = 0 }
+    vote-back j hj = rw (vote-kept row sh F notes tributary line undamaged f j hf hj, differing-self (groupAt row line f j))
+
+    bit-back : (j : ℕ) → j < 4 → bitOf (voteAt row line f j .stuffed) ≡ note / 2 ^ j % 2
+    bit-back j hj = rw (vote-back j hj) (digit-counts (note / 2 ^ j % 2) (omega arith))
+
+    service-back : (k : ℕ) → serviceAt row line f k ≡ note / 2 ^ (4 + k) % 2
+    unfolding serviceAt
+    service-back k =
+        elim (decLe k (row .nationals)) [
+          | yes h ↦ rw (le-leb k (row .nationals) h) (sent-service row sh notes tributary F f k (f * row .digits + (row .alarm + k)) hf h refl)
+          | no h ↦
+              let none : note / 2 ^ (4 + k) ≡ 0 = div-eq-of-lt (omega (arith, sound .notes-fit f hf, pow-mono {i = 5 + row .nationals} {j = 4 + k} (omega arith))) in
+              rw (lt-leb k (row .nationals) (omega arith), none)
+        ]
+
+    note-back : noteOf row line f ≡ note
+    unfolding noteOf
+    note-back =
+        rw (bit-back 0 (lit< tt), bit-back 1 (lit< tt), bit-back 2 (lit< tt), bit-back 3 (lit< tt), service-back 0, service-back 1, service-back 2, service-back 3)
+        (byte-of-bits note (omega (arith, sound .notes-fit f hf, pow-mono {i = 5 + row .nationals} {j = 8} (omega (arith, sh .few-national)))))
+
+    word-back : (k : ℕ) → k ≤ row .len → wrongTo row line (f * row .digits) k ≡ 0
+    unfolding wrongTo
+    word-back zero h = refl
+    word-back (suc k) h =
+        let e = sent-word row sh notes tributary F f k (f * row .digits + k) hf h refl in
+        rw (word-back k (omega arith), eq-eqb (getD line (f * row .digits + k) 0) (wordDigit row k) e)
+
+    split-back : splitIn row line f ≡ 0
+    unfolding splitIn
+    split-back = rw (vote-back 0 (lit< tt), vote-back 1 (lit< tt), vote-back 2 (lit< tt), vote-back 3 (lit< tt))
+
+  aligned-to : (f : ℕ) → f ≤ F → alignmentTo row line f ≡ 0
+  unfolding alignmentTo
+  aligned-to zero h = refl
+  aligned-to (suc f) h = omega (arith, aligned-to f (omega arith), word-back f h (row .len) (omega arith))
+
+  unanimous-to : (f : ℕ) → f ≤ F → splitTo row line f ≡ 0
+  unfolding splitTo
+  unanimous-to zero h = refl
+  unanimous-to (suc f) h = omega (arith, unanimous-to f (omega arith), split-back f h)
+
+  pub round-trip : CameBack row F notes tributary line
+  round-trip =
+      record {
+        noted = sym (tab-of notes F (noteOf row line) (sound .all-noted) (λ f hf. sym (note-back f hf)));
+        returned = damage-recovered row sh F notes tributary line undamaged (sound .room);
+        aligned = aligned-to F (omega arith);
+        unanimous = unanimous-to F (omega arith);
+      }

@@ -1,0 +1,76 @@
+-- Examples for demand 3: damage as bad as it may be, of any line; and the two sends that one changed digit more makes equal.
+use mathlib.Core.Path.{_≡_}
+use mathlib.Core.Logic.{_≢_}
+use mathlib.Core.Bool.{Bool, cond, not}
+use mathlib.Core.List.{List, [], _∷_, _++_}
+use Prim.Native.Nat.{ℕ, zero, suc, _+_, _*_, _-_, _<_}
+use lib.Dec.{leb}
+use lib.ListN.{getD, replicate}
+use Rattle.digits.specs.Digits.{tab, digitsOf}
+use Rattle.levels.specs.declared.table.Row.{Row}
+use Rattle.levels.specs.Places.{posOf}
+use Rattle.levels.specs.Order.{decisions}
+use Rattle.promises.specs.Damage.{Liberty, at-will, counted, kept, libertyAt, allowed, differing, DamageUpTo, Damage, lineDigits}
+use Rattle.promises.specs.Carried.{Sound}
+use Rattle.promises.specs.Calls.{Lent, SendAccepted, sentLine, DamageAt}
+
+-- every digit that may be changed at will is inverted, and every control digit of the sets that change says
+abbrev pub inverted : Liberty → Bool → ℕ → ℕ
+inverted at-will change d = 1 - d
+inverted counted change d = cond change (1 - d) d
+inverted kept change d = d
+
+abbrev pub spoilt : Row → List ℕ → (ℕ → Bool) → ℕ → List ℕ → List ℕ
+spoilt row notes change F sent =
+    tab (F * row .digits) 0 (λ (p : ℕ). inverted (libertyAt row notes p) (change (posOf row p .set)) (getD sent p 0))
+
+-- how many of the k sets after the first are changed
+unfoldable pub changes : (ℕ → Bool) → ℕ → ℕ
+changes change zero = 0
+changes change (suc k) = changes change k + cond (change (k + 1)) 1 0
+
+-- as many sets as digits of a group may be changed: the first so many after the first set, or all after them
+abbrev pub early : Row → ℕ → Bool
+early row s = leb s (allowed row)
+
+abbrev pub late : Row → ℕ → Bool
+late row s = not (early row s)
+
+-- two sends of F frames that differ in every decision: no frame stuffed, every frame stuffed for all four; all digits are 0
+abbrev pub noneStuffed : ℕ → List ℕ
+noneStuffed F = replicate F 0
+
+abbrev pub allStuffed : ℕ → List ℕ
+allStuffed F = replicate F 15
+
+abbrev pub idle : Row → ℕ → ℕ → List ℕ
+idle row F j = replicate (F * row .n) 0
+
+-- the border: both are sound sends, they differ in every decision, and there is a line that comes from the one by damage and from the other by
+-- one control digit more of each group
+pub record Border (row : Row) (F : ℕ) : Type 0 where
+  pub line : List ℕ
+  pub sound-one : Sound row F (noneStuffed F) (idle row F)
+  pub sound-other : Sound row F (allStuffed F) (idle row F)
+  pub from-one : Damage row (noneStuffed F) F (lineDigits row (noneStuffed F) (idle row F) F) line
+  pub from-other : DamageUpTo (allowed row + 1) row (allStuffed F) F (lineDigits row (allStuffed F) (idle row F) F) line
+  pub differ : (j f : ℕ) → j < 4 → f < F → decisions (noneStuffed F) j f ≢ decisions (allStuffed F) j f
+
+-- one frame at 8448 kbit/s, stuffed for tributary 1, all digits 0: the line that is left, and that line damaged in every way that is
+-- allowed at once. The word, the remote alarm digit and the national digit are inverted, the first control digit of each of the four groups
+-- (0x08 is sent there, 0x07 comes) and the stuffing digit (0x80 is sent, 0x00 comes)
+abbrev pub exampleSend : Lent
+exampleSend = record { line = replicate 106 0; notes = 1 ∷ []; buffer = replicate 104 0 }
+
+unfoldable pub exampleLine : List ℕ
+exampleLine = 0xF4 ∷ (replicate 25 0 ++ (0x08 ∷ (replicate 26 0 ++ (0x80 ∷ (replicate 25 0 ++ (0x08 ∷ (0x80 ∷ replicate 25 0)))))))
+
+unfoldable pub exampleDamaged : List ℕ
+exampleDamaged = 0x0B ∷ 0xF0 ∷ (replicate 24 0 ++ (0x07 ∷ (replicate 26 0 ++ (0x80 ∷ (replicate 25 0 ++ (0x08 ∷ (0x00 ∷ replicate 25 0)))))))
+
+-- ten digits of the word, two service digits, four control digits and a stuffing digit differ: all the send's decision leaves free
+pub record Example : Type 0 where
+  pub accepted : SendAccepted 2 exampleSend
+  pub leaves : sentLine 2 exampleSend ≡ exampleLine
+  pub damaged : DamageAt 2 (exampleSend .notes) (sentLine 2 exampleSend) exampleDamaged
+  pub seventeen : differing (digitsOf exampleLine) (digitsOf exampleDamaged) ≡ 17

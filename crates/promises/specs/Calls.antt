@@ -1,0 +1,83 @@
+-- Demand 3 and the round trip, said of the two calls. A call is lent a line, notes and a buffer, as bytes; what it leaves and answers is
+-- given by the definitions that the statements of `multiplex` and `demultiplex` cite. Nothing is assumed but that a call was accepted:
+-- that it answered refusal 0. Levels are the numbers 2, 3 and 4; tributaries are counted from 0.
+use mathlib.Core.Path.{_≡_}
+use mathlib.Core.List.{List}
+use Prim.Native.Nat.{ℕ, _<_}
+use lib.ListN.{length, getD, take}
+use Rattle.digits.specs.Digits.{digitsOf}
+use Rattle.levels.specs.declared.table.Row.{Row}
+use Rattle.levels.specs.Table.{levelOf}
+use Rattle.levels.specs.Sizes.{onLevel, framesOf, quarterOf}
+use Rattle.levels.specs.Order.{decisions}
+use Rattle.multiplex.specs.Multiplex.{multiplexed, lineAfter}
+use Rattle.demultiplex.specs.Demultiplex.{demultiplexed, notesAfter, bufferAfter}
+use Rattle.promises.specs.Damage.{Damage, SameBut}
+
+-- what is lent to a call, as it was at the call's entry
+pub record Lent : Type 0 where
+  pub line : List ℕ
+  pub notes : List ℕ
+  pub buffer : List ℕ
+
+-- multiplexing: it was accepted; the line it leaves; the counts it answers; the digits of tributary j that it was given and counts
+abbrev pub SendAccepted : ℕ → Lent → Type 0
+SendAccepted level c = multiplexed level (length (c .line)) (c .notes) (length (c .buffer)) .refusal ≡ 0
+
+abbrev pub sentLine : ℕ → Lent → List ℕ
+sentLine level c = lineAfter level (c .line) (c .notes) (c .buffer)
+
+abbrev pub sentCounts : ℕ → Lent → List ℕ
+sentCounts level c = multiplexed level (length (c .line)) (c .notes) (length (c .buffer)) .counts
+
+abbrev pub sentDigits : ℕ → Lent → ℕ → List ℕ
+sentDigits level c j = take (getD (sentCounts level c) j 0) (digitsOf (quarterOf (c .buffer) j))
+
+-- demultiplexing: it was accepted; the notes it leaves; the counts it answers; the digits of tributary j that it leaves and counts
+abbrev pub ReadAccepted : ℕ → Lent → Type 0
+ReadAccepted level c = demultiplexed level (c .line) (length (c .notes)) (length (c .buffer)) .refusal ≡ 0
+
+abbrev pub readNotes : ℕ → Lent → List ℕ
+readNotes level c = notesAfter level (c .line) (c .notes) (length (c .buffer))
+
+abbrev pub readCounts : ℕ → Lent → List ℕ
+readCounts level c = demultiplexed level (c .line) (length (c .notes)) (length (c .buffer)) .counts
+
+abbrev pub readDigits : ℕ → Lent → ℕ → List ℕ
+readDigits level c j =
+    take (getD (readCounts level c) j 0) (digitsOf (quarterOf (bufferAfter level (c .line) (length (c .notes)) (c .buffer)) j))
+
+-- received comes from sent, a line sent with these notes, by damage
+abbrev pub DamageAt : ℕ → List ℕ → List ℕ → List ℕ → Type 0
+DamageAt level notes sent received =
+    onLevel (levelOf level) (λ (row : Row). Damage row notes (length notes) (digitsOf sent) (digitsOf received)) ⊥
+
+-- two lines that differ in places of tributary j only
+abbrev pub SameButAt : ℕ → ℕ → List ℕ → List ℕ → Type 0
+SameButAt level j line other =
+    onLevel (levelOf level) (λ (row : Row). SameBut row j (framesOf row (length line)) (digitsOf line) (digitsOf other)) ⊥
+
+-- "both sends carried the same decisions and the same digits of every tributary, in order"
+pub record SendsSame (level : ℕ) (a b : Lent) : Type 0 where
+  pub decided : (j f : ℕ) → j < 4 → f < length (a .notes) → decisions (a .notes) j f ≡ decisions (b .notes) j f
+  pub counted : sentCounts level a ≡ sentCounts level b
+  pub digits : (j : ℕ) → j < 4 → sentDigits level a j ≡ sentDigits level b j
+
+-- "and demultiplexing returns them"
+pub record SendReturned (level : ℕ) (send read : Lent) : Type 0 where
+  pub decided : (j f : ℕ) → j < 4 → f < length (send .notes) → decisions (readNotes level read) j f ≡ decisions (send .notes) j f
+  pub counted : readCounts level read ≡ sentCounts level send
+  pub digits : (j : ℕ) → j < 4 → readDigits level read j ≡ sentDigits level send j
+
+-- the round trip: the whole notes too, and no error is counted
+pub record SendBack (level : ℕ) (send read : Lent) : Type 0 where
+  pub noted : readNotes level read ≡ send .notes
+  pub returned : SendReturned level send read
+  pub aligned : demultiplexed level (read .line) (length (read .notes)) (length (read .buffer)) .alignment ≡ 0
+  pub unanimous : demultiplexed level (read .line) (length (read .notes)) (length (read .buffer)) .groups ≡ 0
+
+-- "come out as before: digits, numbers of digits and decisions", of tributary k
+pub record ReadsSame (level k : ℕ) (a b : Lent) : Type 0 where
+  pub decided : (f : ℕ) → f < length (a .notes) → decisions (readNotes level a) k f ≡ decisions (readNotes level b) k f
+  pub counted : getD (readCounts level a) k 0 ≡ getD (readCounts level b) k 0
+  pub digits : readDigits level a k ≡ readDigits level b k

@@ -1,0 +1,76 @@
+-- Demand 3 in definitions: what damage may change in a sent line, and which places are one tributary's own.
+-- The letter: "Change each line: alignment, service and stuffing digits at will, and in each tributary's control group of each frame at
+-- most one of three digits, or two of five at 139264." Lines are lists of digits here; a line of F frames has F * N of them.
+use mathlib.Core.Path.{_≡_}
+use mathlib.Core.Bool.{Bool, cond, true, false, _&&_}
+use mathlib.Core.List.{List, [], _∷_}
+use Prim.Native.Nat.{ℕ, _+_, _*_, _/_, _%_, _≤_, _<_}
+use lib.Dec.{eqb}
+use lib.ListN.{length, getD}
+use Rattle.digits.specs.Digits.{tab, Binary}
+use Rattle.levels.specs.declared.table.Row.{Row}
+use Rattle.levels.specs.declared.places.Kind.{Kind}
+use Rattle.levels.specs.declared.places.Kind.the-variants.{Word, Service, Control, Justification, Tributary}
+use Rattle.levels.specs.Places.{kindAt, posOf}
+use Rattle.levels.specs.Order.{decisions}
+use Rattle.levels.specs.Vote.{groupOf}
+use Rattle.multiplex.specs.Line.{lineDigit}
+
+-- what may happen to a digit
+pub data Liberty : Type 0 where
+  at-will counted kept : Liberty
+
+-- by the kind of its place, and by the send's own decision: a justification digit of a stuffed frame is a stuffing digit
+abbrev pub liberty : Kind → Bool → Liberty
+liberty Word st = at-will
+liberty (Service s) st = at-will
+liberty Control st = counted
+liberty Justification st = cond st at-will kept
+liberty Tributary st = kept
+
+abbrev pub libertyAt : Row → List ℕ → ℕ → Liberty
+libertyAt row notes p = liberty (kindAt row p) (decisions notes (p % 4) (posOf row p .frame))
+
+-- the control group of tributary j (from 0) in frame f
+abbrev pub groupAt : Row → List ℕ → ℕ → ℕ → List ℕ
+groupAt row ds f j = groupOf ds (f * row .digits + (row .set + j)) (row .set) (row .control)
+
+-- in how many places two lists differ
+unfoldable pub differing : List ℕ → List ℕ → ℕ
+differing [] es = 0
+differing (d ∷ ds) [] = 0
+differing (d ∷ ds) (e ∷ es) = cond (eqb d e) 0 1 + differing ds es
+
+-- "at most one of three digits, or two of five"
+abbrev pub allowed : Row → ℕ
+allowed row = row .control / 2
+
+-- received comes from sent, a line of F frames sent with these notes, by changes of at most so many digits of each control group
+pub record DamageUpTo (most : ℕ) (row : Row) (notes : List ℕ) (F : ℕ) (sent received : List ℕ) : Type 0 where
+  pub digits : Binary received
+  pub size : length received ≡ F * row .digits
+  pub others-kept : (p : ℕ) → p < F * row .digits → libertyAt row notes p ≡ kept → getD received p 0 ≡ getD sent p 0
+  pub few-controls : (f j : ℕ) → f < F → j < 4 → differing (groupAt row sent f j) (groupAt row received f j) ≤ most
+
+-- by damage
+abbrev pub Damage : Row → List ℕ → ℕ → List ℕ → List ℕ → Type 0
+Damage row = DamageUpTo (allowed row) row
+
+-- the digits of the line that is sent with these notes and these tributaries' digits, F frames
+abbrev pub lineDigits : Row → List ℕ → (ℕ → List ℕ) → ℕ → List ℕ
+lineDigits row notes tributary F = tab (F * row .digits) 0 (lineDigit row notes tributary)
+
+-- "A tributary's own places are its control, justification and tributary digits, stuffed or not."
+abbrev pub ownKind : Kind → Bool
+ownKind Word = false
+ownKind (Service s) = false
+ownKind Control = true
+ownKind Justification = true
+ownKind Tributary = true
+
+abbrev pub ownPlace : Row → ℕ → ℕ → Bool
+ownPlace row j p = eqb (p % 4) j && ownKind (kindAt row p)
+
+-- two lines that differ in places of tributary j only, in as many as one likes
+abbrev pub SameBut : Row → ℕ → ℕ → List ℕ → List ℕ → Type 0
+SameBut row j F ds es = (p : ℕ) → p < F * row .digits → ownPlace row j p ≡ false → getD ds p 0 ≡ getD es p 0
