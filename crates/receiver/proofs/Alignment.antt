@@ -1,30 +1,22 @@
 -- When frames are handed over: three good words, N digits apart, come first; a frame is ready exactly if the mode is aligned at
 -- its last digit; the fourth missed word in a row ends it; and the hunt finds a word that was half received at a failed check.
 use mathlib.Core.Path.{_≡_, refl, sym, ap, ap₂, _∙_}
-use mathlib.Core.Bool.{Bool, cond, true, false, _&&_, true≢false}
-use mathlib.Core.List.{List, [], _∷_, _++_, append-assoc, append-nil}
-use Prim.Native.Nat.{ℕ, zero, suc, _+_, _-_, _≤_, _<_}
+use mathlib.Core.Bool.{Bool, true, false, _&&_, true≢false}
+use mathlib.Core.List.{List, [], _∷_}
+use Prim.Native.Nat.{ℕ, suc, _+_, _-_, _≤_, _<_}
 use native.Mathlib.Omega.{arith}
-use native.Mathlib.Numerals.{add-one}
-use borrow.Author.Tests.{eqb-true, eqb-false, eq-eqb, ne-eqb, le-leb}
-use lib.Dec.{eqb, leb}
-use lib.ListN.{length, take, length-append}
-use Rattle.digits.specs.Digits.{Binary}
+use borrow.Author.Tests.{eqb-true, eq-eqb, ne-eqb}
+use lib.Dec.{eqb}
+use lib.ListN.{length}
 use Rattle.levels.specs.declared.table.Row.{Row}
-use Rattle.levels.specs.Table.{Shared}
 use Rattle.receiver.specs.declared.Mode.{Mode}
 use Rattle.receiver.specs.declared.Mode.the-variants.{Hunting, OneFound, TwoFound, Aligned}
 use Rattle.receiver.specs.declared.State.{State}
-use Rattle.receiver.specs.Modes.{hunting, windowOf, seenOf, good, asks, judged, placeAfter, afterDigit, stepOf}
-use Rattle.receiver.specs.Frame.{written, aligned, readyOf}
-use Rattle.receiver.specs.Feed.{coreOf, freshState, afterOf, Valid}
-use Rattle.receiver.specs.History.{heard, since, lastOf, ago, WordCame, ThreeWords}
-use Rattle.receiver.proofs.Written.{written-inj}
-use Rattle.receiver.proofs.Holding.{some-digits}
-use Rattle.receiver.proofs.Validity.{cond-told, and-both, asked-came}
-use Rattle.receiver.proofs.Lasts.{ago-none, ago-more, last-zeros}
-use Rattle.receiver.proofs.Traces.{Traced, traced-fresh, traced-more, traced-on}
-use Rattle.receiver.proofs.Pieces.{heard-append}
+use Rattle.receiver.specs.Modes.{hunting, seenOf, good, asks, judged, placeAfter, afterDigit, stepOf}
+use Rattle.receiver.specs.Frame.{aligned, readyOf}
+use Rattle.receiver.specs.Feed.{coreOf, afterOf}
+use Rattle.receiver.specs.History.{heard}
+use Rattle.receiver.proofs.Validity.{cond-told, and-both}
 
 -- ---- one digit, where the word is asked for and where it is not
 

@@ -1,7 +1,7 @@
 -- Laws of the frame in hand: what `begin` writes is `begun`, what `put_digit` leaves is `put`, and the mark digit by digit.
-use mathlib.Core.Path.{_≡_, refl, sym, ap, ap₂, _∙_}
-use mathlib.Core.Bool.{Bool, true, false, _&&_}
-use mathlib.Core.List.{List, [], _∷_, _++_, append-assoc}
+use mathlib.Core.Path.{_≡_, sym, ap, ap₂, _∙_}
+use mathlib.Core.Bool.{true, _&&_}
+use mathlib.Core.List.{List, _∷_, _++_, append-assoc}
 use Prim.Native.Nat.{ℕ, zero, suc, _+_, _-_, _*_, _/_, _%_, _^_, _≤_, _<_}
 use native.Mathlib.Omega.{arith}
 use native.Mathlib.Numerals.{add-one}
@@ -11,12 +11,12 @@ use lib.Dec.{eqb}
 use lib.ListN.{length, getD, set, take, replicate, length-append, length-take, length-set, length-replicate, getD-replicate, List·getD-append, replicate-append-replicate, List·getD-eq-default}
 use lib.Seq.{getD-append-add, getD-take}
 use lib.Pow.{shl-lt}
-use Rattle.digits.specs.Digits.{digitsOf, bytesOf, eight, Bytes, Binary}
-use Rattle.digits.proofs.Laws.{digits-length, digits-zeros, digits-binary, bytes-of-digits, digits-of-bytes, bytes-length}
+use Rattle.digits.specs.Digits.{digitsOf, eight, Bytes, Binary}
+use Rattle.digits.proofs.Laws.{digits-length, bytes-of-digits, digits-of-bytes, bytes-length}
 use Rattle.levels.specs.declared.table.Row.{Row}
 use Rattle.levels.specs.Table.{Shared}
-use Rattle.receiver.specs.Frame.{written, holding, begun, put, onesFrom, markOf}
-use Rattle.receiver.proofs.Written.{written-length, written-binary, written-split, written-shift, written-mod}
+use Rattle.receiver.specs.Frame.{written, holding, begun, put, onesFrom}
+use Rattle.receiver.proofs.Written.{written-length, written-split, written-shift, written-mod}
 
 -- a word has digits: ten, or else twelve
 pub some-digits : (row : Row) → Shared row → 10 ≤ row .len
@@ -85,10 +85,10 @@ head-fits row w s hw hs =
     let e : row .len + s ≡ 16 = omega arith in
     rw e at (shl-lt {a = w} (row .len) s hw)
 
-pub begun-is : (row : Row) → Shared row → (w s : ℕ) → w < 2 ^ row .len → s + row .len ≡ 16
+pub begun-is : (row : Row) (w s : ℕ) → w < 2 ^ row .len → s + row .len ≡ 16
     → w * 2 ^ s / 256 ∷ w * 2 ^ s % 256 ∷ replicate 364 0 ≡ begun row w
 unfolding begun holding
-begun-is row sh w s hw hs =
+begun-is row w s hw hs =
     let e : 16 ≡ row .len + s = omega arith in
     let n : 2928 - row .len ≡ s + 2912 = omega arith in
     let zeros : replicate {A = ℕ} s 0 ++ replicate 2912 0 ≡ replicate (s + 2912) 0 = replicate-append-replicate {A = ℕ} s 2912 0 in

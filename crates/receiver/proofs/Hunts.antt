@@ -1,11 +1,11 @@
 -- Laws of the hunt in a hurry: a digit that does not end the hunt only moves the window, and what is left to do stays the same.
 use mathlib.Core.Path.{_≡_, refl, sym, subst, _∙_}
-use mathlib.Core.Bool.{Bool, cond, true, false, true≢false}
-use mathlib.Core.List.{List, _∷_}
+use mathlib.Core.Bool.{true, false, true≢false}
+use mathlib.Core.List.{List}
 use Prim.Native.Nat.{ℕ, suc, _+_, _*_, _-_, _≤_, _<_, min}
 use native.Mathlib.Omega.{arith}
 use borrow.Author.Tests.{ltb-true, ltb-false}
-use lib.Dec.{ltb, leb}
+use lib.Dec.{ltb}
 use lib.ListN.{length, getD}
 use Rattle.digits.specs.Digits.{digitsOf}
 use Rattle.levels.specs.declared.table.Row.{Row}
@@ -13,7 +13,7 @@ use Rattle.levels.specs.Table.{Shared}
 use Rattle.receiver.specs.declared.Mode.{Mode}
 use Rattle.receiver.specs.declared.Mode.the-variants.{Hunting, OneFound, TwoFound, Aligned}
 use Rattle.receiver.specs.declared.modes.Core.{Core}
-use Rattle.receiver.specs.Modes.{hunting, windowOf, seenOf, good, asks, judged, placeAfter, afterDigit, stepOf}
+use Rattle.receiver.specs.Modes.{hunting, windowOf, seenOf, good, asks, placeAfter, afterDigit, stepOf}
 use Rattle.receiver.specs.Frame.{keepOf, readyOf}
 use Rattle.receiver.specs.Feed.{stateOf, afterOf, runOf, pieceOf, Valid}
 use Rattle.receiver.specs.Hunt.{stillHunting, Hunted}

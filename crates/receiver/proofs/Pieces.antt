@@ -1,32 +1,29 @@
 -- Calls in turn: a run is the history grown by the digits it took; two pieces in turn are one; a state handed back is valid;
 -- a frame that a call hands over is the N digits received last; and no call has a second answer.
-use mathlib.Core.Path.{_≡_, refl, sym, ap, subst, _∙_}
+use mathlib.Core.Path.{_≡_, refl, sym, ap, _∙_}
 use mathlib.Core.Bool.{Bool, cond, true, false, true≢false}
-use mathlib.Core.List.{List, [], _∷_, _++_, append-assoc}
-use Prim.Native.Nat.{ℕ, zero, suc, _+_, _*_, _-_, _≤_, _<_}
+use mathlib.Core.List.{List, [], _∷_, _++_}
+use Prim.Native.Nat.{ℕ, suc, _+_, _*_, _≤_}
 use native.Mathlib.Omega.{arith}
-use native.Mathlib.Nat.{suc-add, add-zero}
 use borrow.Author.Tests.{eq-eqb, eqb-true}
 use lib.Dec.{eqb}
-use lib.ListN.{length, getD, take, drop}
-use lib.Seq.{take-add, drop-drop, take-length, getD-take, getD-drop}
+use lib.ListN.{length, take, drop}
+use lib.Seq.{take-add, drop-drop, getD-drop}
 use Rattle.digits.specs.Digits.{digitsOf, Binary}
 use Rattle.digits.proofs.Laws.{digits-binary}
 use Rattle.levels.specs.declared.table.Row.{Row}
-use Rattle.levels.specs.declared.table.Level.{Level}
-use Rattle.levels.specs.declared.table.Level.the-variants.{Of, NoSuchLevel}
+use Rattle.levels.specs.declared.table.Level.the-variants.{Of}
 use Rattle.levels.specs.Table.{Shared, levelOf}
 use Rattle.levels.proofs.Rows.{shared-row}
-use Rattle.receiver.specs.declared.modes.Core.{Core}
 use Rattle.receiver.specs.declared.State.{State}
 use Rattle.receiver.specs.declared.Made.{Made}
 use Rattle.receiver.specs.declared.Fed.{Fed}
-use Rattle.receiver.specs.Frame.{readyOf, holding}
+use Rattle.receiver.specs.Frame.{readyOf}
 use Rattle.receiver.specs.Feed.{coreOf, freshState, freshOf, invalid, refusalOf, afterOf, handedOver, runOf, pieceOf, feedRow, feedOf, Valid}
 use Rattle.receiver.specs.History.{heard, since, joined, Handed}
 use Rattle.receiver.proofs.Holding.{binary-append, binary-take}
 use Rattle.receiver.proofs.Validity.{cond-told, valid-only, step-valid, Accepted, accepted-if, accepted-only}
-use Rattle.receiver.proofs.Traces.{Traced, traced-fresh, traced-on, traced, handed}
+use Rattle.receiver.proofs.Traces.{Traced, traced-fresh, traced, handed}
 
 -- ---- histories
 

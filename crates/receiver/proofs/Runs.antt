@@ -1,22 +1,19 @@
 -- Laws of the run over a piece: the loop's invariant, one turn of the loop, and its two ends.
-use mathlib.Core.Path.{_≡_, refl, sym, ap, _∙_}
-use mathlib.Core.Bool.{Bool, cond, true, false}
-use mathlib.Core.List.{List, [], _∷_}
-use Prim.Native.Nat.{ℕ, zero, suc, _+_, _*_, _-_, _≤_, _<_}
+use mathlib.Core.Path.{_≡_, refl, sym, _∙_}
+use mathlib.Core.Bool.{true, false}
+use mathlib.Core.List.{List, _∷_}
+use Prim.Native.Nat.{ℕ, suc, _+_, _*_, _-_, _≤_, _<_}
 use native.Mathlib.Omega.{arith}
 use native.Mathlib.Numerals.{add-one}
-use lib.ListN.{length, getD, take, drop}
+use lib.ListN.{length, getD}
 use lib.Seq.{drop-cons}
 use Rattle.digits.specs.Digits.{digitsOf}
 use Rattle.digits.proofs.Laws.{digits-length}
 use Rattle.levels.specs.declared.table.Row.{Row}
-use Rattle.levels.specs.Table.{Shared}
 use Rattle.receiver.specs.declared.modes.Core.{Core}
-use Rattle.receiver.specs.declared.State.{State}
-use Rattle.receiver.specs.declared.Fed.{Fed}
 use Rattle.receiver.specs.Modes.{stepOf}
 use Rattle.receiver.specs.Frame.{keepOf, readyOf, markOf}
-use Rattle.receiver.specs.Feed.{coreOf, stateOf, Valid, afterOf, accepted, runOf, pieceOf}
+use Rattle.receiver.specs.Feed.{stateOf, Valid, afterOf, accepted, runOf, pieceOf}
 use Rattle.receiver.specs.Hunt.{Hunted}
 
 -- what is left to do at place p, with core c and frame f, is what was to do at the start

@@ -1,27 +1,26 @@
 -- What a state reached from reset is, by the history of digits: the window, the digits seen, the frame in hand.
 -- From it the theorem `handed`: a frame handed over is the N digits received from its word on, later bytes zero.
-use mathlib.Core.Path.{_≡_, refl, sym, ap, ap₂, subst, _∙_}
-use mathlib.Core.Bool.{Bool, cond, true, false, _&&_, true≢false}
+use mathlib.Core.Path.{_≡_, refl, sym, ap, _∙_}
+use mathlib.Core.Bool.{cond, true, false, true≢false}
 use mathlib.Core.List.{List, [], _∷_, _++_, append-assoc, append-nil}
 use Prim.Native.Nat.{ℕ, zero, suc, _+_, _*_, _-_, _%_, _^_, _≤_, _<_, min}
 use native.Mathlib.Omega.{arith}
-use native.Mathlib.Numerals.{add-one}
 use borrow.Author.Tests.{ltb-true, ltb-false, leb-true, leb-false, eqb-true, ne-eqb}
 use lib.Dec.{eqb, ltb, leb}
-use lib.ListN.{length, getD, set, take, drop, replicate, length-append, length-replicate, length-take}
+use lib.ListN.{length, set, take, drop, replicate, length-append, length-replicate}
 use lib.Seq.{take-all, take-append-le, set-at}
-use Rattle.digits.specs.Digits.{digitsOf, bytesOf, Binary}
+use Rattle.digits.specs.Digits.{Binary}
 use Rattle.levels.specs.declared.table.Row.{Row}
 use Rattle.levels.specs.Table.{Shared}
 use Rattle.receiver.specs.declared.Mode.{Mode}
 use Rattle.receiver.specs.declared.Mode.the-variants.{Hunting, OneFound, TwoFound, Aligned}
 use Rattle.receiver.specs.declared.modes.Core.{Core}
 use Rattle.receiver.specs.declared.State.{State}
-use Rattle.receiver.specs.Modes.{hunting, windowOf, seenOf, good, asks, judged, placeAfter, afterDigit, stepOf}
+use Rattle.receiver.specs.Modes.{hunting, windowOf, seenOf, asks, placeAfter, afterDigit, stepOf}
 use Rattle.receiver.specs.Frame.{written, holding, begun, put, keepOf, aligned, readyOf}
-use Rattle.receiver.specs.Feed.{coreOf, stateOf, freshState, afterOf, Valid}
+use Rattle.receiver.specs.Feed.{coreOf, freshState, afterOf, Valid}
 use Rattle.receiver.specs.History.{heard, since, lastOf, Handed}
-use Rattle.receiver.proofs.Written.{written-length, written-binary, written-zero, written-more}
+use Rattle.receiver.proofs.Written.{written-zero, written-more}
 use Rattle.receiver.proofs.Holding.{some-digits, binary-append, holding-digits, holding-length}
 use Rattle.receiver.proofs.Validity.{cond-told, and-both, step-valid, asked-came}
 use Rattle.receiver.proofs.Lasts.{last-length, last-binary, last-more, last-less, last-zeros}

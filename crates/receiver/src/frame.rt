@@ -3,12 +3,10 @@ use crate::Mode;
 use crate::modes::Core;
 use levels::table::Row;
 ghost use mathlib.Core.Path.{_≡_};
-ghost use Prim.Native.Nat.{_+_, _*_, _-_, _^_, _<_, _≤_};
-ghost use lib.ListN.{length};
-ghost use Rattle.digits.specs.Digits.{digitsOf};
+ghost use Prim.Native.Nat.{_+_, _-_, _^_, _<_};
 ghost use Rattle.levels.specs.Table.{Shared};
 ghost use Rattle.receiver.specs.Feed.{Valid};
-ghost use Rattle.receiver.specs.Frame.{begun, put, keepOf, aligned, readyOf, onesFrom, markOf};
+ghost use Rattle.receiver.specs.Frame.{begun, put, keepOf, aligned, readyOf, markOf};
 
 // Cleared, with the L digits of the window first: they are the first digits of the first two bytes.
 fn begin(row: Row, shift: usize, window: usize, f: &mut [u8; 366])

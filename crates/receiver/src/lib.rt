@@ -7,9 +7,8 @@ use crate::modes::Core;
 use levels::table::Level;
 use levels::table::Row;
 ghost use mathlib.Core.Path.{_≡_};
-ghost use Prim.Native.Nat.{ℕ, _+_, _*_, _-_, _^_, _<_, _≤_};
-ghost use lib.ListN.{length, take, drop};
-ghost use Rattle.digits.specs.Digits.{digitsOf};
+ghost use Prim.Native.Nat.{_+_, _*_, _-_, _<_, _≤_};
+ghost use lib.ListN.{length};
 ghost use Rattle.levels.specs.Table.{Shared};
 ghost use Rattle.receiver.specs.Feed.{Valid, coreOf, stateOf, pieceOf, invalid, refusalOf, refused, accepted, runOf, feedRow, feedOf, freshState, freshOf};
 

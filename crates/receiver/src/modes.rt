@@ -2,7 +2,7 @@
 use crate::Mode;
 use levels::table::Row;
 ghost use mathlib.Core.Path.{_≡_};
-ghost use Prim.Native.Nat.{_+_, _*_, _-_, _^_, _<_, _≤_, min};
+ghost use Prim.Native.Nat.{_+_, _*_, _-_, _^_, _<_, _≤_};
 ghost use lib.ListN.{length};
 ghost use Rattle.levels.specs.Table.{Shared};
 ghost use Rattle.receiver.specs.Modes.{hunting, missed, windowOf, seenOf, good, asks, judged, placeAfter, stepOf};

@@ -1,11 +1,8 @@
 -- `feed_row` is `feedRow`: refused, or run.
 use borrow.Author.Needs.{needs}
-use mathlib.Core.Path.{_≡_, sym, _∙_}
-use mathlib.Core.Bool.{true}
-use Prim.Native.Nat.{ℕ}
+use mathlib.Core.Path.{sym, _∙_}
 use borrow.Author.Tests.{eq-eqb, ne-eqb}
-use lib.ListN.{length}
-use Rattle.receiver.specs.Feed.{feedRow, refusalOf, coreOf}
+use Rattle.receiver.specs.Feed.{feedRow}
 use Rattle.receiver.proofs.Validity.{accepted-if}
 use Rattle.receiver.proofs.feed_row.Statement.{statement}
 use Rattle.receiver.proofs.feed_row.Tie as tie

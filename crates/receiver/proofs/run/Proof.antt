@@ -1,6 +1,6 @@
 -- `run` is `runOf` over the piece's digits: what is left to do is what was to do (proofs/Runs.antt, `Going`).
 use borrow.Author.Needs.{needs}
-use mathlib.Core.Path.{_≡_, sym, _∙_}
+use mathlib.Core.Path.{sym, _∙_}
 use Prim.Native.Nat.{_-_}
 use native.Mathlib.Omega.{arith}
 use Rattle.receiver.proofs.Validity.{step-valid}

@@ -1,5 +1,5 @@
 -- `is_all_ones` is the mark: the digits passed were all 1, so what is left of the mark is the mark.
-use mathlib.Core.Path.{_≡_, refl, sym, _∙_}
+use mathlib.Core.Path.{_≡_, refl}
 use Prim.Native.Nat.{_≤_, _-_}
 use native.Mathlib.Omega.{arith}
 use borrow.Author.Tests.{eq-eqb, ne-eqb}
