@@ -1,7 +1,8 @@
-// Runs worked cases 9 and 10 of document 01 and more of the kind: each refusal at its border, and each pair of faults that tells the
+// Runs worked cases 9, 10 and 11 of document 01 and more of the kind: each refusal at its border, and each pair of faults that tells the
 // order. What it must write was worked out by the separate program of reference/, which shares nothing with the crates.
 mod inputs;
 mod say;
+mod stream;
 
 use demultiplex::Demultiplexed;
 use multiplex::Multiplexed;
@@ -331,6 +332,11 @@ fn main() {
         k += 1;
     }
     receive_all();
+    stream::feed_all();
+    stream::case_11(3392);
+    stream::case_11(1);
+    stream::case_11(7);
+    stream::case_11(1000);
 }
 
 fn receive_all() {
@@ -370,20 +376,17 @@ fn send_on(c: Sending, line: &mut [u8], notes: &mut [u8], buffer: &mut [u8]) {
 }
 
 fn sent(c: Sending, r: Multiplexed, sum: u64) {
-    say::text(b"multiplex level ");
-    say::number(c.level);
+    say::counted(b"multiplex level ", c.level);
     say::labelled(b" line ", c.line);
     say::labelled(b" notes ", c.notes);
     say::labelled(b" note ", c.note as usize);
     say::labelled(b" from ", c.from);
     say::labelled(b" buffer ", c.buffer);
-    say::text(b": refusal ");
-    say::number(r.refusal);
+    say::counted(b": refusal ", r.refusal);
     say::labelled(b" frame ", r.frame);
     let counts = r.counts;
     say::four(counts);
-    say::text(b" sum ");
-    say::number(sum);
+    say::counted(b" sum ", sum);
     say::text(b"\n");
 }
 
@@ -415,21 +418,17 @@ fn receive_on(c: Receiving, line: &mut [u8], notes: &mut [u8], buffer: &mut [u8]
 }
 
 fn received(c: Receiving, r: Demultiplexed, notes: u64, buffer: u64) {
-    say::text(b"demultiplex level ");
-    say::number(c.level);
+    say::counted(b"demultiplex level ", c.level);
     say::labelled(b" line ", c.line);
     say::labelled(b" fill ", c.fill as usize);
     say::labelled(b" notes ", c.notes);
     say::labelled(b" buffer ", c.buffer);
-    say::text(b": refusal ");
-    say::number(r.refusal);
+    say::counted(b": refusal ", r.refusal);
     let counts = r.counts;
     say::four(counts);
     say::labelled(b" alignment ", r.alignment);
     say::labelled(b" groups ", r.groups);
-    say::text(b" notes sum ");
-    say::number(notes);
-    say::text(b" sum ");
-    say::number(buffer);
+    say::counted(b" notes sum ", notes);
+    say::counted(b" sum ", buffer);
     say::text(b"\n");
 }

@@ -9,9 +9,13 @@ pub fn number(n: u64) {
     io::print_decimal(STDOUT_FILENO, n);
 }
 
-pub fn labelled(words: &[u8], n: usize) {
+pub fn counted(words: &[u8], n: u64) {
     text(words);
-    number(n as u64);
+    number(n);
+}
+
+pub fn labelled(words: &[u8], n: usize) {
+    counted(words, n as u64);
 }
 
 pub fn four(counts: [usize; 4]) {

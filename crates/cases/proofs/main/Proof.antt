@@ -34,6 +34,21 @@ loop-again c = search needs
 receive-all-requires : tie.Need-receive-all-requires Inv-loop μ-loop
 receive-all-requires c κs = search needs
 
+feed-all-requires : tie.Need-feed-all-requires Inv-loop μ-loop
+feed-all-requires c κs = search needs
+
+case-11-requires : tie.Need-case-11-requires Inv-loop μ-loop
+case-11-requires c κs = search needs
+
+case-11-requires-2 : tie.Need-case-11-requires-2 Inv-loop μ-loop
+case-11-requires-2 c κs = search needs
+
+case-11-requires-3 : tie.Need-case-11-requires-3 Inv-loop μ-loop
+case-11-requires-3 c κs = search needs
+
+case-11-requires-4 : tie.Need-case-11-requires-4 Inv-loop μ-loop
+case-11-requires-4 c κs = search needs
+
 returns : tie.Need-returns Inv-loop μ-loop
 returns c = search needs
 
@@ -51,4 +66,9 @@ main-spec =
     loop-less
     loop-again
     receive-all-requires
+    feed-all-requires
+    case-11-requires
+    case-11-requires-2
+    case-11-requires-3
+    case-11-requires-4
     returns)
