@@ -21,8 +21,9 @@ pub struct HandedOver {
 pub fn whole(level: u64, stream: &[u8]) -> (Vec<HandedOver>, State) {
     let (_, mut state) = fresh(level);
     let mut frames = Vec::new();
-    let Some(row) = row(level) else {
-        return (frames, state);
+    let row = match row(level) {
+        Some(row) => row,
+        None => return (frames, state),
     };
     let length = row.word_length();
     state.seen = stream.len().min(length) as u64;
@@ -32,10 +33,13 @@ pub fn whole(level: u64, stream: &[u8]) -> (Vec<HandedOver>, State) {
         let run = follow(row, stream, found);
         frames.extend(run.handed_over(row, stream));
         state.frame = run.in_hand(row, stream);
-        let Some(lost) = run.lost else {
-            state.mode = *run.modes.last().unwrap_or(&0);
-            state.place = (stream.len() - run.last_word(row)) as u64;
-            break;
+        let lost = match run.lost {
+            Some(lost) => lost,
+            None => {
+                state.mode = *run.modes.last().unwrap_or(&0);
+                state.place = (stream.len() - run.last_word(row)) as u64;
+                break;
+            }
         };
         // The digit of the failed check is not looked at again, the digits before it are.
         from = lost + 1;

@@ -25,10 +25,13 @@ pub struct Demultiplexed {
 /// The refusals 1 to 4, which depend only on the level and on lengths. It takes lengths
 /// and not slices, so that it also answers for lengths that no memory holds.
 pub fn length_refusal(level: u64, line_bytes: u64, notes_bytes: u64, buffer_bytes: u64) -> u64 {
-    let Some(row) = row(level) else { return 1 };
+    let row = match row(level) {
+        Some(row) => row,
+        None => return 1,
+    };
     let frame_bytes = row.frame_bytes() as u64;
     let frames = line_bytes / frame_bytes;
-    if !line_bytes.is_multiple_of(frame_bytes) || frames > MOST_FRAMES {
+    if line_bytes % frame_bytes != 0 || frames > MOST_FRAMES {
         return 2;
     }
     if notes_bytes != frames {
@@ -37,7 +40,7 @@ pub fn length_refusal(level: u64, line_bytes: u64, notes_bytes: u64, buffer_byte
     // Wider numbers: eight times a quarter need not fit in 64 bits.
     let room = u128::from(buffer_bytes / 4) * 8;
     let needed = u128::from(frames) * row.tributary_digits as u128;
-    if !buffer_bytes.is_multiple_of(4) || room < needed {
+    if buffer_bytes % 4 != 0 || room < needed {
         return 4;
     }
     0
@@ -47,8 +50,9 @@ pub fn length_refusal(level: u64, line_bytes: u64, notes_bytes: u64, buffer_byte
 pub fn multiplex(level: u64, line: &mut [u8], notes: &[u8], buffer: &[u8]) -> Multiplexed {
     let refused = |refusal, frame| Multiplexed { refusal, frame, counts: [0; 4] };
     let refusal = refusal_of(level, line, notes, buffer);
-    let Some(row) = row(level).filter(|_| refusal == 0) else {
-        return refused(refusal, 0);
+    let row = match row(level).filter(|_| refusal == 0) {
+        Some(row) => row,
+        None => return refused(refusal, 0),
     };
     if let Some(frame) = first_wrong_note(row, notes) {
         return refused(5, frame as u64);
@@ -70,8 +74,9 @@ pub fn multiplex(level: u64, line: &mut [u8], notes: &[u8], buffer: &[u8]) -> Mu
 /// Reads the line into the notes and the four quarters; the rest of each quarter is zero.
 pub fn demultiplex(level: u64, line: &[u8], notes: &mut [u8], buffer: &mut [u8]) -> Demultiplexed {
     let refusal = refusal_of(level, line, notes, buffer);
-    let Some(row) = row(level).filter(|_| refusal == 0) else {
-        return Demultiplexed { refusal, ..Demultiplexed::default() };
+    let row = match row(level).filter(|_| refusal == 0) {
+        Some(row) => row,
+        None => return Demultiplexed { refusal, ..Demultiplexed::default() },
     };
     let mut answer = Demultiplexed::default();
     let mut tributaries: [Vec<u8>; 4] = Default::default();

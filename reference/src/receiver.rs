@@ -36,9 +36,12 @@ pub fn fresh(level: u64) -> (u64, State) {
 /// completes a frame.
 pub fn feed(state: &State, piece: &[u8], first: u64, count: u64) -> Fed {
     let refusal = feed_refusal(state, piece.len() as u64, first, count);
-    let Some(row) = row(state.level).filter(|_| refusal == 0) else {
-        let state = state.clone();
-        return Fed { refusal, taken: 0, ready: false, all_ones: false, state };
+    let row = match row(state.level).filter(|_| refusal == 0) {
+        Some(row) => row,
+        None => {
+            let state = state.clone();
+            return Fed { refusal, taken: 0, ready: false, all_ones: false, state };
+        }
     };
     let mut receiver = Receiver::of(row, state);
     let (mut taken, mut ready) = (0, false);
@@ -78,8 +81,9 @@ pub fn feed_refusal(state: &State, slice_bytes: u64, first: u64, count: u64) -> 
 }
 
 fn valid(state: &State) -> bool {
-    let Some(row) = row(state.level) else {
-        return false;
+    let row = match row(state.level) {
+        Some(row) => row,
+        None => return false,
     };
     let length = row.word_length() as u64;
     let hunting = state.mode == 0;

@@ -134,7 +134,7 @@ fn long_notes(run: &mut Run, level: u64, frame_bytes: usize, notes: &mut [u8]) {
 /// Demultiplexing is asked only where it refuses: else it would clear 4 GiB.
 fn long_buffer(run: &mut Run, level: u64, frame_bytes: usize, buffer: &mut [u8]) {
     let inputs = format!("level {level}, one frame, 1 note, buffer {}", buffer.len());
-    if !buffer.len().is_multiple_of(4) {
+    if buffer.len() % 4 != 0 {
         let line = vec![0; frame_bytes];
         let expected = demultiplexed(level, &line, &mut [0], buffer);
         run.expect(1, &inputs, &expected, &raw_demultiplex(level, &line, &mut [0], buffer));

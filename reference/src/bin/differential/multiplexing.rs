@@ -66,7 +66,10 @@ fn there_and_back(run: &mut Run, level: u64, frames: usize) {
 
 /// Changes some digits of a line: any, or only control digits, so that groups split.
 fn damage(random: &mut Random, with: &mut Lending) {
-    let Some(row) = row(with.level) else { return };
+    let row = match row(with.level) {
+        Some(row) => row,
+        None => return,
+    };
     let digits = with.line.len() * 8;
     let changes = digits.min(random.index(60));
     match random.below(5) {
@@ -93,7 +96,10 @@ fn control_place(random: &mut Random, row: &Row, digits: usize) -> usize {
 /// else but for the faults, so that each fault can be the only one.
 fn lending(random: &mut Random, level: u64, frames: usize, faults: Faults) -> Lending {
     let has = |number: u64| faults >> (number - 1) & 1 == 1;
-    let Some(row) = row(level) else { unreachable!("sound levels only") };
+    let row = match row(level) {
+        Some(row) => row,
+        None => unreachable!("sound levels only"),
+    };
     let frames = if has(2) && random.once_in(2) { 65 + random.index(2) } else { frames };
     let mut line = frames * row.frame_bytes();
     if has(2) && frames <= 64 {
@@ -109,7 +115,7 @@ fn lending(random: &mut Random, level: u64, frames: usize, faults: Faults) -> Le
     if has(3) {
         wrong_notes(random, &mut notes);
     }
-    let least = (frames * row.tributary_digits).div_ceil(8);
+    let least = (frames * row.tributary_digits + 7) / 8;
     let quarter = least + random.pick(&[0, 0, 1, 2, 17]);
     let buffer = if has(4) { wrong_buffer(random, least) } else { 4 * quarter };
     Lending {

@@ -36,7 +36,10 @@ fn any_digit(run: &mut Run) {
 fn any_piece(run: &mut Run) {
     let random = &mut run.random;
     let level = 2 + random.below(3);
-    let Some(row) = row(level) else { return };
+    let row = match row(level) {
+        Some(row) => row,
+        None => return,
+    };
     let mut state = any_state(random, row);
     let digits = digits_for(random, row, &state);
     let count = digits.len() as u64;
@@ -169,7 +172,10 @@ fn cut(random: &mut Random, digits: &[u8], from: usize, to: usize, state: &State
 /// whole stream must have found the same frames and the same state.
 fn stream_from_fresh(run: &mut Run) {
     let level = 2 + run.random.below(3);
-    let Some(row) = row(level) else { return };
+    let row = match row(level) {
+        Some(row) => row,
+        None => return,
+    };
     let digits = stream(&mut run.random, row);
     run.compare(&Call::Fresh(level));
     let (mut state, mut at, mut frames) = (fresh(level).1, 0, Vec::new());
@@ -224,7 +230,7 @@ fn stream(random: &mut Random, row: &Row) -> Vec<u8> {
 fn one_frame(random: &mut Random, row: &Row) -> Vec<u8> {
     let mut line = vec![0; row.frame_bytes()];
     let note = random.number() as u8 & if row.level < 4 { 0x3F } else { 0xFF };
-    let buffer = random.filled(4 * row.tributary_digits.div_ceil(8));
+    let buffer = random.filled(4 * ((row.tributary_digits + 7) / 8));
     multiplex(row.level, &mut line, &[note], &buffer);
     let mut digits = reference::digits::unpack(&line, row.frame_digits);
     if random.once_in(5) {

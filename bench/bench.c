@@ -1,0 +1,316 @@
+/*
+ * Times the library beside a plain and a quick engine, all on the same input in the same run, and
+ * prints a Markdown table. First all three are compared on that input and on damaged and cut
+ * versions of it: a benchmark of wrong code is worth nothing.
+ *
+ * usage: bench REPEATS
+ */
+#define _POSIX_C_SOURCE 199309L
+#include <stdio.h>
+#include <stdlib.h>
+#include <string.h>
+#include <time.h>
+
+#include "engines.h"
+#include "rows.h"
+#include "spritbobbin.h"
+
+enum { FRAMES = 64, ENGINES = 3, TASKS = 4, LEVELS = 3 };
+enum { LINE_BYTES = FRAMES * 366, BUFFER_BYTES = 4 * ((FRAMES * 723 + 7) / 8) };
+/* The stream's first frame begins in the middle of a byte, as frames do on a real line. */
+enum { STREAM_FIRST = 3 };
+
+static const struct engine {
+    const char *name;
+    multiplex_call *multiplex;
+    demultiplex_call *demultiplex;
+    feed_call *feed;
+} engines[ENGINES] = {
+    {"library", spritbobbin_multiplex, spritbobbin_demultiplex, spritbobbin_receiver_feed},
+    {"plain C", plain_multiplex, plain_demultiplex, plain_receiver_feed},
+    {"quick C", quick_multiplex, quick_demultiplex, quick_receiver_feed},
+};
+
+/* The order of comparing: the others are held to the plain engine. */
+enum { PLAIN = 1 };
+static const unsigned PLAIN_FIRST[ENGINES] = {PLAIN, 0, 2};
+
+static const char *const tasks[TASKS] = {"multiplex", "demultiplex", "receiver, aligned", "receiver, hunting"};
+
+/* What the engines are given at one level: no engine writes here. */
+struct input {
+    const struct row *row;
+    size_t line_bytes, buffer_bytes;
+    uint8_t notes[FRAMES], buffer[BUFFER_BYTES], line[LINE_BYTES];
+    uint8_t stream[LINE_BYTES + 1]; /* the line, from digit STREAM_FIRST on */
+    uint8_t noise[LINE_BYTES];      /* digits without an alignment word */
+};
+
+/* What one engine works in. */
+struct output {
+    uint8_t notes[FRAMES], buffer[BUFFER_BYTES], line[LINE_BYTES], frame[2][366];
+    uint64_t state[2][5]; /* of an aligned receiver, and of one that hunts */
+    uint64_t answer[7];
+};
+
+static struct input inputs[LEVELS];
+static struct output outputs[LEVELS][ENGINES];
+
+static void check(int holds, const char *what, const struct row *row, const char *engine)
+{
+    if (!holds) {
+        fprintf(stderr, "bench: level %u: %s: %s\n", (unsigned)row->level, engine, what);
+        exit(1);
+    }
+}
+
+/* xorshift64: the same input in every run. */
+static uint64_t random_number(void)
+{
+    static uint64_t x = UINT64_C(0x9E3779B97F4A7C15);
+
+    x ^= x << 13;
+    x ^= x >> 7;
+    x ^= x << 17;
+    return x;
+}
+
+static void fill_randomly(uint8_t *bytes, size_t length)
+{
+    while (length--)
+        *bytes++ = (uint8_t)(random_number() >> 32);
+}
+
+static unsigned digit_at(const uint8_t *bytes, size_t place)
+{
+    return bytes[place / 8] >> (7 - place % 8) & 1;
+}
+
+/* Breaks every alignment word by its last digit. Goes on past the end, since the digits are read round
+   and round: over one word that runs from the end to the start, and one that its break could make. */
+static void remove_words(const struct row *row, uint8_t *bytes, size_t length)
+{
+    unsigned window = 0, mask = (1u << row->word_digits) - 1;
+
+    for (size_t place = 0; place < 8 * length + 2 * row->word_digits; place++) {
+        size_t at = place % (8 * length);
+
+        window = (window << 1 | digit_at(bytes, at)) & mask;
+        if (window == row->word) {
+            bytes[at / 8] ^= (uint8_t)(0x80 >> at % 8);
+            window ^= 1;
+        }
+    }
+}
+
+static void make_input(struct input *input, const struct row *row)
+{
+    size_t length = input->line_bytes = FRAMES * row->frame_digits / 8;
+    uint64_t answer[5];
+
+    input->row = row;
+    input->buffer_bytes = 4 * ((FRAMES * row->tributary_digits + 7) / 8);
+    fill_randomly(input->notes, FRAMES);
+    for (unsigned f = 0; f < FRAMES; f++)
+        input->notes[f] &= row->service_digits == 4 ? 0xFF : 0x3F;
+    fill_randomly(input->buffer, input->buffer_bytes);
+    plain_multiplex(row->level, input->line, length, input->notes, FRAMES, input->buffer, input->buffer_bytes, answer);
+    for (size_t i = 0; i <= length; i++)
+        input->stream[i] = (uint8_t)((i ? input->line[i - 1] << (8 - STREAM_FIRST) : 0)
+                                     | (i < length ? input->line[i] >> STREAM_FIRST : 0));
+    fill_randomly(input->noise, length);
+    remove_words(row, input->noise, length);
+}
+
+/* Gives a receiver all digits, and says how many frames were ready. */
+static unsigned feed_all(feed_call *feed, uint64_t state[5], uint8_t frame[366], const uint8_t *bytes, size_t length,
+                         uint64_t first, uint64_t count)
+{
+    uint64_t answer[3];
+    unsigned frames = 0;
+
+    for (; count; first += answer[0], count -= answer[0]) {
+        if (feed(state, frame, bytes, length, first, count, answer) != 0 || answer[0] == 0)
+            return 0;
+        frames += (unsigned)answer[1];
+    }
+    return frames;
+}
+
+/* One task, once, over all 64 frames. */
+static unsigned run(unsigned task, const struct engine *engine, const struct input *input, struct output *output)
+{
+    uint64_t level = input->row->level, digits = FRAMES * (uint64_t)input->row->frame_digits;
+    size_t length = input->line_bytes;
+
+    switch (task) {
+    case 0:
+        return (unsigned)engine->multiplex(level, output->line, length, input->notes, FRAMES,
+                                           input->buffer, input->buffer_bytes, output->answer);
+    case 1:
+        return (unsigned)engine->demultiplex(level, input->line, length, output->notes, FRAMES,
+                                             output->buffer, input->buffer_bytes, output->answer);
+    case 2:
+        return feed_all(engine->feed, output->state[0], output->frame[0], input->stream, length + 1, STREAM_FIRST, digits);
+    default:
+        return feed_all(engine->feed, output->state[1], output->frame[1], input->noise, length, 0, digits);
+    }
+}
+
+/* Runs every task twice on the timed input, which leaves each receiver as the timing wants it, and
+   compares all that was written with what the plain engine wrote. */
+static void compare_timed(unsigned level, unsigned e)
+{
+    const struct input *input = &inputs[level];
+    const struct row *row = input->row;
+    struct output *output = &outputs[level][e], *plain = &outputs[level][PLAIN];
+    const char *name = engines[e].name;
+
+    memset(output, 0xA5, sizeof *output);
+    memset(output->state, 0, sizeof output->state);
+    memset(output->frame, 0, sizeof output->frame);
+    output->state[0][0] = output->state[1][0] = row->level;
+    for (unsigned task = 0; task < TASKS; task++) {
+        unsigned once = run(task, &engines[e], input, output), twice = run(task, &engines[e], input, output);
+
+        check(once == (task == 2 ? FRAMES - 2 : 0), "a first run answers otherwise", row, name);
+        check(twice == (task == 2 ? FRAMES : 0), "a second run answers otherwise", row, name);
+    }
+    check(output->state[0][3] == SPRITBOBBIN_ALIGNED, "the aligned receiver is not aligned", row, name);
+    check(output->state[1][3] == SPRITBOBBIN_HUNTING, "the hunting receiver does not hunt", row, name);
+    check(memcmp(output->line, input->line, input->line_bytes) == 0, "another line", row, name);
+    check(memcmp(output->notes, input->notes, FRAMES) == 0, "other notes", row, name);
+    check(memcmp(output, plain, sizeof *output) == 0, "another result", row, name);
+}
+
+/* A copy of the line with some digits turned over, some of them in alignment words. */
+static void damage(const struct input *input, uint8_t *line, unsigned errors)
+{
+    memcpy(line, input->line, input->line_bytes);
+    while (errors--) {
+        size_t place = random_number() % (8 * input->line_bytes);
+
+        if (errors % 2)
+            place -= place % input->row->frame_digits;
+        line[place / 8] ^= (uint8_t)(0x80 >> place % 8);
+    }
+}
+
+static void compare_demultiplexing(const struct input *input, const uint8_t *line)
+{
+    static struct output of[ENGINES];
+
+    memset(of, 0, sizeof of);
+    for (unsigned i = 0; i < ENGINES; i++) {
+        unsigned e = PLAIN_FIRST[i];
+
+        memset(of[e].buffer, 0xA5, input->buffer_bytes);
+        engines[e].demultiplex(input->row->level, line, input->line_bytes, of[e].notes, FRAMES,
+                               of[e].buffer, input->buffer_bytes, of[e].answer);
+        check(memcmp(&of[e], &of[PLAIN], sizeof of[e]) == 0, "demultiplexes a damaged line otherwise", input->row, engines[e].name);
+    }
+}
+
+/* Feeds the same pieces, cut anywhere, to all engines; compares every answer and every state. */
+static void compare_receiving(const struct input *input, const uint8_t *line, uint64_t longest)
+{
+    uint64_t place = 0, end = 8 * (uint64_t)input->line_bytes, answer[ENGINES][3], state[ENGINES][5] = {{0}};
+    uint8_t frame[ENGINES][366] = {{0}};
+
+    for (unsigned e = 0; e < ENGINES; e++)
+        state[e][0] = input->row->level;
+    while (place < end) {
+        uint64_t count = random_number() % longest;
+
+        count = count < end - place ? count : end - place;
+        for (unsigned i = 0; i < ENGINES; i++) {
+            unsigned e = PLAIN_FIRST[i];
+
+            engines[e].feed(state[e], frame[e], line, input->line_bytes, place, count, answer[e]);
+            check(memcmp(answer[e], answer[PLAIN], sizeof answer[e]) == 0
+                  && memcmp(state[e], state[PLAIN], sizeof state[e]) == 0
+                  && memcmp(frame[e], frame[PLAIN], sizeof frame[e]) == 0, "receives otherwise", input->row, engines[e].name);
+        }
+        place += answer[PLAIN][0];
+    }
+}
+
+static void compare(unsigned level)
+{
+    static uint8_t line[LINE_BYTES];
+    const struct input *input = &inputs[level];
+
+    for (unsigned i = 0; i < ENGINES; i++)
+        compare_timed(level, PLAIN_FIRST[i]);
+    for (unsigned round = 0; round < 8; round++) {
+        damage(input, line, 40 * round);
+        compare_demultiplexing(input, line);
+        compare_receiving(input, line, 1 + (UINT64_C(8) << 2 * round));
+    }
+    compare_demultiplexing(input, input->noise);
+    compare_receiving(input, input->noise, 5000);
+}
+
+static double now(void)
+{
+    struct timespec time;
+
+    clock_gettime(CLOCK_MONOTONIC, &time);
+    return 1e9 * (double)time.tv_sec + (double)time.tv_nsec;
+}
+
+static double best[LEVELS][TASKS][ENGINES];
+
+/* The engines take turns, so that what else the machine does hits all alike. */
+static void time_once(void)
+{
+    for (unsigned level = 0; level < LEVELS; level++)
+        for (unsigned task = 0; task < TASKS; task++)
+            for (unsigned e = 0; e < ENGINES; e++) {
+                double begin = now(), took;
+
+                run(task, &engines[e], &inputs[level], &outputs[level][e]);
+                took = now() - begin;
+                if (best[level][task][e] == 0 || took < best[level][task][e])
+                    best[level][task][e] = took;
+            }
+}
+
+static void print_table(void)
+{
+    printf("| %-17s | level |", "");
+    for (unsigned e = 0; e < ENGINES; e++)
+        printf(" %s, ns a digit | times the rate |", engines[e].name);
+    printf("\n|---|---|---:|---:|---:|---:|---:|---:|\n");
+    for (unsigned task = 0; task < TASKS; task++)
+        for (unsigned level = 0; level < LEVELS; level++) {
+            const struct row *row = inputs[level].row;
+
+            printf("| %-17s | %5u |", tasks[task], (unsigned)row->level);
+            for (unsigned e = 0; e < ENGINES; e++) {
+                double each = best[level][task][e] / (FRAMES * row->frame_digits);
+
+                printf(" %19.3f | %14.1f |", each, 1e6 / row->kilobits / each);
+            }
+            printf("\n");
+        }
+}
+
+int main(int count, char **words)
+{
+    int repeats = count > 1 ? atoi(words[1]) : 0;
+
+    if (repeats < 1) {
+        fprintf(stderr, "usage: bench REPEATS\n");
+        return 2;
+    }
+    for (unsigned level = 0; level < LEVELS; level++) {
+        make_input(&inputs[level], &ROWS[level]);
+        compare(level);
+    }
+    fprintf(stderr, "bench: the three give the same bytes\n");
+    while (repeats--)
+        time_once();
+    print_table();
+    return 0;
+}

@@ -1,0 +1,194 @@
+/* The plain engine: every digit is looked at, and put, by itself. */
+#include <string.h>
+
+#include "engines.h"
+#include "rows.h"
+
+static unsigned get(const uint8_t *bytes, size_t place)
+{
+    return bytes[place / 8] >> (7 - place % 8) & 1;
+}
+
+static void put(uint8_t *bytes, size_t place, unsigned digit)
+{
+    uint8_t bit = (uint8_t)(0x80 >> place % 8);
+
+    bytes[place / 8] = (uint8_t)(digit ? bytes[place / 8] | bit : bytes[place / 8] & ~bit);
+}
+
+enum kind { WORD, SERVICE, CONTROL, JUSTIFICATION, TRIBUTARY };
+
+static enum kind kind_of(const struct row *row, unsigned set, unsigned at)
+{
+    if (set == 0 && at < row->word_digits)
+        return WORD;
+    if (set == 0 && at < row->word_digits + row->service_digits)
+        return SERVICE;
+    if (set > 0 && at < 4)
+        return CONTROL;
+    if (set == row->sets - 1 && at < 8)
+        return JUSTIFICATION;
+    return TRIBUTARY;
+}
+
+static unsigned word_digit(const struct row *row, unsigned at)
+{
+    return row->word >> (row->word_digits - 1 - at) & 1;
+}
+
+uint64_t plain_multiplex(uint64_t level, uint8_t *line, size_t line_bytes, const uint8_t *notes, size_t notes_bytes,
+                         const uint8_t *buffer, size_t buffer_bytes, uint64_t answer[5])
+{
+    const struct row *row = row_of(level);
+    size_t quarter = buffer_bytes / 4, place = 0, next[4] = {0}, f;
+
+    (void)line_bytes;
+    for (f = 0; f < notes_bytes; f++) {
+        for (unsigned set = 0; set < row->sets; set++) {
+            for (unsigned at = 0; at < row->set_digits; at++) {
+                unsigned j = at % 4, digit = 0;
+
+                switch (kind_of(row, set, at)) {
+                case WORD:
+                    digit = word_digit(row, at);
+                    break;
+                case SERVICE:
+                    digit = notes[f] >> (4 + at - row->word_digits) & 1;
+                    break;
+                case CONTROL:
+                    digit = notes[f] >> j & 1;
+                    break;
+                case JUSTIFICATION:
+                    digit = notes[f] >> j & 1 ? 1 : get(buffer + j * quarter, next[j]++);
+                    break;
+                case TRIBUTARY:
+                    digit = get(buffer + j * quarter, next[j]++);
+                    break;
+                }
+                put(line, place++, digit);
+            }
+        }
+    }
+    for (unsigned j = 0; j < 4; j++)
+        answer[j] = next[j];
+    answer[4] = 0;
+    return 0;
+}
+
+uint64_t plain_demultiplex(uint64_t level, const uint8_t *line, size_t line_bytes, uint8_t *notes, size_t notes_bytes,
+                           uint8_t *buffer, size_t buffer_bytes, uint64_t answer[7])
+{
+    const struct row *row = row_of(level);
+    size_t quarter = buffer_bytes / 4, place = 0, next[4] = {0}, f;
+
+    (void)line_bytes;
+    memset(answer, 0, 7 * sizeof answer[0]);
+    memset(buffer, 0, buffer_bytes);
+    for (f = 0; f < notes_bytes; f++) {
+        unsigned ones[4] = {0}, note = 0;
+
+        for (unsigned set = 0; set < row->sets; set++) {
+            for (unsigned at = 0; at < row->set_digits; at++) {
+                unsigned j = at % 4, digit = get(line, place++);
+
+                switch (kind_of(row, set, at)) {
+                case WORD:
+                    answer[5] += digit != word_digit(row, at);
+                    break;
+                case SERVICE:
+                    note |= digit << (4 + at - row->word_digits);
+                    break;
+                case CONTROL:
+                    ones[j] += digit;
+                    break;
+                case JUSTIFICATION:
+                    if (2 * ones[j] > row->sets - 1)
+                        note |= 1u << j;
+                    else
+                        put(buffer + j * quarter, next[j]++, digit);
+                    break;
+                case TRIBUTARY:
+                    put(buffer + j * quarter, next[j]++, digit);
+                    break;
+                }
+            }
+        }
+        for (unsigned j = 0; j < 4; j++)
+            answer[6] += ones[j] != 0 && ones[j] != row->sets - 1;
+        notes[f] = (uint8_t)note;
+    }
+    for (unsigned j = 0; j < 4; j++)
+        answer[j] = next[j];
+    return 0;
+}
+
+static unsigned all_ones(const struct row *row, const uint8_t *frame)
+{
+    for (unsigned place = row->word_digits; place < row->frame_digits; place++)
+        if (!get(frame, place))
+            return 0;
+    return 1;
+}
+
+static void begin_frame(const struct row *row, uint8_t *frame, uint64_t window)
+{
+    memset(frame, 0, 366);
+    for (unsigned at = 0; at < row->word_digits; at++)
+        put(frame, at, window >> (row->word_digits - 1 - at) & 1);
+}
+
+/* The mode after the word of a frame is due: 0 hunting, 3 + m aligned with m missed. */
+static uint64_t judged(uint64_t mode, int good)
+{
+    if (mode < 3)
+        return good ? mode + 1 : 0;
+    if (good)
+        return 3;
+    return mode == 6 ? 0 : mode + 1;
+}
+
+/* A shift register, digit by digit. */
+uint64_t plain_receiver_feed(uint64_t state[5], uint8_t frame[366], const uint8_t *piece, size_t piece_bytes,
+                             uint64_t first, uint64_t count, uint64_t answer[3])
+{
+    const struct row *row = row_of(state[0]);
+    uint64_t window = state[1], seen = state[2], mode = state[3], place = state[4], taken = 0;
+    const uint64_t end = row->frame_digits, last = end - row->word_digits;
+
+    (void)piece_bytes;
+    answer[1] = answer[2] = 0;
+    while (taken < count && !answer[1]) {
+        unsigned digit = get(piece, first + taken++);
+        int good;
+
+        window = (window << 1 | digit) & ((1u << row->word_digits) - 1);
+        seen += seen < row->word_digits;
+        good = window == row->word;
+        if (mode == 0) {
+            if (good && seen == row->word_digits) {
+                mode = 1;
+                begin_frame(row, frame, window);
+            }
+            continue;
+        }
+        place++;
+        if (place <= last)
+            put(frame, row->word_digits - 1 + place, digit);
+        if (place == last && mode >= 3) {
+            answer[1] = 1;
+            answer[2] = all_ones(row, frame);
+        }
+        if (place == end) {
+            mode = judged(mode, good);
+            place = 0;
+            if (mode)
+                begin_frame(row, frame, window);
+        }
+    }
+    state[1] = window;
+    state[2] = seen;
+    state[3] = mode;
+    state[4] = place;
+    answer[0] = taken;
+    return 0;
+}

@@ -1,0 +1,266 @@
+/*
+ * spritbobbin.h: frames of 8448, 34368 and 139264 kbit/s (G.742, G.751), built, taken apart,
+ * and found in a stream of digits.
+ *
+ * Link with libspritbobbin.a, which is for x86-64 Linux and asks for memcpy, memset and the like
+ * and nothing else.
+ *
+ * Nothing checks this header against the library's source: change the two together. The tests
+ * call every function through it and compare every answer.
+ *
+ *
+ * WORDS
+ *
+ * level       2 (8448 kbit/s), 3 (34368 kbit/s) or 4 (139264 kbit/s).
+ * digit       0 or 1. Digits are packed eight to a byte, the first in the most significant bit.
+ * line        F whole frames, one after the other, F from 0 to 64.
+ * place       where a digit stands, counted from 0.
+ * word        the alignment digits at the head of a frame: the first L places.
+ * tributary   one of the four signals that a frame carries, numbered 1 to 4.
+ * buffer      the digits of the four tributaries, in four equal quarters, quarter j for
+ *             tributary j. A tributary's digits are the first of its quarter and run on from
+ *             frame to frame without a gap.
+ * note        one byte for each frame: which tributaries are stuffed, and the service digits.
+ *
+ *                           level 2    level 3    level 4
+ *   frame, digits N             848       1536       2928
+ *   frame, bytes                106        192        366
+ *   word, digits L               10         10         12
+ *   digits n of a tributary     206        378        723    in a frame; one fewer if stuffed
+ *   national digits               1          1          3
+ *
+ *
+ * WHO OWNS WHAT
+ *
+ * The caller owns all memory. A call borrows what it is lent until it returns and keeps no
+ * pointer; nothing is allocated, nothing is kept between calls, there is nothing to free. Calls
+ * may run at the same time on memory that is not shared.
+ *
+ * A slice passes as a pointer and then its length in bytes. The length must be true. A null
+ * pointer is allowed only with length 0. The arrays (answer, state, frame) must be there, with
+ * as many elements as the prototype says.
+ *
+ * What one call is lent must not overlap: no two of its slices and arrays may share a byte.
+ *
+ * Beyond this a call may be given anything: every number and every content has an answer.
+ *
+ *
+ * REFUSALS
+ *
+ * Each call but spritbobbin_line_digit returns one of these numbers.
+ *
+ *   0  accepted
+ *   1  the level is not 2, 3 or 4
+ *   2  the line is not a whole number of frames, or has over 64; for a piece: the slice is over
+ *      65,536 bytes
+ *   3  the notes are not exactly F bytes
+ *   4  the buffer's length is not a multiple of 4, or a quarter has room for fewer than F * n
+ *      digits (asked even where frames are stuffed and fewer are needed)
+ *   5  multiplexing at level 2 or 3: a note has bit 6 or 7 set; the answer names the first such
+ *      frame, counted from 0
+ *   6  the receiver state is not valid: a level that is not 2, 3 or 4, a window of 2 to the L
+ *      or more, over L digits seen, a mode over 6, a place of N or more, hunting at a place
+ *      other than 0, or not hunting with fewer than L digits seen
+ *   7  first + count is more than the digits of the slice
+ *
+ * Where several apply, the first in this order is returned: 1, 2, 3, 4, 5 for the two multiplex
+ * calls, 6, 2, 7 for a piece. A refused call writes nothing that it was lent, but the answer: all
+ * its numbers are 0, except the named frame under 5. (A fresh state is an answer too.)
+ *
+ *
+ * EXAMPLE
+ *
+ * Builds a frame, takes it apart, and finds it in a stream that repeats it.
+ *
+ *     #include <stdio.h>
+ *     #include <string.h>
+ *     #include "spritbobbin.h"
+ *
+ *     #define QUARTER SPRITBOBBIN_QUARTER_BYTES(1, SPRITBOBBIN_TRIBUTARY_DIGITS_2)
+ *     #define FRAME SPRITBOBBIN_FRAME_BYTES_2
+ *
+ *     static void receive(const uint8_t *bytes, size_t length)
+ *     {
+ *         uint64_t state[5], answer[3], first = 0, digits = 8 * (uint64_t)length;
+ *         uint8_t frame[366];
+ *
+ *         spritbobbin_receiver_fresh(2, state, frame);
+ *         while (first < digits) {
+ *             if (spritbobbin_receiver_feed(state, frame, bytes, length,
+ *                                           first, digits - first, answer) != 0)
+ *                 return;
+ *             first += answer[SPRITBOBBIN_TAKEN];
+ *             if (answer[SPRITBOBBIN_READY])
+ *                 printf("a frame ends after digit %u\n", (unsigned)first);
+ *         }
+ *     }
+ *
+ *     int main(void)
+ *     {
+ *         uint8_t line[FRAME], stream[4 * FRAME], buffer[4 * QUARTER] = {0};
+ *         uint8_t notes[1] = {SPRITBOBBIN_STUFFED_1 | SPRITBOBBIN_REMOTE_ALARM};
+ *         uint64_t sent[5], received[7];
+ *         int i;
+ *
+ *         buffer[1 * QUARTER] = 0x80; // the first digit of tributary 2
+ *         if (spritbobbin_multiplex(2, line, sizeof line, notes, sizeof notes,
+ *                                   buffer, sizeof buffer, sent) != SPRITBOBBIN_ACCEPTED)
+ *             return 1;
+ *         printf("tributary 1 sent %u digits\n", (unsigned)sent[0]);
+ *
+ *         if (spritbobbin_demultiplex(2, line, sizeof line, notes, sizeof notes,
+ *                                     buffer, sizeof buffer, received) != SPRITBOBBIN_ACCEPTED)
+ *             return 1;
+ *         printf("%u alignment digits differ\n", (unsigned)received[SPRITBOBBIN_ALIGNMENT]);
+ *
+ *         for (i = 0; i < 4; i++)
+ *             memcpy(stream + i * FRAME, line, FRAME);
+ *         receive(stream, sizeof stream);
+ *         return 0;
+ *     }
+ */
+#ifndef SPRITBOBBIN_H
+#define SPRITBOBBIN_H
+
+#include <stddef.h>
+#include <stdint.h>
+
+#ifdef __cplusplus
+extern "C" {
+#endif
+
+/* Refusal numbers. */
+enum {
+    SPRITBOBBIN_ACCEPTED = 0,
+    SPRITBOBBIN_REFUSED_LEVEL = 1,
+    SPRITBOBBIN_REFUSED_LINE = 2, /* for a piece: its slice */
+    SPRITBOBBIN_REFUSED_NOTES = 3,
+    SPRITBOBBIN_REFUSED_BUFFER = 4,
+    SPRITBOBBIN_REFUSED_NOTE_BITS = 5,
+    SPRITBOBBIN_REFUSED_STATE = 6,
+    SPRITBOBBIN_REFUSED_DIGITS = 7
+};
+
+/* Sizes, by level where they differ. */
+enum {
+    SPRITBOBBIN_FRAME_DIGITS_2 = 848,
+    SPRITBOBBIN_FRAME_DIGITS_3 = 1536,
+    SPRITBOBBIN_FRAME_DIGITS_4 = 2928,
+    SPRITBOBBIN_FRAME_BYTES_2 = 106,
+    SPRITBOBBIN_FRAME_BYTES_3 = 192,
+    SPRITBOBBIN_FRAME_BYTES_4 = 366,
+    SPRITBOBBIN_TRIBUTARY_DIGITS_2 = 206, /* in a frame that is not stuffed */
+    SPRITBOBBIN_TRIBUTARY_DIGITS_3 = 378,
+    SPRITBOBBIN_TRIBUTARY_DIGITS_4 = 723,
+    SPRITBOBBIN_FRAME_STORE_BYTES = 366, /* the receiver's frame in hand, at every level */
+    SPRITBOBBIN_MOST_FRAMES = 64,        /* in a line */
+    SPRITBOBBIN_MOST_BYTES = 65536       /* in a piece, or in a line that is read digit by digit */
+};
+
+/* The fewest bytes of a quarter for so many frames, tributary_digits being n of the level. The
+   buffer is four times as long. */
+#define SPRITBOBBIN_QUARTER_BYTES(frames, tributary_digits) \
+    (((frames) * (tributary_digits) + 7) / 8)
+
+/* The bits of a note. */
+enum {
+    SPRITBOBBIN_STUFFED_1 = 1, /* tributary 1 is stuffed in this frame */
+    SPRITBOBBIN_STUFFED_2 = 2,
+    SPRITBOBBIN_STUFFED_3 = 4,
+    SPRITBOBBIN_STUFFED_4 = 8,
+    SPRITBOBBIN_REMOTE_ALARM = 16, /* the remote alarm digit is 1 */
+    SPRITBOBBIN_NATIONAL_1 = 32,   /* the first national digit is 1 */
+    SPRITBOBBIN_NATIONAL_2 = 64,   /* level 4 only */
+    SPRITBOBBIN_NATIONAL_3 = 128   /* level 4 only */
+};
+
+/* What stands where in the answers. The four digit counts, of tributaries 1 to 4, are elements 0
+   to 3 of the answers of the two multiplex calls. */
+enum {
+    SPRITBOBBIN_NAMED_FRAME = 4, /* multiplexing; 0 in demultiplexing */
+    SPRITBOBBIN_ALIGNMENT = 5,   /* demultiplexing: alignment digits that differ from the word */
+    SPRITBOBBIN_GROUPS = 6,      /* demultiplexing: control groups that were not unanimous */
+    SPRITBOBBIN_TAKEN = 0,       /* receiver: digits taken */
+    SPRITBOBBIN_READY = 1,       /* receiver: 1 if a frame is ready */
+    SPRITBOBBIN_ALL_ONES = 2     /* receiver: 1 if that frame is marked all-ones */
+};
+
+/* What stands where in a receiver's state, and the mode numbers. */
+enum {
+    SPRITBOBBIN_STATE_LEVEL = 0,
+    SPRITBOBBIN_STATE_WINDOW = 1, /* the last L digits as a number, the newest worth 1 */
+    SPRITBOBBIN_STATE_SEEN = 2,   /* digits since the fresh state, stopping at L */
+    SPRITBOBBIN_STATE_MODE = 3,
+    SPRITBOBBIN_STATE_PLACE = 4,
+    SPRITBOBBIN_HUNTING = 0,
+    SPRITBOBBIN_ONE_FOUND = 1,
+    SPRITBOBBIN_TWO_FOUND = 2,
+    SPRITBOBBIN_ALIGNED = 3 /* 3 + m: aligned, with the last m words missed, m from 0 to 3 */
+};
+
+/*
+ * Builds the frames of a line out of four tributaries.
+ *
+ * Reads the notes and the buffer and writes the whole line. F is line_bytes divided by the
+ * frame's bytes. Where a note says stuffed, the tributary's justification digit is sent as 1 and
+ * its next digit takes its next place; so with s notes that stuff it a tributary sends
+ * F * n - s digits, the first so many of its quarter. Further digits are not looked at.
+ *
+ * answer: the four digit counts, the named frame. Returns 0, 1, 2, 3, 4 or 5.
+ */
+uint64_t spritbobbin_multiplex(uint64_t level, uint8_t *line, size_t line_bytes, const uint8_t *notes, size_t notes_bytes,
+                               const uint8_t *buffer, size_t buffer_bytes, uint64_t answer[5]);
+
+/*
+ * Takes the frames of a line apart, from a known start: the line begins with a frame.
+ *
+ * Reads the line and writes all notes and the whole buffer: each tributary's digits, then zeros
+ * to the end of its quarter. Whether a tributary is stuffed is the majority of its control digits
+ * in the same frame. Wrong alignment digits are counted and never refused.
+ *
+ * answer: the four digit counts, 0, the alignment digits that differ from the word over all
+ * frames, the control groups that were not unanimous. Returns 0, 1, 2, 3 or 4.
+ */
+uint64_t spritbobbin_demultiplex(uint64_t level, const uint8_t *line, size_t line_bytes, uint8_t *notes, size_t notes_bytes,
+                                 uint8_t *buffer, size_t buffer_bytes, uint64_t answer[7]);
+
+/*
+ * Makes a fresh receiver: hunting, nothing seen, the frame in hand all zero.
+ *
+ * Writes all of state (level, window, digits seen, mode, place) and of frame. Returns 0, or 1 for
+ * a wrong level; the state is then all zero and a feed refuses it with 6.
+ */
+uint64_t spritbobbin_receiver_fresh(uint64_t level, uint64_t state[5], uint8_t frame[366]);
+
+/*
+ * Gives a receiver the digits first to first + count - 1 of a piece of a stream. The receiver
+ * finds frames after three good words in a row, each a frame after the last, and loses them
+ * after four wrong ones in a row.
+ *
+ * Stops after the digit that completes a frame, or at the end of the digits given. If a frame is
+ * ready, frame holds its digits as received, from its word on: as many bytes as a frame of the
+ * level has. Use it before the next call, which goes on at first plus the digits taken. A frame is
+ * marked all-ones, alarm indication from the far end, if every digit after its word is 1.
+ *
+ * A stream may be cut into pieces anywhere; a piece of no digits changes nothing. The state may be
+ * looked at, copied and put back; the frame in hand belongs to it.
+ *
+ * answer: digits taken, 1 if a frame is ready, 1 if it is marked all-ones. Returns 0, 6, 2 or 7.
+ */
+uint64_t spritbobbin_receiver_feed(uint64_t state[5], uint8_t frame[366], const uint8_t *piece, size_t piece_bytes,
+                                   uint64_t first, uint64_t count, uint64_t answer[3]);
+
+/* What spritbobbin_line_digit returns where the line has ended. */
+enum { SPRITBOBBIN_LINE_ENDED = 2 };
+
+/*
+ * The digit at a place of a line of any length: 0 or 1, or 2 where the line has ended. That is at
+ * any place past the last digit, and at every place of a line over 65,536 bytes.
+ */
+uint64_t spritbobbin_line_digit(const uint8_t *line, size_t line_bytes, uint64_t place);
+
+#ifdef __cplusplus
+}
+#endif
+
+#endif

@@ -1,0 +1,145 @@
+//! The three levels and the sizes that a caller needs.
+
+use std::fmt;
+
+use crate::Refusal;
+
+/// The most frames in a line.
+pub const MOST_FRAMES: usize = 64;
+
+/// The most bytes in a piece of a stream, or in a line that is read digit by digit.
+pub const MOST_BYTES: usize = 65_536;
+
+/// A multiplex level.
+///
+/// ```
+/// use spritbobbin::Level;
+///
+/// assert_eq!(Level::try_from(4), Ok(Level::Four));
+/// assert_eq!(Level::Four.frame_bytes(), 366);
+/// let refusal = Level::try_from(5).unwrap_err();
+/// assert!(refusal.to_string().starts_with("there is no level 5"));
+/// ```
+#[derive(Clone, Copy, Debug, PartialEq, Eq, PartialOrd, Ord, Hash)]
+#[non_exhaustive]
+pub enum Level {
+    /// 8448 kbit/s (G.742).
+    Two,
+    /// 34368 kbit/s (G.751).
+    Three,
+    /// 139264 kbit/s (G.751).
+    Four,
+}
+
+/// What differs between the levels.
+struct Row {
+    number: u64,
+    kilobits: u32,
+    frame_digits: usize,
+    tributary_digits: usize,
+}
+
+#[rustfmt::skip]
+const TABLE: [Row; 3] = [
+    Row { number: 2, kilobits:   8_448, frame_digits:   848, tributary_digits: 206 },
+    Row { number: 3, kilobits:  34_368, frame_digits: 1_536, tributary_digits: 378 },
+    Row { number: 4, kilobits: 139_264, frame_digits: 2_928, tributary_digits: 723 },
+];
+
+impl Level {
+    /// Every level, the slowest first.
+    pub const ALL: [Level; 3] = [Level::Two, Level::Three, Level::Four];
+
+    fn row(self) -> &'static Row {
+        // The table's rows stand in the order of the cases.
+        &TABLE[self as usize]
+    }
+
+    /// The level's number: 2, 3 or 4.
+    pub fn number(self) -> u64 {
+        self.row().number
+    }
+
+    /// The line's rate in kbit/s.
+    pub fn kilobits(self) -> u32 {
+        self.row().kilobits
+    }
+
+    /// The digits of a frame.
+    pub fn frame_digits(self) -> usize {
+        self.row().frame_digits
+    }
+
+    /// The bytes of a frame.
+    pub fn frame_bytes(self) -> usize {
+        self.frame_digits() / 8
+    }
+
+    /// The digits of each tributary in a frame where it is not stuffed.
+    pub fn tributary_digits(self) -> usize {
+        self.row().tributary_digits
+    }
+
+    /// The fewest bytes of a buffer's quarter for so many frames, stuffed or not.
+    ///
+    /// ```
+    /// assert_eq!(spritbobbin::Level::Two.quarter_bytes(1), 26);
+    /// ```
+    pub fn quarter_bytes(self, frames: usize) -> usize {
+        let digits = frames.saturating_mul(self.tributary_digits());
+        digits / 8 + usize::from(digits % 8 != 0)
+    }
+
+    /// The fewest bytes of a buffer for so many frames: four quarters.
+    ///
+    /// ```
+    /// assert_eq!(spritbobbin::Level::Two.buffer_bytes(1), 104);
+    /// ```
+    pub fn buffer_bytes(self, frames: usize) -> usize {
+        self.quarter_bytes(frames).saturating_mul(4)
+    }
+}
+
+impl TryFrom<u64> for Level {
+    type Error = Refusal;
+
+    fn try_from(number: u64) -> Result<Level, Refusal> {
+        let level = Level::ALL.into_iter().find(|level| level.number() == number);
+        level.ok_or(Refusal::Level { number })
+    }
+}
+
+impl fmt::Display for Level {
+    fn fmt(&self, out: &mut fmt::Formatter<'_>) -> fmt::Result {
+        write!(out, "level {}", self.number())
+    }
+}
+
+#[cfg(test)]
+mod tests {
+    use super::*;
+    use crate::raw;
+
+    /// The library's own refusal of a level.
+    fn refused(number: u64) -> bool {
+        // Sound: the arrays have the lengths that the library writes.
+        unsafe { raw::spritbobbin_receiver_fresh(number, &mut [0; 5], &mut [0; raw::STORE]) != 0 }
+    }
+
+    #[test]
+    fn the_library_has_the_same_levels() {
+        for number in (0..=300).chain([(1 << 32) + 2, (1 << 32) + 4, u64::MAX]) {
+            assert_eq!(Level::try_from(number).is_err(), refused(number), "level {number}");
+        }
+        for level in Level::ALL {
+            assert_eq!(Level::try_from(level.number()), Ok(level));
+        }
+    }
+
+    #[test]
+    fn no_number_of_frames_is_too_large_to_ask_about() {
+        for level in Level::ALL {
+            assert!(level.buffer_bytes(usize::MAX) > level.buffer_bytes(MOST_FRAMES));
+        }
+    }
+}

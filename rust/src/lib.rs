@@ -1,0 +1,73 @@
+//! Frames of 8448, 34368 and 139264 kbit/s (G.742, G.751): built, taken apart, and found in a
+//! stream of digits.
+//!
+//! This crate is a thin, safe face of a library whose every answer is proved. It adds Rust's
+//! habits (slices, `Result`, iterators) and decides nothing itself.
+//!
+//! - [`multiplex`] builds the frames of a line out of four tributaries; [`demultiplex`] takes them
+//!   apart again.
+//! - A [`Receiver`] finds frames in a stream that comes in pieces of any size; a [`FrameStream`]
+//!   reads the stream too.
+//! - [`digits`] walks over the digits of a line.
+//!
+//! # Digits, quarters, notes
+//!
+//! Digits are packed eight to a byte, the first in the most significant bit. A line is 0 to 64
+//! whole frames. The digits of the four tributaries stand in one buffer of four equal quarters,
+//! quarter j for tributary j; [`Level::buffer_bytes`] says how long it must be.
+//!
+//! Each frame has a note, one byte:
+//!
+//! | bit | value | 1 means |
+//! |---|---|---|
+//! | 0 to 3 | 1, 2, 4, 8 | tributary 1 to 4 is stuffed in this frame |
+//! | 4 | 16 | the remote alarm digit is 1 |
+//! | 5 | 32 | the first national digit is 1 |
+//! | 6, 7 | 64, 128 | the second, third national digit is 1 (level 4 only) |
+//!
+//! A stuffed tributary sends one digit fewer in that frame.
+//!
+//! # Example
+//!
+//! ```
+//! use spritbobbin::{demultiplex, multiplex, Level, Receiver};
+//!
+//! # fn main() -> Result<(), spritbobbin::Refusal> {
+//! let level = Level::Two;
+//! let notes = [0b0000_0001, 0, 0]; // tributary 1 is stuffed in the first of three frames
+//! let buffer = vec![0b1010_1010; level.buffer_bytes(notes.len())];
+//! let mut line = vec![0; notes.len() * level.frame_bytes()];
+//!
+//! let sent = multiplex(level, &mut line, &notes, &buffer)?;
+//! assert_eq!(sent.digits, [3 * 206 - 1, 3 * 206, 3 * 206, 3 * 206]);
+//!
+//! let (mut notes_back, mut buffer_back) = ([0; 3], vec![0; buffer.len()]);
+//! let received = demultiplex(level, &line, &mut notes_back, &mut buffer_back)?;
+//! assert_eq!(received.digits, sent.digits);
+//! assert_eq!(notes_back, notes);
+//!
+//! // A receiver hands over the frame that begins with the third good word in a row.
+//! let mut receiver = Receiver::new(level);
+//! let frames: Vec<_> = receiver.feed(&line).collect();
+//! assert_eq!(frames.len(), 1);
+//! assert_eq!(frames[0].bytes(), &line[2 * level.frame_bytes()..]);
+//! # Ok(())
+//! # }
+//! ```
+
+#![warn(missing_docs)]
+
+mod level;
+mod line;
+mod multiplexing;
+mod raw;
+mod receiver;
+mod refusal;
+mod stream;
+
+pub use level::{Level, MOST_BYTES, MOST_FRAMES};
+pub use line::{digits, line_digit, Digits};
+pub use multiplexing::{demultiplex, multiplex, Received, Sent};
+pub use receiver::{Frame, Frames, Mode, Receiver, State, Taken};
+pub use refusal::Refusal;
+pub use stream::FrameStream;

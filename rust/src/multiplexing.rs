@@ -1,0 +1,154 @@
+//! Building the frames of a line and taking them apart.
+
+use crate::raw::{self, count};
+use crate::{Level, Refusal};
+
+/// What multiplexing sent.
+#[derive(Clone, Copy, Debug, PartialEq, Eq, Hash)]
+pub struct Sent {
+    /// How many digits of each tributary, 1 to 4, are on the line: the first so many of its
+    /// quarter.
+    pub digits: [usize; 4],
+}
+
+/// What demultiplexing received.
+#[derive(Clone, Copy, Debug, PartialEq, Eq, Hash)]
+pub struct Received {
+    /// How many digits of each tributary, 1 to 4, came: the first so many of its quarter.
+    pub digits: [usize; 4],
+    /// How many alignment digits differ from the word, over all frames.
+    pub alignment: usize,
+    /// How many control groups were not unanimous, over all frames and tributaries.
+    pub groups: usize,
+}
+
+/// Builds the frames of a line: writes the whole line from the notes and the buffer's quarters.
+///
+/// There are as many frames as the line has room for. Digits of a quarter past those sent are not
+/// looked at.
+///
+/// # Errors
+///
+/// In this order: [`Refusal::Line`], [`Refusal::Notes`], [`Refusal::Buffer`],
+/// [`Refusal::NoteBits`]. The line is then as it was.
+///
+/// # Examples
+///
+/// ```
+/// use spritbobbin::{multiplex, Level};
+///
+/// # fn main() -> Result<(), spritbobbin::Refusal> {
+/// let mut line = [0xFF; 106];
+/// let sent = multiplex(Level::Two, &mut line, &[0], &[0; 104])?;
+/// assert_eq!(sent.digits, [206; 4]);
+/// assert_eq!(line[0], 0xF4); // the word 1111010000 begins
+/// assert!(line[1..].iter().all(|byte| *byte == 0));
+/// # Ok(())
+/// # }
+/// ```
+pub fn multiplex(
+    level: Level,
+    line: &mut [u8],
+    notes: &[u8],
+    buffer: &[u8],
+) -> Result<Sent, Refusal> {
+    let mut answer = [0; 5];
+    // Sound: each pointer comes with the length of its own slice, and borrows that may be written
+    // are exclusive, so nothing overlaps.
+    let number = unsafe {
+        raw::spritbobbin_multiplex(
+            level.number(),
+            line.as_mut_ptr(),
+            line.len(),
+            notes.as_ptr(),
+            notes.len(),
+            buffer.as_ptr(),
+            buffer.len(),
+            &mut answer,
+        )
+    };
+    let [a, b, c, d, frame] = answer.map(count);
+    let lent = Lent { level, line: line.len(), notes: notes.len(), buffer: buffer.len() };
+    match number {
+        0 => Ok(Sent { digits: [a, b, c, d] }),
+        _ => Err(lent.refusal(number, frame)),
+    }
+}
+
+/// Takes the frames of a line apart: writes the notes and the whole buffer, each tributary's
+/// digits and then zeros to the end of its quarter.
+///
+/// The line must begin with a frame; a [`Receiver`](crate::Receiver) finds where frames begin.
+/// Whether a tributary is stuffed is the majority of its control digits in the same frame. Wrong
+/// alignment digits are counted and never refused.
+///
+/// # Errors
+///
+/// In this order: [`Refusal::Line`], [`Refusal::Notes`], [`Refusal::Buffer`]. Notes and buffer are
+/// then as they were.
+///
+/// # Examples
+///
+/// ```
+/// use spritbobbin::{demultiplex, Level};
+///
+/// # fn main() -> Result<(), spritbobbin::Refusal> {
+/// let (mut notes, mut buffer) = ([0], [0; 104]);
+/// let received = demultiplex(Level::Two, &[0xFF; 106], &mut notes, &mut buffer)?;
+/// assert_eq!(notes, [0x3F]); // all stuffed, both service digits 1
+/// assert_eq!(received.digits, [205; 4]);
+/// assert_eq!(received.alignment, 5); // 1111111111 and not 1111010000
+/// assert_eq!(received.groups, 0);
+/// # Ok(())
+/// # }
+/// ```
+pub fn demultiplex(
+    level: Level,
+    line: &[u8],
+    notes: &mut [u8],
+    buffer: &mut [u8],
+) -> Result<Received, Refusal> {
+    let mut answer = [0; 7];
+    // Sound as in multiplexing.
+    let number = unsafe {
+        raw::spritbobbin_demultiplex(
+            level.number(),
+            line.as_ptr(),
+            line.len(),
+            notes.as_mut_ptr(),
+            notes.len(),
+            buffer.as_mut_ptr(),
+            buffer.len(),
+            &mut answer,
+        )
+    };
+    let [a, b, c, d, frame, alignment, groups] = answer.map(count);
+    let lent = Lent { level, line: line.len(), notes: notes.len(), buffer: buffer.len() };
+    match number {
+        0 => Ok(Received { digits: [a, b, c, d], alignment, groups }),
+        _ => Err(lent.refusal(number, frame)),
+    }
+}
+
+/// What a call was lent, in bytes, so that its refusal can say what is wrong with it.
+struct Lent {
+    level: Level,
+    line: usize,
+    notes: usize,
+    buffer: usize,
+}
+
+impl Lent {
+    fn refusal(self, number: u64, frame: usize) -> Refusal {
+        let Lent { level, line, notes, buffer } = self;
+        let frames = line / level.frame_bytes();
+        match number {
+            1 => Refusal::Level { number: level.number() },
+            2 => Refusal::Line { level, bytes: line },
+            3 => Refusal::Notes { bytes: notes, frames },
+            4 => Refusal::Buffer { level, bytes: buffer, frames },
+            5 => Refusal::NoteBits { level, frame },
+            _ => Refusal::Unknown { number },
+        }
+    }
+}

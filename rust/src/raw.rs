@@ -1,0 +1,63 @@
+//! The library's C functions as declared here.
+//!
+//! Nothing checks these declarations against the library's source: a wrong one compiles, links
+//! and misbehaves. The tests make up for it. They call every function here and compare each answer
+//! with the worked cases, and the separate program's differential test compares the same archive
+//! over many more inputs. Change this file, `include/spritbobbin.h` and the exported functions
+//! together.
+
+/// The bytes of the longest frame: a receiver's store has as many at every level.
+pub const STORE: usize = 366;
+
+extern "C" {
+    /// Answer: four digit counts, named frame.
+    pub fn spritbobbin_multiplex(
+        level: u64,
+        line: *mut u8,
+        line_bytes: usize,
+        notes: *const u8,
+        notes_bytes: usize,
+        buffer: *const u8,
+        buffer_bytes: usize,
+        answer: &mut [u64; 5],
+    ) -> u64;
+
+    /// Answer: four digit counts, 0, alignment digits that differ, groups not unanimous.
+    pub fn spritbobbin_demultiplex(
+        level: u64,
+        line: *const u8,
+        line_bytes: usize,
+        notes: *mut u8,
+        notes_bytes: usize,
+        buffer: *mut u8,
+        buffer_bytes: usize,
+        answer: &mut [u64; 7],
+    ) -> u64;
+
+    /// State: level, window, digits seen, mode, place.
+    pub fn spritbobbin_receiver_fresh(
+        level: u64,
+        state: &mut [u64; 5],
+        frame: &mut [u8; STORE],
+    ) -> u64;
+
+    /// Answer: digits taken, 1 if a frame is ready, 1 if it is marked all-ones.
+    pub fn spritbobbin_receiver_feed(
+        state: &mut [u64; 5],
+        frame: &mut [u8; STORE],
+        piece: *const u8,
+        piece_bytes: usize,
+        first: u64,
+        count: u64,
+        answer: &mut [u64; 3],
+    ) -> u64;
+
+    /// 0 or 1, or 2 where the line has ended.
+    pub fn spritbobbin_line_digit(line: *const u8, line_bytes: usize, place: u64) -> u64;
+}
+
+/// A count that the library answers, as Rust counts. None is over eight times the bytes that were
+/// lent, so none is cut.
+pub fn count(number: u64) -> usize {
+    number as usize
+}

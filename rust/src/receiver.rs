@@ -1,0 +1,278 @@
+//! Finding frames in a stream of digits.
+
+use std::iter::FusedIterator;
+use std::slice::Chunks;
+
+use crate::level::MOST_BYTES;
+use crate::raw::{self, count, STORE};
+use crate::{Level, Refusal};
+
+/// Finds frames in a stream of digits, which may come in pieces of any size.
+///
+/// A receiver is aligned after three good words in a row, each a frame after the last, and hunts
+/// again after four wrong ones in a row. While aligned it hands over each frame at its last digit.
+///
+/// ```
+/// use spritbobbin::{Level, Receiver};
+///
+/// let mut frame = [0; 106];
+/// frame[0] = 0xF4;
+/// let stream = frame.repeat(5);
+///
+/// let mut receiver = Receiver::new(Level::Two);
+/// let mut found = Vec::new();
+/// for chunk in stream.chunks(17) {
+///     found.extend(receiver.feed(chunk));
+/// }
+/// // The first frame handed over begins with the third good word.
+/// assert_eq!(found.len(), 3);
+/// assert!(found.iter().all(|found| found.bytes() == frame));
+/// assert!(receiver.is_aligned());
+/// ```
+#[derive(Clone, Debug, PartialEq, Eq)]
+pub struct Receiver {
+    level: Level,
+    numbers: [u64; 5],
+    store: [u8; STORE],
+}
+
+/// What a receiver is doing.
+#[derive(Clone, Copy, Debug, PartialEq, Eq, Hash)]
+pub enum Mode {
+    /// Looking for a word at every digit.
+    Hunting,
+    /// One word was found.
+    OneFound,
+    /// Two words were found, a frame apart.
+    TwoFound,
+    /// Three in a row were found, and frames are handed over.
+    Aligned {
+        /// How many words in a row were wrong since, 0 to 3.
+        missed: u8,
+    },
+}
+
+/// A receiver's state in numbers, to be looked at, or saved and resumed from.
+#[derive(Clone, Debug, PartialEq, Eq)]
+pub struct State {
+    /// 2, 3 or 4.
+    pub level: u64,
+    /// The last digits, as many as the word has, as a number: the newest digit is worth 1.
+    pub window: u64,
+    /// The digits since the receiver was made, stopping at as many as the word has.
+    pub seen: u64,
+    /// 0 hunting, 1 one found, 2 two found, 3 + m aligned with m missed.
+    pub mode: u64,
+    /// The digits since the end of the last word; 0 while hunting.
+    pub place: u64,
+    /// The frame in hand.
+    pub frame: [u8; STORE],
+}
+
+/// A frame as it was received.
+#[derive(Clone, Debug, PartialEq, Eq)]
+pub struct Frame {
+    level: Level,
+    store: [u8; STORE],
+    all_ones: bool,
+}
+
+/// What one call took of a piece.
+#[derive(Clone, Debug, PartialEq, Eq)]
+pub struct Taken {
+    /// How many digits.
+    pub digits: usize,
+    /// The frame that the last of them completed.
+    pub frame: Option<Frame>,
+}
+
+impl Receiver {
+    /// A fresh receiver, which hunts.
+    pub fn new(level: Level) -> Receiver {
+        let (mut numbers, mut store) = ([0; 5], [0; STORE]);
+        // Sound: the two arrays have the lengths that the library writes. It refuses only a wrong
+        // level, which `level` is not.
+        unsafe { raw::spritbobbin_receiver_fresh(level.number(), &mut numbers, &mut store) };
+        Receiver { level, numbers, store }
+    }
+
+    /// A receiver that goes on from a state.
+    ///
+    /// # Errors
+    ///
+    /// [`Refusal::State`] if the state is not valid.
+    ///
+    /// ```
+    /// use spritbobbin::{Level, Receiver, Refusal};
+    ///
+    /// # fn main() -> Result<(), Refusal> {
+    /// let mut state = Receiver::new(Level::Three).state();
+    /// assert_eq!(Receiver::resume(&state)?, Receiver::new(Level::Three));
+    /// state.mode = 7;
+    /// assert_eq!(Receiver::resume(&state), Err(Refusal::State));
+    /// # Ok(())
+    /// # }
+    /// ```
+    pub fn resume(state: &State) -> Result<Receiver, Refusal> {
+        let level = Level::try_from(state.level).map_err(|_| Refusal::State)?;
+        let State { level: number, window, seen, mode, place, frame } = *state;
+        let numbers = [number, window, seen, mode, place];
+        let mut receiver = Receiver { level, numbers, store: frame };
+        // A piece of no digits changes nothing, and the state is judged all the same.
+        receiver.take(&[], 0, 0)?;
+        Ok(receiver)
+    }
+
+    /// The level that it was made for.
+    pub fn level(&self) -> Level {
+        self.level
+    }
+
+    /// What it is doing.
+    pub fn mode(&self) -> Mode {
+        match self.numbers[3] {
+            0 => Mode::Hunting,
+            1 => Mode::OneFound,
+            2 => Mode::TwoFound,
+            aligned => Mode::Aligned { missed: (aligned - 3) as u8 },
+        }
+    }
+
+    /// Whether it has found where frames begin, so that it hands frames over.
+    pub fn is_aligned(&self) -> bool {
+        matches!(self.mode(), Mode::Aligned { .. })
+    }
+
+    /// Its state in numbers.
+    pub fn state(&self) -> State {
+        let [level, window, seen, mode, place] = self.numbers;
+        State { level, window, seen, mode, place, frame: self.store }
+    }
+
+    /// Takes the stream's next bytes and hands out the frames that they complete.
+    ///
+    /// Digits are taken as the iterator is walked. If it is dropped before its end the rest is
+    /// taken too, and the frames in it are lost: the stream has no gap.
+    pub fn feed<'a>(&'a mut self, bytes: &'a [u8]) -> Frames<'a> {
+        Frames { receiver: self, pieces: bytes.chunks(MOST_BYTES), piece: &[], first: 0 }
+    }
+
+    /// Takes digits of a piece, `count` of them from digit `first` on, up to the one that completes
+    /// a frame. For streams that are cut within a byte; others are easier to [`feed`](Self::feed).
+    ///
+    /// # Errors
+    ///
+    /// [`Refusal::Slice`], then [`Refusal::Digits`]. The receiver is then as it was.
+    ///
+    /// ```
+    /// use spritbobbin::{Level, Mode, Receiver};
+    ///
+    /// # fn main() -> Result<(), spritbobbin::Refusal> {
+    /// let mut receiver = Receiver::new(Level::Two);
+    /// let piece = [0b0011_1101, 0b0000_1111]; // 00, the word, 1111
+    /// let taken = receiver.take(&piece, 2, 10)?;
+    /// assert_eq!(taken.digits, 10);
+    /// assert_eq!(taken.frame, None);
+    /// assert_eq!(receiver.mode(), Mode::OneFound);
+    /// # Ok(())
+    /// # }
+    /// ```
+    pub fn take(&mut self, piece: &[u8], first: usize, count: usize) -> Result<Taken, Refusal> {
+        let mut answer = [0; 3];
+        // Sound: the arrays have the lengths that the library reads and writes, the pointer comes
+        // with its slice's length, and what may be written is borrowed exclusively.
+        let number = unsafe {
+            raw::spritbobbin_receiver_feed(
+                &mut self.numbers,
+                &mut self.store,
+                piece.as_ptr(),
+                piece.len(),
+                first as u64,
+                count as u64,
+                &mut answer,
+            )
+        };
+        match number {
+            0 => Ok(self.taken(answer)),
+            2 => Err(Refusal::Slice { bytes: piece.len() }),
+            6 => Err(Refusal::State),
+            7 => Err(Refusal::Digits { first, count, bytes: piece.len() }),
+            _ => Err(Refusal::Unknown { number }),
+        }
+    }
+
+    fn taken(&self, [digits, ready, all_ones]: [u64; 3]) -> Taken {
+        let frame = Frame { level: self.level, store: self.store, all_ones: all_ones == 1 };
+        Taken { digits: count(digits), frame: (ready == 1).then_some(frame) }
+    }
+
+    /// The next frame that a piece completes from a digit on, which is moved past what was taken;
+    /// or none, and then the piece is used up. A piece of at most 65,536 bytes is never refused:
+    /// the state came from the library, and the digits are the piece's own.
+    pub(crate) fn next_frame(&mut self, piece: &[u8], first: &mut usize) -> Option<Frame> {
+        let left = (8 * piece.len()).saturating_sub(*first);
+        let taken = self.take(piece, *first, left).ok()?;
+        *first = first.saturating_add(taken.digits);
+        taken.frame
+    }
+}
+
+impl Frame {
+    /// Its level.
+    pub fn level(&self) -> Level {
+        self.level
+    }
+
+    /// Its digits as received, from its word on. This is a line of one frame for
+    /// [`demultiplex`](crate::demultiplex).
+    pub fn bytes(&self) -> &[u8] {
+        &self.store[..self.level.frame_bytes()]
+    }
+
+    /// Whether every digit after its word is 1: alarm indication from the far end.
+    pub fn is_all_ones(&self) -> bool {
+        self.all_ones
+    }
+}
+
+impl AsRef<[u8]> for Frame {
+    fn as_ref(&self) -> &[u8] {
+        self.bytes()
+    }
+}
+
+/// The frames that the bytes of a stream complete: see [`Receiver::feed`].
+#[derive(Debug)]
+#[must_use = "frames are handed out as the iterator is walked, and lost if it is dropped"]
+pub struct Frames<'a> {
+    receiver: &'a mut Receiver,
+    /// The pieces not yet begun.
+    pieces: Chunks<'a, u8>,
+    /// The piece in hand, and its first digit not yet taken.
+    piece: &'a [u8],
+    first: usize,
+}
+
+impl Iterator for Frames<'_> {
+    type Item = Frame;
+
+    fn next(&mut self) -> Option<Frame> {
+        loop {
+            let frame = self.receiver.next_frame(self.piece, &mut self.first);
+            if frame.is_some() {
+                return frame;
+            }
+            // At the end nothing is left in hand, so that a further step takes nothing again.
+            (self.piece, self.first) = (&[], 0);
+            self.piece = self.pieces.next()?;
+        }
+    }
+}
+
+impl FusedIterator for Frames<'_> {}
+
+impl Drop for Frames<'_> {
+    fn drop(&mut self) {
+        self.for_each(drop);
+    }
+}

@@ -1,0 +1,180 @@
+//! Why a call was refused.
+
+use std::error::Error;
+use std::fmt;
+
+use crate::level::{Level, MOST_BYTES, MOST_FRAMES};
+
+/// Why a call was refused. A refused call has written nothing that it was lent.
+///
+/// Printed, it says what is wrong, where, and what to do:
+///
+/// ```
+/// use spritbobbin::{multiplex, Level};
+///
+/// let mut line = [0; 3 * 106];
+/// let refusal = multiplex(Level::Two, &mut line, &[0, 0, 0x40], &[0; 312]).unwrap_err();
+/// assert_eq!(refusal.number(), 5);
+/// assert_eq!(
+///     refusal.to_string(),
+///     "the note of frame 2 (counted from 0) has bit 6 or 7 set: clear both, \
+///      since level 2 has only one national digit, bit 5"
+/// );
+/// ```
+#[derive(Clone, Copy, Debug, PartialEq, Eq, Hash)]
+#[non_exhaustive]
+pub enum Refusal {
+    /// There is no level of this number.
+    Level {
+        /// The number given.
+        number: u64,
+    },
+    /// The line is not a whole number of frames, or has over 64.
+    Line {
+        /// The level asked for.
+        level: Level,
+        /// The line's bytes.
+        bytes: usize,
+    },
+    /// A piece's slice is over 65,536 bytes.
+    Slice {
+        /// The slice's bytes.
+        bytes: usize,
+    },
+    /// The notes are not one byte for each frame.
+    Notes {
+        /// The notes' bytes.
+        bytes: usize,
+        /// The frames of the line.
+        frames: usize,
+    },
+    /// The buffer is not four equal quarters, or they are too short.
+    Buffer {
+        /// The level asked for.
+        level: Level,
+        /// The buffer's bytes.
+        bytes: usize,
+        /// The frames of the line.
+        frames: usize,
+    },
+    /// A note has a national digit that its level has not.
+    NoteBits {
+        /// The level asked for.
+        level: Level,
+        /// The first such frame, counted from 0.
+        frame: usize,
+    },
+    /// A receiver state is not valid.
+    State,
+    /// A piece asks for digits past the end of its slice.
+    Digits {
+        /// The first digit asked for.
+        first: usize,
+        /// How many digits were asked for.
+        count: usize,
+        /// The slice's bytes.
+        bytes: usize,
+    },
+    /// A number that this crate does not know: the library is of another version.
+    Unknown {
+        /// The number that the library returned.
+        number: u64,
+    },
+}
+
+impl Refusal {
+    /// The refusal's number in the specification and in the C header.
+    pub fn number(&self) -> u64 {
+        match self {
+            Refusal::Level { .. } => 1,
+            Refusal::Line { .. } | Refusal::Slice { .. } => 2,
+            Refusal::Notes { .. } => 3,
+            Refusal::Buffer { .. } => 4,
+            Refusal::NoteBits { .. } => 5,
+            Refusal::State => 6,
+            Refusal::Digits { .. } => 7,
+            Refusal::Unknown { number } => *number,
+        }
+    }
+}
+
+impl Error for Refusal {}
+
+impl fmt::Display for Refusal {
+    fn fmt(&self, out: &mut fmt::Formatter<'_>) -> fmt::Result {
+        match *self {
+            Refusal::Level { number } => wrong_level(out, number),
+            Refusal::Line { level, bytes } => wrong_line(out, level, bytes),
+            Refusal::Slice { bytes } => write!(
+                out,
+                "a piece of {bytes} bytes is too long: feed at most {MOST_BYTES} bytes at a time"
+            ),
+            Refusal::Notes { bytes, frames } => write!(
+                out,
+                "the notes have {} and the line has {}: give each frame one byte",
+                counted(bytes, "byte"),
+                counted(frames, "frame")
+            ),
+            Refusal::Buffer { level, bytes, frames } => wrong_buffer(out, level, bytes, frames),
+            Refusal::NoteBits { level, frame } => write!(
+                out,
+                "the note of frame {frame} (counted from 0) has bit 6 or 7 set: clear both, \
+                 since {level} has only one national digit, bit 5"
+            ),
+            Refusal::State => write!(
+                out,
+                "the receiver state is not valid: resume from one that a receiver gave, \
+                 or begin with a new receiver"
+            ),
+            Refusal::Digits { first, count, bytes } => write!(
+                out,
+                "{count} digits from digit {first} on do not fit in a slice of {bytes} bytes: \
+                 ask for no digit past the slice's end"
+            ),
+            Refusal::Unknown { number } => write!(
+                out,
+                "refused with {number}, which this crate does not know: \
+                 use the crate and the library of one version"
+            ),
+        }
+    }
+}
+
+fn wrong_level(out: &mut fmt::Formatter<'_>, number: u64) -> fmt::Result {
+    let [a, b, c] = Level::ALL.map(|it| format!("{} ({} kbit/s)", it.number(), it.kilobits()));
+    write!(out, "there is no level {number}: use {a}, {b} or {c}")
+}
+
+fn wrong_line(out: &mut fmt::Formatter<'_>, level: Level, bytes: usize) -> fmt::Result {
+    let frame = level.frame_bytes();
+    if bytes % frame == 0 {
+        let frames = bytes / frame;
+        write!(out, "a line of {frames} frames is too long: give at most {MOST_FRAMES} at a time")
+    } else {
+        write!(
+            out,
+            "a line of {bytes} bytes is not a whole number of frames: \
+             at {level} a frame has {frame} bytes"
+        )
+    }
+}
+
+fn wrong_buffer(
+    out: &mut fmt::Formatter<'_>,
+    level: Level,
+    bytes: usize,
+    frames: usize,
+) -> fmt::Result {
+    let fault = if bytes % 4 == 0 { "is too short" } else { "is not four equal quarters" };
+    write!(
+        out,
+        "a buffer of {bytes} bytes {fault}: for {} of {level} give {} bytes, \
+         or a larger multiple of 4",
+        counted(frames, "frame"),
+        level.buffer_bytes(frames)
+    )
+}
+
+fn counted(number: usize, what: &str) -> String {
+    format!("{number} {what}{}", if number == 1 { "" } else { "s" })
+}

@@ -1,0 +1,164 @@
+//! Every refusal: exactly when, in which order, what it prints, and that nothing is written.
+
+use spritbobbin::{demultiplex, multiplex, Level, Receiver, Refusal, State};
+
+/// The refusals of multiplexing and of demultiplexing that are lent so many bytes and these notes.
+fn refusals(level: Level, line: usize, notes: &[u8], buffer: usize) -> [Option<Refusal>; 2] {
+    let (mut frames, quarters) = (vec![0xA5; line], vec![0xA5; buffer]);
+    let sent = multiplex(level, &mut frames, notes, &quarters).err();
+    if sent.is_some() {
+        assert_eq!(frames, vec![0xA5; line], "a refused call wrote the line");
+    }
+    let (mut notes_out, mut quarters_out) = (notes.to_vec(), quarters.clone());
+    let received = demultiplex(level, &frames, &mut notes_out, &mut quarters_out).err();
+    if received.is_some() {
+        assert_eq!((&notes_out[..], quarters_out), (notes, quarters), "a refused call wrote");
+    }
+    [sent, received]
+}
+
+fn numbers(level: Level, line: usize, notes: &[u8], buffer: usize) -> [u64; 2] {
+    refusals(level, line, notes, buffer).map(|refusal| refusal.map_or(0, |it| it.number()))
+}
+
+#[test]
+fn borders() {
+    for level in Level::ALL {
+        let (frame, room) = (level.frame_bytes(), |frames| level.buffer_bytes(frames));
+        for frames in [0, 1, 2, 7, 8, 63, 64] {
+            let notes = vec![0; frames];
+            assert_eq!(numbers(level, frames * frame, &notes, room(frames)), [0; 2]);
+            assert_eq!(numbers(level, frames * frame, &notes, room(frames) + 4), [0; 2]);
+            assert_eq!(numbers(level, frames * frame, &notes, room(frames) + 1), [4; 2]);
+            assert_eq!(numbers(level, frames * frame + 1, &notes, room(frames)), [2; 2]);
+            assert_eq!(numbers(level, frames * frame, &vec![0; frames + 1], room(frames)), [3; 2]);
+        }
+        for frames in [1, 2, 7, 8, 63, 64] {
+            let notes = vec![0; frames];
+            assert_eq!(numbers(level, frames * frame, &notes, room(frames) - 4), [4; 2]);
+            assert_eq!(numbers(level, frames * frame, &notes[1..], room(frames)), [3; 2]);
+            assert_eq!(numbers(level, frames * frame - 1, &notes, room(frames)), [2; 2]);
+        }
+        assert_eq!(numbers(level, 65 * frame, &[0; 65], room(65)), [2; 2]);
+    }
+}
+
+#[test]
+fn room_is_asked_for_whole_frames_even_where_stuffed() {
+    // Eight stuffed frames need 1640 digits, 205 bytes; 1648 are asked for.
+    assert_eq!(numbers(Level::Two, 8 * 106, &[0x0F; 8], 4 * 205), [4; 2]);
+    assert_eq!(numbers(Level::Two, 8 * 106, &[0x0F; 8], 4 * 206), [0; 2]);
+}
+
+#[test]
+fn the_first_that_applies_is_the_answer() {
+    assert_eq!(numbers(Level::Two, 105, &[0x40; 2], 103), [2; 2]);
+    assert_eq!(numbers(Level::Two, 106, &[0x40; 2], 103), [3; 2]);
+    assert_eq!(numbers(Level::Two, 106, &[0x40], 103), [4; 2]);
+    assert_eq!(numbers(Level::Two, 106, &[0x40], 104), [5, 0]);
+}
+
+#[test]
+fn bits_6_and_7_belong_to_level_4() {
+    for bit in [0x40, 0x80, 0xC0] {
+        let notes = [0x3F, 0x00, bit, bit];
+        for level in [Level::Two, Level::Three] {
+            let [sent, received] =
+                refusals(level, 4 * level.frame_bytes(), &notes, level.buffer_bytes(4));
+            assert_eq!(sent, Some(Refusal::NoteBits { level, frame: 2 }));
+            assert_eq!(received, None);
+        }
+        assert_eq!(numbers(Level::Four, 4 * 366, &notes, 4 * 362), [0; 2]);
+    }
+}
+
+#[test]
+fn each_says_what_is_wrong_and_what_to_do() {
+    let printed = |level, line, notes: &[u8], buffer| {
+        refusals(level, line, notes, buffer)[0].unwrap().to_string()
+    };
+    assert_eq!(
+        Level::try_from(7).unwrap_err().to_string(),
+        "there is no level 7: use 2 (8448 kbit/s), 3 (34368 kbit/s) or 4 (139264 kbit/s)"
+    );
+    assert_eq!(
+        printed(Level::Two, 105, &[0], 104),
+        "a line of 105 bytes is not a whole number of frames: at level 2 a frame has 106 bytes"
+    );
+    assert_eq!(
+        printed(Level::Two, 65 * 106, &[0; 65], 6696),
+        "a line of 65 frames is too long: give at most 64 at a time"
+    );
+    assert_eq!(
+        printed(Level::Two, 106, &[0, 0], 104),
+        "the notes have 2 bytes and the line has 1 frame: give each frame one byte"
+    );
+    assert_eq!(
+        printed(Level::Two, 212, &[0, 0], 104),
+        "a buffer of 104 bytes is too short: for 2 frames of level 2 give 208 bytes, \
+         or a larger multiple of 4"
+    );
+    assert_eq!(
+        printed(Level::Two, 106, &[0], 105),
+        "a buffer of 105 bytes is not four equal quarters: for 1 frame of level 2 give 104 bytes, \
+         or a larger multiple of 4"
+    );
+    assert_eq!(
+        printed(Level::Three, 192, &[0x80], 192),
+        "the note of frame 0 (counted from 0) has bit 6 or 7 set: clear both, \
+         since level 3 has only one national digit, bit 5"
+    );
+}
+
+#[test]
+fn pieces() {
+    let mut receiver = Receiver::new(Level::Two);
+    let longest = vec![0; 65_536];
+    assert_eq!(receiver.take(&longest, 0, 8 * 65_536).unwrap().digits, 8 * 65_536);
+    let before = receiver.clone();
+
+    let too_long = receiver.take(&vec![0; 65_537], usize::MAX, 0).unwrap_err();
+    assert_eq!(too_long, Refusal::Slice { bytes: 65_537 });
+    assert_eq!(too_long.number(), 2);
+    for (first, count) in [(1, 8), (9, 0), (0, 9), (usize::MAX, 2), (2, usize::MAX)] {
+        let past = receiver.take(&[0], first, count).unwrap_err();
+        assert_eq!(past, Refusal::Digits { first, count, bytes: 1 });
+        assert_eq!(past.number(), 7);
+        assert!(past.to_string().contains("ask for no digit past"));
+    }
+    assert_eq!(receiver, before, "a refused piece changed the receiver");
+    assert_eq!(receiver.take(&[0], 8, 0).unwrap().digits, 0);
+    assert_eq!(receiver, before, "a piece of no digits changed the receiver");
+}
+
+fn aligned(level: Level) -> State {
+    let frame = [0; 366];
+    let seen = if level == Level::Four { 12 } else { 10 };
+    State { level: level.number(), window: 0, seen, mode: 6, place: 5, frame }
+}
+
+#[test]
+fn states() {
+    for level in Level::ALL {
+        let good = aligned(level);
+        let seen = good.seen;
+        let last = level.frame_digits() as u64 - 1;
+        let window = (1 << seen) - 1;
+        assert!(Receiver::resume(&State { window, place: last, ..good.clone() }).is_ok());
+        let wrong = [
+            State { level: 5, ..good.clone() },
+            State { level: level.number() + (1 << 32), ..good.clone() },
+            State { window: window + 1, ..good.clone() },
+            State { seen: seen + 1, ..good.clone() },
+            State { seen: seen - 1, ..good.clone() },
+            State { mode: 7, ..good.clone() },
+            State { mode: u64::MAX, ..good.clone() },
+            State { place: last + 1, ..good.clone() },
+            State { mode: 0, ..good.clone() },
+        ];
+        for state in wrong {
+            assert_eq!(Receiver::resume(&state), Err(Refusal::State), "{state:?}");
+        }
+    }
+    assert_eq!(Refusal::State.number(), 6);
+}

@@ -1,0 +1,191 @@
+/*
+ * Calls every function of the library through its header, from C: worked cases 1, 9, 10 and 11
+ * of the specification, each refusal, the digits of a line. Prints "face: ok", or what failed.
+ *
+ * All bytes that are lent come from malloc in their exact number, so that valgrind sees a read or
+ * a write of the library one byte beside them.
+ */
+#include <stdio.h>
+#include <stdlib.h>
+#include <string.h>
+
+#include "spritbobbin.h"
+
+static int failures;
+
+static void check(int holds, const char *what)
+{
+    if (!holds) {
+        printf("face: failed: %s\n", what);
+        failures++;
+    }
+}
+
+/* So many bytes of one value. A buffer of no bytes is the null pointer. */
+static uint8_t *lend(size_t length, uint8_t byte)
+{
+    uint8_t *bytes = length ? malloc(length) : NULL;
+
+    if (length && !bytes)
+        exit(2);
+    if (bytes)
+        memset(bytes, byte, length);
+    return bytes;
+}
+
+static int all(const uint8_t *bytes, size_t length, uint8_t byte)
+{
+    while (length && bytes[length - 1] == byte)
+        length--;
+    return length == 0;
+}
+
+static int all_zero(const uint64_t *numbers, size_t count)
+{
+    while (count && numbers[count - 1] == 0)
+        count--;
+    return count == 0;
+}
+
+/* Multiplexes notes of one value and a buffer of zeros, then takes the line apart again. Checks
+   the two refusals, that a refused call leaves what it was lent, and what case 1 says. */
+static void both_ways(uint64_t level, size_t frame_bytes, size_t frames, size_t notes_bytes,
+                      uint8_t note, size_t buffer_bytes, uint64_t sent, uint64_t received)
+{
+    size_t line_bytes = frame_bytes * frames;
+    uint8_t *line = lend(line_bytes, 0xA5), *notes = lend(notes_bytes, note);
+    uint8_t *buffer = lend(buffer_bytes, 0);
+    uint64_t answer[7];
+
+    memset(answer, 0xA5, sizeof answer);
+    check(spritbobbin_multiplex(level, line, line_bytes, notes, notes_bytes, buffer, buffer_bytes, answer) == sent,
+          "the refusal of multiplexing");
+    check(answer[SPRITBOBBIN_NAMED_FRAME] == 0, "multiplexing names frame 0 or none");
+    if (sent) {
+        check(all(line, line_bytes, 0xA5), "a refused line is left as it was");
+        check(all_zero(answer, 4), "a refused multiplexing counts nothing");
+    } else if (frames) {
+        check(answer[0] == 206 * frames && answer[3] == 206 * frames, "206 digits in a frame");
+        check(line[0] == 0xF4 && all(line + 1, 105, 0), "the frame of case 1");
+        check(line[line_bytes - 106] == 0xF4 && all(line + line_bytes - 105, 105, 0), "the last frame");
+    }
+
+    if (buffer)
+        memset(buffer, 0x5A, buffer_bytes);
+    memset(answer, 0xA5, sizeof answer);
+    check(spritbobbin_demultiplex(level, line, line_bytes, notes, notes_bytes, buffer, buffer_bytes, answer) == received,
+          "the refusal of demultiplexing");
+    if (received) {
+        check(all(notes, notes_bytes, note) && all(buffer, buffer_bytes, 0x5A), "a refused call writes nothing");
+        check(all_zero(answer, 7), "a refused demultiplexing counts nothing");
+    } else if (!sent) {
+        check(answer[1] == 206 * frames && all_zero(answer + 4, 3), "what went in comes out");
+        check(all(notes, notes_bytes, note) && all(buffer, buffer_bytes, 0), "notes and zeros come back");
+    }
+    free(line);
+    free(notes);
+    free(buffer);
+}
+
+/* The named frame: the third note is the first with bit 6 set. */
+static void names_the_frame(void)
+{
+    uint8_t *line = lend(4 * SPRITBOBBIN_FRAME_BYTES_3, 0), *notes = lend(4, 0), *buffer = lend(4 * 189, 0);
+    uint64_t answer[5];
+
+    notes[2] = notes[3] = SPRITBOBBIN_NATIONAL_2;
+    check(spritbobbin_multiplex(3, line, 768, notes, 4, buffer, 756, answer) == SPRITBOBBIN_REFUSED_NOTE_BITS, "refusal 5");
+    check(all_zero(answer, 4) && answer[SPRITBOBBIN_NAMED_FRAME] == 2, "refusal 5 names frame 2");
+    free(line);
+    free(notes);
+    free(buffer);
+}
+
+/* A piece that is refused with this number, and leaves the receiver as it was. */
+static void refused_piece(uint64_t state[5], uint8_t frame[366], const uint8_t *piece, size_t piece_bytes,
+                          uint64_t first, uint64_t count, uint64_t refusal)
+{
+    uint64_t before[5], answer[3];
+    uint8_t frame_before[366];
+
+    memcpy(before, state, sizeof before);
+    memcpy(frame_before, frame, sizeof frame_before);
+    memset(answer, 0xA5, sizeof answer);
+    check(spritbobbin_receiver_feed(state, frame, piece, piece_bytes, first, count, answer) == refusal, "the refusal of a piece");
+    check(all_zero(answer, 3), "of a refused piece nothing is taken");
+    check(!memcmp(before, state, sizeof before) && !memcmp(frame_before, frame, 366), "a refused piece changes nothing");
+}
+
+/* Case 11, and the refusals of a piece. */
+static void receiver(void)
+{
+    size_t length = 4 * SPRITBOBBIN_FRAME_BYTES_2, i;
+    uint8_t *stream = lend(length, 0), *frame = lend(366, 0xA5), *long_one = lend(SPRITBOBBIN_MOST_BYTES + 1, 0);
+    uint64_t state[5], answer[3];
+
+    for (i = 0; i < length; i += SPRITBOBBIN_FRAME_BYTES_2)
+        stream[i] = 0xF4;
+    check(spritbobbin_receiver_fresh(2, state, frame) == SPRITBOBBIN_ACCEPTED && state[0] == 2, "a fresh receiver");
+    check(all_zero(state + 1, 4) && all(frame, 366, 0), "a fresh receiver is all zero but for the level");
+
+    check(spritbobbin_receiver_feed(state, frame, stream, length, 0, 3392, answer) == 0, "case 11 is accepted");
+    check(answer[SPRITBOBBIN_TAKEN] == 2544 && answer[SPRITBOBBIN_READY] == 1, "the first frame of case 11");
+    check(frame[0] == 0xF4 && all(frame + 1, 365, 0) && answer[SPRITBOBBIN_ALL_ONES] == 0, "case 1's bytes");
+    check(spritbobbin_receiver_feed(state, frame, stream, length, 2544, 848, answer) == 0, "case 11 goes on");
+    check(answer[SPRITBOBBIN_TAKEN] == 848 && answer[SPRITBOBBIN_READY] == 1, "the second frame of case 11");
+    check(frame[0] == 0xF4 && all(frame + 1, 365, 0), "the same bytes");
+    check(state[SPRITBOBBIN_STATE_MODE] == SPRITBOBBIN_ALIGNED && state[SPRITBOBBIN_STATE_PLACE] == 838, "aligned");
+
+    check(spritbobbin_receiver_feed(state, frame, NULL, 0, 0, 0, answer) == 0 && all_zero(answer, 3), "an empty piece");
+    refused_piece(state, frame, stream, length, 1, 3392, SPRITBOBBIN_REFUSED_DIGITS);
+    refused_piece(state, frame, stream, length, UINT64_MAX, 2, SPRITBOBBIN_REFUSED_DIGITS);
+    refused_piece(state, frame, long_one, SPRITBOBBIN_MOST_BYTES + 1, 0, 1, SPRITBOBBIN_REFUSED_LINE);
+    state[SPRITBOBBIN_STATE_MODE] = 7;
+    refused_piece(state, frame, stream, length, 0, 1, SPRITBOBBIN_REFUSED_STATE);
+
+    check(spritbobbin_receiver_fresh(5, state, frame) == SPRITBOBBIN_REFUSED_LEVEL, "no receiver of level 5");
+    check(all_zero(state, 5) && all(frame, 366, 0), "a refused receiver is all zero");
+    free(stream);
+    free(frame);
+    free(long_one);
+}
+
+static void line_digits(void)
+{
+    const char *word = "1111010000";
+    uint8_t *line = lend(2, 0);
+    uint64_t place;
+
+    line[0] = 0xF4;
+    for (place = 0; word[place]; place++)
+        check(spritbobbin_line_digit(line, 2, place) == (uint64_t)(word[place] - '0'), "a digit of the line");
+    check(spritbobbin_line_digit(line, 2, 15) == 0, "the last digit of the line");
+    check(spritbobbin_line_digit(line, 2, 16) == SPRITBOBBIN_LINE_ENDED, "the line has ended");
+    check(spritbobbin_line_digit(line, 2, UINT64_MAX) == SPRITBOBBIN_LINE_ENDED, "the line has long ended");
+    check(spritbobbin_line_digit(NULL, 0, 0) == SPRITBOBBIN_LINE_ENDED, "an empty line has ended");
+    free(line);
+}
+
+int main(void)
+{
+    both_ways(2, 106, 1, 1, 0, 104, 0, 0);      /* case 1; case 9: a quarter of 26 bytes */
+    both_ways(2, 106, 64, 64, 0, 6592, 0, 0);   /* case 9: 64 frames */
+    both_ways(2, 106, 65, 65, 0, 6696, 2, 2);   /* case 9: 65 frames */
+    both_ways(2, 105, 1, 1, 0, 104, 2, 2);      /* case 9: 105 bytes */
+    both_ways(2, 106, 1, 1, 0, 100, 4, 4);      /* case 9: a quarter of 25 bytes */
+    both_ways(2, 106, 1, 1, 0x40, 100, 4, 4);   /* case 10 */
+    both_ways(2, 106, 1, 1, 0x40, 104, 5, 0);   /* demultiplexing does not judge old notes */
+    both_ways(2, 106, 1, 2, 0, 104, 3, 3);
+    both_ways(2, 106, 1, 1, 0, 105, 4, 4);
+    both_ways(5, 106, 1, 1, 0, 104, 1, 1);
+    both_ways(UINT64_C(1) << 32 | 2, 106, 1, 1, 0, 104, 1, 1);
+    both_ways(2, 106, 0, 0, 0, 0, 0, 0);        /* no frames: three null pointers */
+    both_ways(4, 366, 0, 0, 0, 3, 4, 4);
+    names_the_frame();
+    receiver();
+    line_digits();
+    if (failures)
+        return 1;
+    puts("face: ok");
+    return 0;
+}
