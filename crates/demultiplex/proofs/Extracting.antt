@@ -10,7 +10,7 @@ use native.Mathlib.Nat.{add-zero, sub-zero}
 use lib.ListN.{length, getD, set, replicate, length-map, length-set, length-replicate}
 use lib.Seq.{set-at, append-snoc}
 use Rattle.digits.specs.Digits.{digitsOf, bytesOf, Bytes}
-use Rattle.digits.proofs.Laws.{digits-length, digits-zeros, bytes-of-digits}
+use Rattle.digits.proofs.Laws.{digits-length, digits-zeros, bytes-of-digits, zeros-at}
 use Rattle.levels.specs.declared.table.Row.{Row}
 use Rattle.levels.specs.declared.places.At.{At}
 use Rattle.levels.specs.Table.{Shared}
@@ -25,11 +25,6 @@ use Rattle.demultiplex.proofs.Inside.{short-line}
 map-append : (f : ℕ → ℕ) (xs ys : List ℕ) → map f (xs ++ ys) ≡ map f xs ++ map f ys
 map-append f [] ys = refl
 map-append f (x ∷ xs) ys = ap (λ (l : List ℕ). f x ∷ l) (map-append f xs ys)
-
-pub zero-at : (n i : ℕ) → getD (replicate {A = ℕ} n 0) i 0 ≡ 0
-zero-at zero i = refl
-zero-at (suc n) zero = refl
-zero-at (suc n) (suc i) = zero-at n i
 
 -- a list with zeros behind it, and what one digit more, or none, makes of it
 grown : (t : Bool) (ts old new : List ℕ) (i m d : ℕ) → length ts ≡ i → old ≡ ts ++ replicate (m - i) 0 → (t ≡ true → i < m) → new ≡ cond t (set old i d) old
@@ -80,7 +75,7 @@ extracting-none row line notes j q dst jh fits e =
       size = rw e (length-replicate q 0);
       walk = walk-start row (fits .shared) j jh (decisions notes j);
       done = rw (e, sub-zero (8 * q)) (digits-zeros q);
-      bytes = λ k. rw (e, zero-at q k) (omega arith);
+      bytes = λ k. rw (e, zeros-at q k) (omega arith);
     }
 
 module _ {row : Row} {line notes : List ℕ} {j q x i : ℕ} {at : At} {old : List ℕ} (so-far : Extracting row line notes j q x i at old) where

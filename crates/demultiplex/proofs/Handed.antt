@@ -9,13 +9,12 @@ use lib.Dec.{lit<}
 use lib.ListN.{length, getD, replicate, length-append, length-replicate, List·getD-append}
 use lib.Seq.{getD-append-add}
 use Rattle.digits.specs.Digits.{Binary, digitsOf}
-use Rattle.digits.proofs.Laws.{digits-binary, digits-of-bytes}
+use Rattle.digits.proofs.Laws.{digits-binary, digits-of-bytes, binary-append, zeros-at}
 use Rattle.levels.specs.declared.table.Row.{Row}
 use Rattle.levels.specs.Order.{before, decisions, placesOf}
 use Rattle.levels.proofs.Inverse.{places-length}
 use Rattle.demultiplex.specs.Extract.{takenTo, quarterFrom}
-use Rattle.demultiplex.proofs.NoteBits.{binary-append}
-use Rattle.demultiplex.proofs.Extracting.{zero-at, taken-length}
+use Rattle.demultiplex.proofs.Extracting.{taken-length}
 
 binary-map : (f : ℕ → ℕ) (l : List ℕ) → ((k : ℕ) → f k < 2) → Binary (map f l)
 binary-map f [] h i = lit< tt
@@ -50,7 +49,7 @@ module _ (row : Row) (notes line : List ℕ) (q j : ℕ) where
     unfolding quarterFrom
     quarter-digits =
         let zeros = replicate {A = ℕ} (8 * q - count) 0 in
-        let binary : Binary (taken ++ zeros) = binary-append taken zeros taken-binary (λ i. rw (zero-at (8 * q - count) i) (lit< tt)) in
+        let binary : Binary (taken ++ zeros) = binary-append taken zeros taken-binary (λ i. rw (zeros-at (8 * q - count) i) (lit< tt)) in
         let size : length (taken ++ zeros) ≡ 8 * q =
         length-append taken zeros ∙ omega (arith, taken-length row notes (digitsOf line) j (2 * length line), length-replicate {A = ℕ} (8 * q - count) 0) in
         rw (taken-length row notes (digitsOf line) j (2 * length line)) (digits-of-bytes q (taken ++ zeros) binary size)
@@ -65,4 +64,4 @@ module _ (row : Row) (notes line : List ℕ) (q j : ℕ) where
     pub digit-after : (i : ℕ) → count ≤ i → getD (digitsOf (quarterFrom row notes line q j)) i 0 ≡ 0
     digit-after i h =
         let e : i ≡ length taken + (i - count) = omega (arith, taken-length row notes (digitsOf line) j (2 * length line)) in
-        rw (quarter-digits, e) (getD-append-add taken (replicate (8 * q - count) 0) (i - count) 0 ∙ zero-at (8 * q - count) (i - count))
+        rw (quarter-digits, e) (getD-append-add taken (replicate (8 * q - count) 0) (i - count) 0 ∙ zeros-at (8 * q - count) (i - count))

@@ -12,7 +12,7 @@ use lib.Seq.{getD-append-add}
 use lib.Pow.{shr-shr}
 use borrow.Author.Tests.{lt-leb}
 use Rattle.digits.specs.Digits.{Binary, tab}
-use Rattle.digits.proofs.Laws.{tab-at}
+use Rattle.digits.proofs.Laws.{tab-at, tab-binary, binary-append}
 use Rattle.levels.specs.declared.table.Row.{Row}
 use Rattle.levels.specs.Order.{stuffed}
 use Rattle.levels.proofs.Choice.{cond-by}
@@ -32,17 +32,6 @@ bit-of-value (b ∷ bs) bin (suc k) =
     let e : suc k ≡ 1 + k = omega arith in
     rw (e, ← shr-shr (b + 2 * valueOf bs) 1 k, half) (bit-of-value bs (λ i. bin (suc i)) k)
 
-binary-tab : (n p : ℕ) (f : ℕ → ℕ) → ((k : ℕ) → f k < 2) → Binary (tab n p f)
-unfolding tab
-binary-tab zero p f h i = lit< tt
-binary-tab (suc n) p f h zero = h p
-binary-tab (suc n) p f h (suc i) = binary-tab n (suc p) f h i
-
-pub binary-append : (xs ys : List ℕ) → Binary xs → Binary ys → Binary (xs ++ ys)
-binary-append [] ys bx by i = by i
-binary-append (x ∷ xs) ys bx by zero = bx 0
-binary-append (x ∷ xs) ys bx by (suc i) = binary-append xs ys (λ k. bx (suc k)) by i
-
 module _ (row : Row) (ds : List ℕ) (bin : Binary ds) (f : ℕ) where
   abbrev decision : ℕ → ℕ
   decision j = bitOf (voteAt row ds f j .stuffed)
@@ -59,7 +48,7 @@ module _ (row : Row) (ds : List ℕ) (bin : Binary ds) (f : ℕ) where
 
   bits-binary : Binary bits
   bits-binary =
-      binary-append (tab 4 0 decision) (tab 4 0 service) (binary-tab 4 0 decision (λ j. cond-by (λ (d : ℕ). d < 2) (voteAt row ds f j .stuffed) {a = 1} {b = 0} (lit< tt) (lit< tt))) (binary-tab 4 0 service service-binary)
+      binary-append (tab 4 0 decision) (tab 4 0 service) (tab-binary 4 0 decision (λ j. cond-by (λ (d : ℕ). d < 2) (voteAt row ds f j .stuffed) {a = 1} {b = 0} (lit< tt) (lit< tt))) (tab-binary 4 0 service service-binary)
 
   note-value : noteOf row ds f ≡ valueOf bits
   unfolding noteOf valueOf tab

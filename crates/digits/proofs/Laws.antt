@@ -2,11 +2,12 @@
 -- bytes. The crates above cite these and speak of bytes no more.
 use mathlib.Core.Path.{_≡_, refl, sym, ap, ap₂, _∙_}
 use mathlib.Core.Logic.{_≢_}
-use mathlib.Core.List.{List, [], _∷_, _++_}
+use mathlib.Core.List.{List, [], _∷_, _++_, map}
 use Prim.Native.Nat.{ℕ, zero, suc, _+_, _-_, _*_, _/_, _%_, _^_, _<_}
 use native.Mathlib.Nat.{zero-div, add-zero, zero-add, not-suc-le-zero}
 use native.Mathlib.Omega.{arith}
 use native.Mathlib.Decide.{decLt, ℕ-discrete}
+use lib.Dec.{lit<}
 use lib.ListN.{length, getD, set, take, drop, replicate, length-set, length-drop, take-append-drop, drop-of-length-le, List·getD-append, replicate-append-replicate}
 use lib.Seq.{ext-getD, getD-set-same, getD-set-other, getD-append-add, getD-take, getD-drop, take-append-add, drop-append-add, take-nil, drop-nil}
 use Rattle.digits.specs.Digits.{eight, digitsOf, bytesOf, tab, Bytes, Binary, withDigit}
@@ -178,3 +179,28 @@ pub bytes-by-place : (bs : List ℕ) (f : ℕ → ℕ) → Bytes bs → ((p : �
     → bs ≡ bytesOf (length bs) (tab (8 * length bs) 0 f)
 bytes-by-place bs f b h =
     sym (bytes-of-digits bs b) ∙ ap (λ (ds : List ℕ). bytesOf (length bs) ds) (tab-of (digitsOf bs) (8 * length bs) f (digits-length bs) h)
+
+-- digits after digits, a list given by its places, a list picked out, and zeros are digits
+pub binary-append : (xs ys : List ℕ) → Binary xs → Binary ys → Binary (xs ++ ys)
+binary-append [] ys a b i = b i
+binary-append (x ∷ xs) ys a b zero = a 0
+binary-append (x ∷ xs) ys a b (suc i) = binary-append xs ys (λ i. a (suc i)) b i
+
+pub tab-binary : (n p : ℕ) (f : ℕ → ℕ) → ((i : ℕ) → f i < 2) → Binary (tab n p f)
+unfolding tab
+tab-binary zero p f h i = lit< tt
+tab-binary (suc n) p f h zero = h p
+tab-binary (suc n) p f h (suc i) = tab-binary n (suc p) f h i
+
+pub map-binary : (f : ℕ → ℕ) (xs : List ℕ) → ((i : ℕ) → f i < 2) → Binary (map f xs)
+map-binary f [] h i = lit< tt
+map-binary f (x ∷ xs) h zero = h x
+map-binary f (x ∷ xs) h (suc i) = map-binary f xs h i
+
+pub zeros-at : (n i : ℕ) → getD (replicate {A = ℕ} n 0) i 0 ≡ 0
+zeros-at zero i = refl
+zeros-at (suc n) zero = refl
+zeros-at (suc n) (suc i) = zeros-at n i
+
+pub zeros-binary : (n : ℕ) → Binary (replicate n 0)
+zeros-binary n i = rw zeros-at (lit< tt)

@@ -11,7 +11,7 @@ use lib.ListN.{length, getD, take, replicate, length-append, length-map, length-
 use lib.Seq.{take-at}
 use borrow.Author.Tests.{eq-eqb, ne-eqb, ltb-false, leb-false}
 use Rattle.digits.specs.Digits.{digitsOf, Binary}
-use Rattle.digits.proofs.Laws.{digits-length, digits-binary, digits-of-bytes, bytes-length, tab-length}
+use Rattle.digits.proofs.Laws.{digits-length, digits-binary, digits-of-bytes, bytes-length, tab-length, map-binary, binary-append, zeros-binary}
 use Rattle.levels.specs.declared.table.Row.{Row}
 use Rattle.levels.specs.declared.table.Level.{Level}
 use Rattle.levels.specs.declared.table.Level.the-variants.{Of, NoSuchLevel}
@@ -36,7 +36,7 @@ use Rattle.demultiplex.specs.Demultiplex as read
 use Rattle.promises.specs.Damage.{lineDigits}
 use Rattle.promises.specs.Carried.{Sound, digitsRead}
 use Rattle.promises.specs.Calls.{Lent, SendAccepted, sentLine, sentCounts, ReadAccepted, readNotes, readDigits}
-use Rattle.promises.proofs.Lists.{of-four, map-binary, binary-append, zeros-binary, quarter-at}
+use Rattle.promises.proofs.Lists.{of-four, quarter-at}
 use Rattle.promises.proofs.RoundTrip.{line-binary}
 
 -- an answer that the call on no level does not give was given on a level's row

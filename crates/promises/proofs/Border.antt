@@ -13,7 +13,7 @@ use lib.Seq.{ext-getD}
 use lib.Pow.{pow-mono}
 use borrow.Author.Tests.{le-leb, lt-leb}
 use Rattle.digits.specs.Digits.{digitsOf, bytesOf, tab, Binary}
-use Rattle.digits.proofs.Laws.{by-digit, digits-binary, tab-at, tab-length}
+use Rattle.digits.proofs.Laws.{by-digit, digits-binary, tab-at, tab-length, tab-binary, zeros-at, zeros-binary}
 use Rattle.levels.specs.declared.table.Row.{Row}
 use Rattle.levels.specs.declared.places.ServiceDigit.the-variants.{RemoteAlarm, FirstNational, SecondNational, ThirdNational}
 use Rattle.levels.specs.declared.places.Kind.{Kind}
@@ -33,7 +33,7 @@ use Rattle.promises.specs.Damage.{Liberty, at-will, counted, kept, liber
 use Rattle.promises.specs.Carried.{Sound}
 use Rattle.promises.specs.Calls.{SendAccepted, sentLine, DamageAt}
 use Rattle.promises.specs.Border.{inverted, spoilt, changes, early, late, noneStuffed, allStuffed, idle, Border, exampleSend, exampleLine, exampleDamaged, Example}
-use Rattle.promises.proofs.Lists.{of-four, tab-binary, zeros-at, zeros-binary, differing-more}
+use Rattle.promises.proofs.Lists.{of-four, differing-more}
 use Rattle.promises.proofs.Sent.{control-place, in-line, sent-at}
 use Rattle.promises.proofs.RoundTrip.{line-binary}
 

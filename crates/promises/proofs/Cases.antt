@@ -5,10 +5,10 @@ use Prim.Native.Nat.{ℕ, _+_, _*_, _-_, _/_, _%_, _^_, _≤_}
 use native.Mathlib.Omega.{arith}
 use native.Mathlib.Decide.{decLt}
 use native.Mathlib.Nat.{zero-add, zero-div}
-use lib.ListN.{length, getD, take, drop, replicate, length-take, length-replicate, getD-replicate, List·getD-eq-default}
+use lib.ListN.{length, getD, take, drop, replicate, length-take, List·getD-eq-default}
 use lib.Seq.{getD-take, getD-drop}
 use Rattle.digits.specs.Digits.{bytesOf, tab, digitsOf}
-use Rattle.digits.proofs.Laws.{digit-at, tab-of, tab-at, tab-length}
+use Rattle.digits.proofs.Laws.{digit-at, tab-of, tab-at, tab-length, zeros-at}
 use Rattle.levels.specs.declared.table.Row.{Row}
 use Rattle.levels.specs.Table.{levelOf}
 use Rattle.levels.specs.Places.{firstSet, laterSet, kindOf, posOf}
@@ -35,14 +35,7 @@ all-hold = (
   ),
 )
 
--- a list of zeros has 0 at every place, and so has every part of it
-zeros-at : (n k : ℕ) → getD (replicate {A = ℕ} n 0) k 0 ≡ 0
-zeros-at n k =
-    elim (decLt k n) [
-      | yes h ↦ getD-replicate n k 0 0 h
-      | no h ↦ let past : length (replicate {A = ℕ} n 0) ≤ k = omega (arith, length-replicate {A = ℕ} n 0) in List·getD-eq-default (replicate n 0) 0 past
-    ]
-
+-- every part of a list of zeros has 0 at every place
 part-at : (a b n k : ℕ) → getD (take a (drop b (replicate {A = ℕ} n 0))) k 0 ≡ 0
 part-at a b n k =
     elim (decLt k a) [

@@ -12,7 +12,7 @@ use lib.Seq.{take-at, drop-at}
 use borrow.Author.Tests.{eq-eqb}
 use Rattle.digits.specs.Digits.{eight, tab, Binary}
 use Rattle.digits.proofs.Bits.{eight-at, byte-is}
-use Rattle.digits.proofs.Laws.{by-digit}
+use Rattle.digits.proofs.Laws.{by-digit, binary-append}
 use Rattle.levels.specs.Sizes.{quarterOf}
 use Rattle.levels.specs.Vote.{votesFor, groupOf}
 use Rattle.promises.specs.Damage.{differing}
@@ -51,7 +51,7 @@ module _ (ds : List ℕ) (p set : ℕ) where
   group-same es zero h = refl
   group-same es (suc k) h = rw (group-same es k (λ i hi. h i (omega arith)), h k (omega arith))
 
--- a written list of digits, digits after digits, a list given by its places, a list picked out, zeros and a group of digits are digits
+-- a written list of digits and a group of digits are digits
 abbrev pub Each : List ℕ → Type 0
 Each [] = Unit {0}
 Each (x ∷ xs) = (x < 2) × Each xs
@@ -60,30 +60,6 @@ pub each-binary : (xs : List ℕ) → Each xs → Binary xs
 each-binary [] e i = lit< tt
 each-binary (x ∷ xs) e zero = e .0
 each-binary (x ∷ xs) e (suc i) = each-binary xs (e .1) i
-
-pub binary-append : (xs ys : List ℕ) → Binary xs → Binary ys → Binary (xs ++ ys)
-binary-append [] ys a b i = b i
-binary-append (x ∷ xs) ys a b zero = a 0
-binary-append (x ∷ xs) ys a b (suc i) = binary-append xs ys (λ i. a (suc i)) b i
-
-pub tab-binary : (n p : ℕ) (f : ℕ → ℕ) → ((i : ℕ) → f i < 2) → Binary (tab n p f)
-unfolding tab
-tab-binary zero p f h i = lit< tt
-tab-binary (suc n) p f h zero = h p
-tab-binary (suc n) p f h (suc i) = tab-binary n (suc p) f h i
-
-pub map-binary : (f : ℕ → ℕ) (xs : List ℕ) → ((i : ℕ) → f i < 2) → Binary (map f xs)
-map-binary f [] h i = lit< tt
-map-binary f (x ∷ xs) h zero = h x
-map-binary f (x ∷ xs) h (suc i) = map-binary f xs h i
-
-pub zeros-at : (n i : ℕ) → getD (replicate {A = ℕ} n 0) i 0 ≡ 0
-zeros-at zero i = refl
-zeros-at (suc n) zero = refl
-zeros-at (suc n) (suc i) = zeros-at n i
-
-pub zeros-binary : (n : ℕ) → Binary (replicate n 0)
-zeros-binary n i = rw zeros-at (lit< tt)
 
 pub group-binary : (ds : List ℕ) → Binary ds → (p set k : ℕ) → Binary (groupOf ds p set k)
 unfolding groupOf
