@@ -10,7 +10,7 @@ use native.Mathlib.Nat.{add-zero, sub-zero}
 use lib.ListN.{length, getD, set, replicate, length-map, length-set, length-replicate}
 use lib.Seq.{set-at, append-snoc}
 use Rattle.digits.specs.Digits.{digitsOf, bytesOf, Bytes}
-use Rattle.digits.proofs.Laws.{digits-length, digits-zeros, bytes-of-digits, zeros-at}
+use Rattle.digits.proofs.Laws.{digits-length, digits-zeros, bytes-of-digits, zeros-at, map-append}
 use Rattle.levels.specs.declared.table.Row.{Row}
 use Rattle.levels.specs.declared.places.At.{At}
 use Rattle.levels.specs.Table.{Shared}
@@ -21,10 +21,6 @@ use Rattle.levels.proofs.Positions.{Stands}
 use Rattle.levels.proofs.Walk.{Walking, walk-start, walk-next, here, column-in, frame-in, index-small, index-room}
 use Rattle.demultiplex.specs.Extract.{takenTo, quarterFrom, Fits, Taken}
 use Rattle.demultiplex.proofs.Inside.{short-line}
-
-map-append : (f : ℕ → ℕ) (xs ys : List ℕ) → map f (xs ++ ys) ≡ map f xs ++ map f ys
-map-append f [] ys = refl
-map-append f (x ∷ xs) ys = ap (λ (l : List ℕ). f x ∷ l) (map-append f xs ys)
 
 -- a list with zeros behind it, and what one digit more, or none, makes of it
 grown : (t : Bool) (ts old new : List ℕ) (i m d : ℕ) → length ts ≡ i → old ≡ ts ++ replicate (m - i) 0 → (t ≡ true → i < m) → new ≡ cond t (set old i d) old

@@ -204,3 +204,7 @@ zeros-at (suc n) (suc i) = zeros-at n i
 
 pub zeros-binary : (n : ℕ) → Binary (replicate n 0)
 zeros-binary n i = rw zeros-at (lit< tt)
+
+pub map-append : (f : ℕ → ℕ) (xs ys : List ℕ) → map f (xs ++ ys) ≡ map f xs ++ map f ys
+map-append f [] ys = refl
+map-append f (x ∷ xs) ys = ap (λ (l : List ℕ). f x ∷ l) (map-append f xs ys)

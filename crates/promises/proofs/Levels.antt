@@ -11,7 +11,7 @@ use native.Mathlib.Nat.{add-mul, add-zero, div-add-mod', mod-lt, lt-of-mul-lt-mu
 use lib.ListN.{length, getD}
 use borrow.Author.Tests.{eq-eqb, le-leb, lt-leb, le-ltb}
 use Rattle.digits.specs.Digits.{digitsOf, tab}
-use Rattle.digits.proofs.Laws.{digits-binary, digits-length}
+use Rattle.digits.proofs.Laws.{digits-binary, digits-length, map-append}
 use Rattle.levels.specs.declared.table.Row.{Row}
 use Rattle.levels.specs.declared.table.Level.the-variants.{Of}
 use Rattle.levels.specs.declared.places.Kind.{Kind}
@@ -27,7 +27,7 @@ use Rattle.multiplex.proofs.Own.{head-not-own, own-past}
 use Rattle.promises.specs.Damage.{counted, kept, liberty, libertyAt, allowed, Damage, ownKind, SameBut}
 use Rattle.promises.specs.Calls.{Lent, sentLine, DamageAt}
 use Rattle.promises.specs.Plain.{inFour, inFours, digitsAfter, Changed, SameOutside, DemandThree}
-use Rattle.promises.proofs.Lists.{map-append, tab-more}
+use Rattle.promises.proofs.Lists.{tab-more}
 use Rattle.promises.proofs.Sent.{whose}
 use Rattle.promises.proofs.Accepted.{shared, read-places, read-frames}
 use Rattle.promises.proofs.Calls.{sends-same, send-returned, others-come-out}

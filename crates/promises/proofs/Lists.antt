@@ -17,10 +17,6 @@ use Rattle.levels.specs.Sizes.{quarterOf}
 use Rattle.levels.specs.Vote.{votesFor, groupOf}
 use Rattle.promises.specs.Damage.{differing}
 
-pub map-append : (f : ℕ → ℕ) (xs ys : List ℕ) → map f (xs ++ ys) ≡ map f xs ++ map f ys
-map-append f [] ys = refl
-map-append f (x ∷ xs) ys = ap (λ (l : List ℕ). f x ∷ l) (map-append f xs ys)
-
 -- a list given by its places, one place longer
 pub tab-more : (k p : ℕ) (f : ℕ → ℕ) → tab (suc k) p f ≡ tab k p f ++ (f (p + k) ∷ [])
 unfolding tab

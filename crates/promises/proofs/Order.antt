@@ -8,6 +8,7 @@ use native.Mathlib.Nat.{lt-of-mul-lt-mul-right, add-zero}
 use native.Mathlib.Numerals.{add-one}
 use lib.ListN.{length, getD, take}
 use lib.Seq.{take-suc}
+use Rattle.digits.proofs.Laws.{map-append}
 use Rattle.levels.specs.declared.table.Row.{Row}
 use Rattle.levels.specs.Table.{Shared}
 use Rattle.levels.specs.Places.{posOf}
@@ -15,7 +16,6 @@ use Rattle.levels.specs.Order.{carries, before, placesOf, stuffedTo, countOf}
 use Rattle.levels.proofs.Positions.{stands}
 use Rattle.levels.proofs.Columns.{columns, frame-start}
 use Rattle.levels.proofs.Inverse.{places-length}
-use Rattle.promises.proofs.Lists.{map-append}
 
 module _ (row : Row) (sh : Shared row) (F j : ℕ) (jh : j < 4) where
   -- column x of a line of F frames
