@@ -158,7 +158,7 @@ fn take_one(
     ensures { λ r. ⌜ Taken row at (digitsOf (now (line .entry))) p (i .0) st (r .0) (now (dst .entry)) (now (dst .exit)) ⌝ }
 {
     let k = i.0;
-    if order::carries_digit(places::kind_of(row, at), st) {
+    if order::carries_at(row, at, st) {
         let d = digits::digit_at(line, p);
         digits::put_digit(dst, k, d);
         let next = k + 1;

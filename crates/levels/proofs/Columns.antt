@@ -30,20 +30,9 @@ columns row = row .digits / 4
 unfoldable pub headColumns : Row → ℕ → Bool → ℕ
 headColumns row s st = cond (eqb s 0) (row .first / 4) (cond (eqb s (row .sets - 1)) (1 + cond st 1 0) 1)
 
-module _ (row : Row) (sh : Shared row) (j : ℕ) (jh : j < 4) where
-  pub frame-start : (f : ℕ) → f * row .digits ≡ 4 * (f * columns row)
-  frame-start f =
-      let fours : row .digits ≡ 4 * columns row = omega (arith, sh .packed) in
-      ap (λ (k : ℕ). f * k) fours ∙ mul-left-comm f 4 (columns row)
-
-  -- where column c of set s of frame f stands
-  pub column-pos : (f s c : ℕ) → s < row .sets → c < wide row
-      → posOf row (4 * (f * columns row + (s * wide row + c)) + j) ≡ record { frame = f; set = s; place = 4 * c + j }
-  column-pos f s c hs hc =
-      pos-of-sum row sh (4 * (f * columns row + (s * wide row + c)) + j) f s (4 * c + j) (omega (arith, frame-start f, set-start row sh s)) hs (omega (arith, sh .set-fours))
-
+module _ (row : Row) (sh : Shared row) where
   -- no place of the first set's head carries a digit
-  head-none : (r : ℕ) (st : Bool) → r < row .first → carried (kindOf row 0 r) st ≡ false
+  pub head-none : (r : ℕ) (st : Bool) → r < row .first → carried (kindOf row 0 r) st ≡ false
   head-none r st h =
       elim (decLt r (row .len)) [
         | yes a ↦ rw (kind-word row sh r a)
@@ -57,10 +46,30 @@ module _ (row : Row) (sh : Shared row) (j : ℕ) (jh : j < 4) where
             ]
       ]
 
+  -- and each place past it does
+  pub first-carries : (r : ℕ) (st : Bool) → leb (row .first) r ≡ carried (kindOf row 0 r) st
+  first-carries r st =
+      elim (decLt r (row .first)) [
+        | yes h ↦ lt-leb (row .first) r h ∙ sym (head-none r st h)
+        | no h ↦ rw (kind-first row sh r (omega arith)) (le-leb (row .first) r (omega arith))
+      ]
+
+module _ (row : Row) (sh : Shared row) (j : ℕ) (jh : j < 4) where
+  pub frame-start : (f : ℕ) → f * row .digits ≡ 4 * (f * columns row)
+  frame-start f =
+      let fours : row .digits ≡ 4 * columns row = omega (arith, sh .packed) in
+      ap (λ (k : ℕ). f * k) fours ∙ mul-left-comm f 4 (columns row)
+
+  -- where column c of set s of frame f stands
+  pub column-pos : (f s c : ℕ) → s < row .sets → c < wide row
+      → posOf row (4 * (f * columns row + (s * wide row + c)) + j) ≡ record { frame = f; set = s; place = 4 * c + j }
+  column-pos f s c hs hc =
+      pos-of-sum row sh (4 * (f * columns row + (s * wide row + c)) + j) f s (4 * c + j) (omega (arith, frame-start f, set-start row sh s)) hs (omega (arith, sh .set-fours))
+
   column-first : (c : ℕ) (st : Bool) → carried (kindOf row 0 (4 * c + j)) st ≡ leb (row .first / 4) c
   column-first c st =
       elim (decLt c (row .first / 4)) [
-        | yes h ↦ head-none (4 * c + j) st (omega (arith, sh .first-fours)) ∙ sym (lt-leb (row .first / 4) c h)
+        | yes h ↦ head-none row sh (4 * c + j) st (omega (arith, sh .first-fours)) ∙ sym (lt-leb (row .first / 4) c h)
         | no h ↦ rw (kind-first row sh (4 * c + j) (omega (arith, sh .first-fours)), le-leb (row .first / 4) c (omega arith))
       ]
 

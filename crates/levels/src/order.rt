@@ -1,5 +1,6 @@
 // The order of a tributary's digits: what a decision does to a place, and where a place in a frame becomes a place in a
 // tributary and back.
+use crate::places::At;
 use crate::places::FramePlace;
 use crate::places::Kind;
 use crate::places::TributaryPlace;
@@ -10,6 +11,7 @@ ghost use Prim.Native.Nat.{ℕ, _+_, _-_, _/_, _%_, _<_};
 ghost use lib.Dec.{eqb};
 ghost use lib.ListN.{getD};
 ghost use Rattle.levels.specs.Table.{Shared};
+ghost use Rattle.levels.specs.Places.{kindOf};
 ghost use Rattle.levels.specs.Order.{stuffed, carried, carries, before, placesOf};
 
 // Whether a note says that tributary j (from 0) is stuffed.
@@ -31,6 +33,27 @@ pub fn carries_digit(kind: Kind, st: bool) -> bool
         Kind::Justification => !st,
         Kind::Tributary => true,
     }
+}
+
+// The same of where a walk stands, by the tests that most places pass first: the walk asks this of every column.
+pub fn carries_at(row: Row, at: At, st: bool) -> bool
+    requires { ⌜ Shared row ⌝ }
+    ensures { λ r. ⌜ r ≡ carried (kindOf row (at .set) (at .place)) st ⌝ }
+{
+    let r = at.place;
+    if at.set == 0 {
+        return row.first <= r;
+    }
+    if 8 <= r {
+        return true;
+    }
+    if r < 4 {
+        return false;
+    }
+    if at.set == row.sets - 1 {
+        return !st;
+    }
+    true
 }
 
 // How many columns the heads of the sets up to set s take, s itself included, where st is the frame's decision.

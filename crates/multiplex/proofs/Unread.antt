@@ -26,7 +26,7 @@ use Rattle.levels.proofs.Counts.{count-of}
 use Rattle.levels.proofs.Inverse.{before-rises}
 use Rattle.levels.proofs.Judged.{accepted}
 use Rattle.multiplex.specs.Line.{digitBy, lineDigit, lineOf}
-use Rattle.multiplex.specs.Multiplex.{refusalOn, lineOn, lineAfter}
+use Rattle.multiplex.specs.Multiplex.{refusalOn, lineOn, multiplexed, lineAfter}
 
 -- a place that carries no digit does not look at one
 idle : (row : Row) (note j r a b : ℕ) (k : Kind) → carried k (stuffed note j) ≡ false → digitBy row note j r a k ≡ digitBy row note j r b k
@@ -83,8 +83,9 @@ size-accepted row line notes buffer e =
 -- the same of the call: its answer looks only at the buffer's length
 pub not-looked-at : (level : ℕ) (line notes b b′ : List ℕ) → length b ≡ length b′
     → ((row : Row) → levelOf level ≡ Of row → Agree row notes (λ (j : ℕ). digitsOf (quarterOf b j)) (λ (j : ℕ). digitsOf (quarterOf b′ j)))
-    → lineAfter level line notes b ≡ lineAfter level line notes b′
-not-looked-at level line notes b b′ len same = go (levelOf level) refl
+    → (multiplexed level (length line) notes (length b) ≡ multiplexed level (length line) notes (length b′)) × (lineAfter level line notes b ≡ lineAfter level line notes b′)
+not-looked-at level line notes b b′ len same =
+    (ap (λ (n : ℕ). multiplexed level (length line) notes n) len, go (levelOf level) refl)
   where
     on-row : (row : Row) → levelOf level ≡ Of row → (r : Bool) → eqb (refusalOn row (length line) notes (length b′)) 0 ≡ r → lineOn row line notes b ≡ lineOn row line notes b′
     on-row row e true er =
