@@ -1,0 +1,52 @@
+// Arguments: whether two words are the same, and the numbers that words are.
+
+pub fn same(a: &[u8], b: &[u8]) -> bool {
+    let n = a.len();
+    if n != b.len() {
+        return false;
+    }
+    if 4096 < n {
+        return false;
+    }
+    let r = workbench::compare(a, b, 8 * n);
+    r.wrong == 0
+}
+
+// The level that a word of one character is, or 0.
+pub fn level(word: &[u8]) -> u64 {
+    if word.len() != 1 {
+        return 0;
+    }
+    match word[0] {
+        b'2' => 2,
+        b'3' => 3,
+        b'4' => 4,
+        _ => 0,
+    }
+}
+
+// A character as a hexadecimal digit, or 16.
+fn hex(c: u8) -> u16 {
+    match c {
+        b'0'..=b'9' => (c - b'0') as u16,
+        b'A'..=b'F' => (c - b'A') as u16 + 10,
+        b'a'..=b'f' => (c - b'a') as u16 + 10,
+        _ => 16,
+    }
+}
+
+// The note that a word of two hexadecimal digits is, or 256.
+pub fn note(word: &[u8]) -> u16 {
+    if word.len() != 2 {
+        return 256;
+    }
+    let high = hex(word[0]);
+    let low = hex(word[1]);
+    if 15 < high {
+        return 256;
+    }
+    if 15 < low {
+        return 256;
+    }
+    16 * high + low
+}

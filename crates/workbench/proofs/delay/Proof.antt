@@ -1,0 +1,69 @@
+-- The frame stays inside both lists of notes.
+use Prim.Native.Nat.{ℕ, _≤_, _-_, _*_, _+_, _<_}
+use native.Mathlib.Omega.{arith}
+use mathlib.Core.Path.{_≡_}
+use lib.ListN.{length, length-set}
+use borrow.Author.Needs.{needs}
+use Rattle.workbench.proofs.delay.Statement.{statement}
+use Rattle.workbench.proofs.delay.Tie as tie
+
+abbrev Inv-loop : tie.InvT-loop
+Inv-loop late₀ notes before last₀ f₀ late last f = (f ≤ length late₀) × (length late ≡ length late₀)
+
+abbrev μ-loop : tie.MeasureT-loop
+μ-loop late₀ notes before last₀ f₀ late last f = length late₀ - f
+
+loop-holds : tie.Need-loop-holds Inv-loop μ-loop
+loop-holds c = search needs
+
+same-length : tie.Need-same-length Inv-loop μ-loop
+same-length c = search needs
+
+returns : tie.Need-returns Inv-loop μ-loop
+returns c = search needs
+
+shared-slice-read-decided-by : tie.Need-shared-slice-read-decided-by Inv-loop μ-loop
+shared-slice-read-decided-by c = search needs
+
+decided-by-requires : tie.Need-decided-by-requires Inv-loop μ-loop
+decided-by-requires c κs = search needs
+
+slice-write-late : tie.Need-slice-write-late Inv-loop μ-loop
+slice-write-late c = search needs
+
+shared-slice-read-last : tie.Need-shared-slice-read-last Inv-loop μ-loop
+shared-slice-read-last c = search needs
+
+add-f : tie.Need-add-f Inv-loop μ-loop
+add-f c = search needs
+
+loop-less : tie.Need-loop-less Inv-loop μ-loop
+loop-less c = search needs
+
+loop-again : tie.Need-loop-again Inv-loop μ-loop
+loop-again c = search needs
+
+same-length-2 : tie.Need-same-length-2 Inv-loop μ-loop
+same-length-2 c = search needs
+
+returns-2 : tie.Need-returns-2 Inv-loop μ-loop
+returns-2 c = search needs
+
+pub delay-spec : {M : Type 1} → statement M
+delay-spec =
+    tie.close
+    (tie.spec
+    Inv-loop
+    μ-loop
+    loop-holds
+    same-length
+    returns
+    shared-slice-read-decided-by
+    decided-by-requires
+    slice-write-late
+    shared-slice-read-last
+    add-f
+    loop-less
+    loop-again
+    same-length-2
+    returns-2)

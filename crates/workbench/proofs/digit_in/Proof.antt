@@ -1,0 +1,21 @@
+-- A slice's digits end where its bytes end, and past the end a list's default stands.
+use Rattle.digits.specs.Digits.{digitsOf}
+use Rattle.digits.proofs.Laws.{digits-length}
+use native.Mathlib.Omega.{arith}
+use mathlib.Core.Path.{sym}
+use lib.ListN.{List·getD-eq-default}
+use borrow.Author.Needs.{needs}
+use Rattle.workbench.proofs.digit_in.Statement.{statement}
+use Rattle.workbench.proofs.digit_in.Tie as tie
+
+returns : tie.Need-returns
+returns c = let s = c .before .before .args .s .now in (sym (List·getD-eq-default (digitsOf s) 0 (omega (arith, digits-length s))), omega arith)
+
+digit-at-requires : tie.Need-digit-at-requires
+digit-at-requires c κs = search needs
+
+returns-2 : tie.Need-returns-2
+returns-2 c = search needs
+
+pub digit-in-spec : {M : Type 1} → statement M
+digit-in-spec = tie.close (tie.spec returns digit-at-requires returns-2)

@@ -1,0 +1,40 @@
+-- A control digit is read in the one line, any other in the other.
+use mathlib.Core.Path.{sym, _∙_, ap}
+use Rattle.workbench.specs.Bench.{isControl}
+use borrow.Author.Needs.{needs}
+use Rattle.workbench.proofs.Bench.{in-a-frame, mixed-said, mixed-line}
+use Rattle.workbench.proofs.late_digit.Statement.{statement}
+use Rattle.workbench.proofs.late_digit.Tie as tie
+
+rem-t6 : tie.Need-rem-t6
+rem-t6 c = search needs
+
+kind-at-requires : tie.Need-kind-at-requires
+kind-at-requires c κs = (c .before .before .before .pre, in-a-frame _ (c .before .before .before .pre) _)
+
+is-control-requires : tie.Need-is-control-requires
+is-control-requires c κs = search needs
+
+digit-in-requires : tie.Need-digit-in-requires
+digit-in-requires c κs = search needs
+
+returns : tie.Need-returns
+returns c = (mixed-said _ _ _ _ _ (sym (ap isControl (c .before .before .before .kind-at .ensures)) ∙ sym (c .before .before .is-control .ensures) ∙ c .before .if1 .taken) (c .digit-in .ensures .0), c .digit-in .ensures .1)
+
+digit-in-requires-2 : tie.Need-digit-in-requires-2
+digit-in-requires-2 c κs = search needs
+
+returns-2 : tie.Need-returns-2
+returns-2 c = (mixed-line _ _ _ _ _ (sym (ap isControl (c .before .before .before .kind-at .ensures)) ∙ sym (c .before .before .is-control .ensures) ∙ c .before .if1 .left) (c .digit-in2 .ensures .0), c .digit-in2 .ensures .1)
+
+pub late-digit-spec : {M : Type 1} → statement M
+late-digit-spec =
+    tie.close
+    (tie.spec
+    rem-t6
+    kind-at-requires
+    is-control-requires
+    digit-in-requires
+    returns
+    digit-in-requires-2
+    returns-2)

@@ -1,0 +1,55 @@
+-- The place stays inside the frame.
+use Prim.Native.Nat.{ℕ, _≤_, _-_, _*_, _+_, _<_}
+use native.Mathlib.Omega.{arith}
+use borrow.Author.Needs.{needs}
+use Rattle.workbench.proofs.picture.run_end.Statement.{statement}
+use Rattle.workbench.proofs.picture.run_end.Tie as tie
+
+abbrev Inv-loop : tie.InvT-loop
+Inv-loop row p kind q₀ q = (p < q) × (q ≤ row .digits)
+
+abbrev μ-loop : tie.MeasureT-loop
+μ-loop row p kind q₀ q = row .digits - q
+
+kind-number-at-requires : tie.Need-kind-number-at-requires Inv-loop μ-loop
+kind-number-at-requires c κs = search needs
+
+add-q : tie.Need-add-q Inv-loop μ-loop
+add-q c = omega arith
+
+loop-holds : tie.Need-loop-holds Inv-loop μ-loop
+loop-holds c = search needs
+
+kind-number-at-requires-2 : tie.Need-kind-number-at-requires-2 Inv-loop μ-loop
+kind-number-at-requires-2 c κs = search needs
+
+returns : tie.Need-returns Inv-loop μ-loop
+returns c = search needs
+
+add-q-2 : tie.Need-add-q-2 Inv-loop μ-loop
+add-q-2 c = search needs
+
+loop-less : tie.Need-loop-less Inv-loop μ-loop
+loop-less c = search needs
+
+loop-again : tie.Need-loop-again Inv-loop μ-loop
+loop-again c = search needs
+
+returns-2 : tie.Need-returns-2 Inv-loop μ-loop
+returns-2 c = search needs
+
+pub run-end-spec : {M : Type 1} → statement M
+run-end-spec =
+    tie.close
+    (tie.spec
+    Inv-loop
+    μ-loop
+    kind-number-at-requires
+    add-q
+    loop-holds
+    kind-number-at-requires-2
+    returns
+    add-q-2
+    loop-less
+    loop-again
+    returns-2)

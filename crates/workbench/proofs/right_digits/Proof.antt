@@ -1,0 +1,63 @@
+-- The digits passed are right.
+use Prim.Native.Nat.{ℕ, _≤_, _-_, _*_, _+_, _<_}
+use Rattle.digits.specs.Digits.{digitsOf}
+use lib.ListN.{getD}
+use mathlib.Core.Path.{_≡_, sym, _∙_}
+use native.Mathlib.Omega.{arith}
+use borrow.Author.Needs.{needs}
+use Rattle.workbench.proofs.Bench.{right-more}
+use Rattle.workbench.proofs.right_digits.Statement.{statement}
+use Rattle.workbench.proofs.right_digits.Tie as tie
+
+abbrev Inv-loop : tie.InvT-loop
+Inv-loop a b count i₀ i = (i ≤ count) × ((k : ℕ) → k < i → getD (digitsOf a) k 0 ≡ getD (digitsOf b) k 0)
+
+abbrev μ-loop : tie.MeasureT-loop
+μ-loop a b count i₀ i = count - i
+
+loop-holds : tie.Need-loop-holds Inv-loop μ-loop
+loop-holds c = (omega arith, λ k h. absurd (over k h))
+  where
+    over : (k : ℕ) → k < 0 → ⊥
+    over k h = omega arith
+
+digit-in-requires : tie.Need-digit-in-requires Inv-loop μ-loop
+digit-in-requires c κs = search needs
+
+digit-in-requires-2 : tie.Need-digit-in-requires-2 Inv-loop μ-loop
+digit-in-requires-2 c κs = search needs
+
+returns : tie.Need-returns Inv-loop μ-loop
+returns c = ((omega arith), c .before .before .before .before .loop .inv .1, λ h e. c .if1 .taken (c .before .before .digit-in .ensures .0 ∙ e ∙ sym (c .before .digit-in2 .ensures .0)))
+
+add-i : tie.Need-add-i Inv-loop μ-loop
+add-i c = search needs
+
+loop-less : tie.Need-loop-less Inv-loop μ-loop
+loop-less c = search needs
+
+loop-again : tie.Need-loop-again Inv-loop μ-loop
+loop-again c = (omega arith, right-more (digitsOf (c .before .before .before .before .before .before .before .args .a .now)) (digitsOf (c .before .before .before .before .before .before .before .args .b .now)) _ (c .before .before .before .before .loop .inv .1) (sym (c .before .before .digit-in .ensures .0) ∙ c .if1 .left ∙ c .before .digit-in2 .ensures .0))
+
+returns-2 : tie.Need-returns-2 Inv-loop μ-loop
+returns-2 c =
+    let end : c .before .loop .i ≡ c .before .before .before .before .args .count = omega arith in
+    (omega arith, rw end at (c .before .loop .inv .1), λ h. absurd (never h))
+  where
+    never : c .before .before .before .before .args .count < c .before .before .before .before .args .count → ⊥
+    never h = omega arith
+
+pub right-digits-spec : {M : Type 1} → statement M
+right-digits-spec =
+    tie.close
+    (tie.spec
+    Inv-loop
+    μ-loop
+    loop-holds
+    digit-in-requires
+    digit-in-requires-2
+    returns
+    add-i
+    loop-less
+    loop-again
+    returns-2)

@@ -1,0 +1,61 @@
+-- After p turns the places before p are mixed, and those from p on are as they were (Bench).
+use Prim.Native.Nat.{ℕ, _≤_, _-_, _*_, _+_, _<_}
+use Rattle.workbench.proofs.Bench.{Mixing, mixing-start, mixing-more}
+use Rattle.digits.specs.Digits.{digitsOf}
+use lib.ListN.{length}
+use mathlib.Core.Path.{_≡_, refl}
+use native.Mathlib.Omega.{arith}
+use borrow.Author.Needs.{needs}
+use Rattle.workbench.proofs.say_controls.Statement.{statement}
+use Rattle.workbench.proofs.say_controls.Tie as tie
+
+abbrev Inv-loop : tie.InvT-loop
+Inv-loop row line₀ said n p₀ line p = (p ≤ n) × (n ≡ 8 * length line₀) × (length line ≡ length line₀) × Mixing row (digitsOf said) line₀ p line
+
+abbrev μ-loop : tie.MeasureT-loop
+μ-loop row line₀ said n p₀ line p = n - p
+
+mul-n : tie.Need-mul-n Inv-loop μ-loop
+mul-n c = omega arith
+
+loop-holds : tie.Need-loop-holds Inv-loop μ-loop
+loop-holds c = (omega arith, refl, refl, mixing-start _ _ _)
+
+late-digit-requires : tie.Need-late-digit-requires Inv-loop μ-loop
+late-digit-requires c κs = c .before .before .before .before .before .pre .0
+
+put-digit-requires : tie.Need-put-digit-requires Inv-loop μ-loop
+put-digit-requires c κs = (omega arith, c .before .late-digit .ensures .1)
+
+add-p : tie.Need-add-p Inv-loop μ-loop
+add-p c = omega arith
+
+loop-less : tie.Need-loop-less Inv-loop μ-loop
+loop-less c = omega arith
+
+loop-again : tie.Need-loop-again Inv-loop μ-loop
+loop-again c =
+    let l = c .before .before .before .before .before .before .before .loop in
+    (omega arith, omega arith, omega arith, mixing-more _ _ _ (l .line) _ (l .p) _ (l .inv .3) (omega arith) (c .before .before .before .before .late-digit .ensures .0) (c .before .before .put-digit .ensures .0))
+
+same-length : tie.Need-same-length Inv-loop μ-loop
+same-length c = omega arith
+
+returns : tie.Need-returns Inv-loop μ-loop
+returns c = λ p h. c .before .loop .inv .3 .done p (omega arith)
+
+pub say-controls-spec : {M : Type 1} → statement M
+say-controls-spec =
+    tie.close
+    (tie.spec
+    Inv-loop
+    μ-loop
+    mul-n
+    loop-holds
+    late-digit-requires
+    put-digit-requires
+    add-p
+    loop-less
+    loop-again
+    same-length
+    returns)

@@ -1,0 +1,57 @@
+-- The index stays inside the slice.
+use Prim.Native.Nat.{ℕ, _≤_, _-_, _*_, _+_, _<_}
+use native.Mathlib.Omega.{arith}
+use mathlib.Core.Path.{_≡_}
+use lib.ListN.{length, length-set}
+use borrow.Author.Needs.{needs}
+use Rattle.workbench.proofs.scatter.Statement.{statement}
+use Rattle.workbench.proofs.scatter.Tie as tie
+
+abbrev Inv-loop : tie.InvT-loop
+Inv-loop s₀ seed x₀ i₀ s x i = (i ≤ length s₀) × (length s ≡ length s₀)
+
+abbrev μ-loop : tie.MeasureT-loop
+μ-loop s₀ seed x₀ i₀ s x i = length s₀ - i
+
+loop-holds : tie.Need-loop-holds Inv-loop μ-loop
+loop-holds c = search needs
+
+next-number-requires : tie.Need-next-number-requires Inv-loop μ-loop
+next-number-requires c κs = search needs
+
+eight-digits-requires : tie.Need-eight-digits-requires Inv-loop μ-loop
+eight-digits-requires c κs = search needs
+
+slice-write-s : tie.Need-slice-write-s Inv-loop μ-loop
+slice-write-s c = search needs
+
+add-i : tie.Need-add-i Inv-loop μ-loop
+add-i c = search needs
+
+loop-less : tie.Need-loop-less Inv-loop μ-loop
+loop-less c = search needs
+
+loop-again : tie.Need-loop-again Inv-loop μ-loop
+loop-again c = search needs
+
+same-length : tie.Need-same-length Inv-loop μ-loop
+same-length c = search needs
+
+returns : tie.Need-returns Inv-loop μ-loop
+returns c = search needs
+
+pub scatter-spec : {M : Type 1} → statement M
+scatter-spec =
+    tie.close
+    (tie.spec
+    Inv-loop
+    μ-loop
+    loop-holds
+    next-number-requires
+    eight-digits-requires
+    slice-write-s
+    add-i
+    loop-less
+    loop-again
+    same-length
+    returns)

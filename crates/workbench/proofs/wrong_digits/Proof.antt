@@ -1,0 +1,54 @@
+-- The count of the digits passed.
+use Prim.Native.Nat.{ℕ, _≤_, _-_, _*_, _+_, _<_}
+use Rattle.digits.specs.Digits.{digitsOf}
+use mathlib.Core.Path.{_≡_, refl, sym, _∙_, ap}
+use native.Mathlib.Omega.{arith}
+use Rattle.workbench.specs.Bench.{wrongTo}
+use borrow.Author.Needs.{needs}
+use Rattle.workbench.proofs.wrong_digits.Statement.{statement}
+use Rattle.workbench.proofs.wrong_digits.Tie as tie
+
+abbrev Inv-loop : tie.InvT-loop
+Inv-loop a b count wrong₀ i₀ wrong i = (i ≤ count) × (wrong ≤ i) × (wrong ≡ wrongTo (digitsOf a) (digitsOf b) i)
+
+abbrev μ-loop : tie.MeasureT-loop
+μ-loop a b count wrong₀ i₀ wrong i = count - i
+
+loop-holds : tie.Need-loop-holds Inv-loop μ-loop
+unfolding wrongTo
+loop-holds c = (omega arith, omega arith, refl)
+
+wrong-at-requires : tie.Need-wrong-at-requires Inv-loop μ-loop
+wrong-at-requires c κs = search needs
+
+add-wrong : tie.Need-add-wrong Inv-loop μ-loop
+add-wrong c = search needs
+
+add-i : tie.Need-add-i Inv-loop μ-loop
+add-i c = search needs
+
+loop-less : tie.Need-loop-less Inv-loop μ-loop
+loop-less c = search needs
+
+loop-again : tie.Need-loop-again Inv-loop μ-loop
+loop-again c =
+    (omega arith, omega arith, ap (λ (n : ℕ). n + c .wrong-at .result) (c .before .before .loop .inv .2) ∙ sym (c .wrong-at .ensures .0))
+
+returns : tie.Need-returns Inv-loop μ-loop
+returns c =
+    let end : c .before .loop .i ≡ c .before .before .before .before .args .count = omega arith in
+    rw end at (c .before .loop .inv .2)
+
+pub wrong-digits-spec : {M : Type 1} → statement M
+wrong-digits-spec =
+    tie.close
+    (tie.spec
+    Inv-loop
+    μ-loop
+    loop-holds
+    wrong-at-requires
+    add-wrong
+    add-i
+    loop-less
+    loop-again
+    returns)

@@ -1,0 +1,42 @@
+-- The late multiplexer's line place by place, and the count of wrong digits.
+use mathlib.Core.Bool.{Bool, cond, true, false}
+use mathlib.Core.List.{List}
+use Prim.Native.Nat.{ℕ, zero, suc, _+_, _%_}
+use lib.Dec.{eqb}
+use lib.ListN.{getD}
+use Rattle.levels.specs.declared.table.Row.{Row}
+use Rattle.levels.specs.declared.places.Kind.{Kind}
+use Rattle.levels.specs.declared.places.Kind.the-variants.{Word, Service, Control, Justification, Tributary}
+use Rattle.levels.specs.declared.places.ServiceDigit.{ServiceDigit}
+use Rattle.levels.specs.declared.places.ServiceDigit.the-variants.{RemoteAlarm, FirstNational, SecondNational, ThirdNational}
+use Rattle.levels.specs.Places.{kindAt}
+
+abbrev pub isControl : Kind → Bool
+isControl Word = false
+isControl (Service s) = false
+isControl Control = true
+isControl Justification = false
+isControl Tributary = false
+
+-- place p of a line whose control digits are those of one line and whose other digits are those of another
+unfoldable pub mixed : Row → List ℕ → List ℕ → ℕ → ℕ
+mixed row said line p = cond (isControl (kindAt row (p % row .digits))) (getD said p 0) (getD line p 0)
+
+-- in how many of their first n digits two lists differ
+unfoldable pub wrongTo : List ℕ → List ℕ → ℕ → ℕ
+wrongTo xs ys zero = 0
+wrongTo xs ys (suc n) = wrongTo xs ys n + cond (eqb (getD xs n 0) (getD ys n 0)) 0 1
+
+-- a number for each kind of a place
+abbrev pub serviceNumber : ServiceDigit → ℕ
+serviceNumber RemoteAlarm = 4
+serviceNumber FirstNational = 5
+serviceNumber SecondNational = 6
+serviceNumber ThirdNational = 7
+
+abbrev pub kindNumber : Kind → ℕ
+kindNumber Word = 0
+kindNumber Control = 1
+kindNumber Justification = 2
+kindNumber Tributary = 3
+kindNumber (Service s) = serviceNumber s

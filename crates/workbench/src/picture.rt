@@ -1,0 +1,69 @@
+// A frame as a picture: its places in runs of one kind, each kind by a number.
+use levels::places;
+use levels::places::FramePlace;
+use levels::places::Kind;
+use levels::places::ServiceDigit;
+use levels::table::Row;
+ghost use mathlib.Core.Path.{_≡_};
+ghost use mathlib.Core.Logic.{_≢_};
+ghost use Prim.Native.Nat.{ℕ, _<_, _≤_};
+ghost use Rattle.levels.specs.Table.{Shared};
+ghost use Rattle.levels.specs.Places.{kindAt};
+ghost use Rattle.workbench.specs.Bench.{serviceNumber, kindNumber};
+
+pub const WORD: u8 = 0;
+
+pub const CONTROL: u8 = 1;
+
+pub const JUSTIFICATION: u8 = 2;
+
+pub const TRIBUTARY: u8 = 3;
+
+pub const REMOTE_ALARM: u8 = 4;
+
+fn service_number(s: ServiceDigit) -> u8
+    ensures { λ r. ⌜ r ≡ serviceNumber s ⌝ }
+{
+    match s {
+        ServiceDigit::RemoteAlarm => 4,
+        ServiceDigit::FirstNational => 5,
+        ServiceDigit::SecondNational => 6,
+        ServiceDigit::ThirdNational => 7,
+    }
+}
+
+fn kind_number(kind: Kind) -> u8
+    ensures { λ r. ⌜ r ≡ kindNumber kind ⌝ }
+{
+    match kind {
+        Kind::Word => 0,
+        Kind::Control => 1,
+        Kind::Justification => 2,
+        Kind::Tributary => 3,
+        Kind::Service(s) => service_number(s),
+    }
+}
+
+// The kind of a place of a frame, by its number.
+pub fn kind_number_at(row: Row, p: usize) -> u8
+    requires { ⌜ Shared row × (p < row .digits) ⌝ }
+    ensures { λ r. ⌜ r ≡ kindNumber (kindAt row p) ⌝ }
+{
+    kind_number(places::kind_at(row, FramePlace(p)))
+}
+
+// Where the run of places of one kind ends that begins at place p: the first place after it of another kind, or the frame's end.
+pub fn run_end(row: Row, p: usize) -> usize
+    requires { ⌜ Shared row × (p < row .digits) ⌝ }
+    ensures { λ r. ⌜ (p < r) × (r ≤ row .digits) ⌝ }
+{
+    let kind = kind_number_at(row, p);
+    let mut q = p + 1;
+    while q < row.digits {
+        if kind_number_at(row, q) != kind {
+            return q;
+        }
+        q += 1;
+    }
+    q
+}
