@@ -3,9 +3,18 @@ use crate::say;
 
 pub fn forms() {
     say::text(
-        b"spritbobbin demo   shows, on built-in data, what a multiplexer that acts a frame late does to each tributary\n",
+        b"  ./spritbobbin demo                                 a multiplexer that acts a frame late, on built-in data\n",
     );
-    say::text(b"spritbobbin help   shows this\n");
+    say::text(
+        b"  ./spritbobbin frame LEVEL [NOTE]                   the frame of level 2, 3 or 4; NOTE as 3F: what it holds\n",
+    );
+    say::text(
+        b"  ./spritbobbin send LEVEL NOTES TRIBUTARIES LINE    makes the file LINE, up to 64 frames\n",
+    );
+    say::text(
+        b"  ./spritbobbin take LEVEL LINE NOTES TRIBUTARIES    takes the file LINE apart, up to 64 frames\n",
+    );
+    say::text(b"  ./spritbobbin help                                 these forms\n");
 }
 
 pub fn wrong_call(what: &[u8]) {

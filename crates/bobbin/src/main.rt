@@ -1,6 +1,7 @@
 // Spritbobbin on the command line: reads the arguments and hands on to a command. The last line of a refused or failed command begins with
 // `refused` or `failed`, which ./spritbobbin turns into an exit status.
 mod demo;
+mod files;
 mod frame;
 mod help;
 mod say;
@@ -30,6 +31,14 @@ fn command(word: &[u8], count: usize) {
     }
     if words::same(word, b"frame") {
         picture(count);
+        return;
+    }
+    if words::same(word, b"send") {
+        recording(count, true);
+        return;
+    }
+    if words::same(word, b"take") {
+        recording(count, false);
         return;
     }
     help::wrong_call(b"there is no such command, or it is missing.");
@@ -67,4 +76,20 @@ fn noted(level: u64, note: u16) {
         note: note as u8,
     };
     frame::run(level, one);
+}
+
+// send LEVEL NOTES TRIBUTARIES LINE, take LEVEL LINE NOTES TRIBUTARIES
+fn recording(count: usize, sending: bool) {
+    if count != 6 {
+        help::wrong_call(b"send and take take a level and three files.");
+        return;
+    }
+    let mut word = [0u8; 16];
+    let n = os::arg(2, &mut word);
+    let level = words::level(&word[..n]);
+    if sending {
+        files::send(level);
+        return;
+    }
+    files::take(level);
 }
