@@ -9,7 +9,7 @@ use levels::table;
 use levels::table::Level;
 use levels::table::Row;
 use workbench::picture;
-ghost use Prim.Native.Nat.{_+_, _<_, _≤_};
+ghost use Prim.Native.Nat.{_<_, _≤_};
 ghost use Rattle.levels.specs.Table.{Shared};
 
 // Whether there is a note, and the note.

@@ -1,5 +1,5 @@
 -- The digits passed are right.
-use Prim.Native.Nat.{ℕ, _≤_, _-_, _*_, _+_, _<_}
+use Prim.Native.Nat.{ℕ, _≤_, _-_, _<_}
 use Rattle.digits.specs.Digits.{digitsOf}
 use lib.ListN.{getD}
 use mathlib.Core.Path.{_≡_, sym, _∙_}

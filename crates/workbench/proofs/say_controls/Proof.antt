@@ -1,11 +1,10 @@
 -- After p turns the places before p are mixed, and those from p on are as they were (Bench).
-use Prim.Native.Nat.{ℕ, _≤_, _-_, _*_, _+_, _<_}
+use Prim.Native.Nat.{_≤_, _-_, _*_}
 use Rattle.workbench.proofs.Bench.{Mixing, mixing-start, mixing-more}
 use Rattle.digits.specs.Digits.{digitsOf}
 use lib.ListN.{length}
 use mathlib.Core.Path.{_≡_, refl}
 use native.Mathlib.Omega.{arith}
-use borrow.Author.Needs.{needs}
 use Rattle.workbench.proofs.say_controls.Statement.{statement}
 use Rattle.workbench.proofs.say_controls.Tie as tie
 

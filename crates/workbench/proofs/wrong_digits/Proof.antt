@@ -1,5 +1,5 @@
 -- The count of the digits passed.
-use Prim.Native.Nat.{ℕ, _≤_, _-_, _*_, _+_, _<_}
+use Prim.Native.Nat.{ℕ, _≤_, _-_, _+_}
 use Rattle.digits.specs.Digits.{digitsOf}
 use mathlib.Core.Path.{_≡_, refl, sym, _∙_, ap}
 use native.Mathlib.Omega.{arith}

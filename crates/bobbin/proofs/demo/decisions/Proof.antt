@@ -1,5 +1,5 @@
 -- Each tributary once.
-use Prim.Native.Nat.{ℕ, _≤_, _-_, _*_, _+_, _<_}
+use Prim.Native.Nat.{_≤_, _-_}
 use borrow.Author.Needs.{needs}
 use Rattle.bobbin.proofs.demo.decisions.Statement.{statement}
 use Rattle.bobbin.proofs.demo.decisions.Tie as tie

@@ -1,5 +1,5 @@
 -- The tributary stays inside the counts.
-use Prim.Native.Nat.{ℕ, _≤_, _-_, _*_, _+_, _<_}
+use Prim.Native.Nat.{_≤_, _-_}
 use borrow.Author.Needs.{needs}
 use Rattle.bobbin.proofs.demo.table.Statement.{statement}
 use Rattle.bobbin.proofs.demo.table.Tie as tie

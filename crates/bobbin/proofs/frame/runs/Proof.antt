@@ -1,5 +1,5 @@
 -- The place stays inside the frame.
-use Prim.Native.Nat.{ℕ, _≤_, _-_, _*_, _+_, _<_}
+use Prim.Native.Nat.{_≤_, _-_}
 use borrow.Author.Needs.{needs}
 use Rattle.bobbin.proofs.frame.runs.Statement.{statement}
 use Rattle.bobbin.proofs.frame.runs.Tie as tie

@@ -1,5 +1,5 @@
 -- The place stays inside the run.
-use Prim.Native.Nat.{ℕ, _≤_, _-_, _*_, _+_, _<_}
+use Prim.Native.Nat.{_≤_, _-_}
 use borrow.Author.Needs.{needs}
 use Rattle.bobbin.proofs.frame.stuffings.Statement.{statement}
 use Rattle.bobbin.proofs.frame.stuffings.Tie as tie

@@ -1,5 +1,5 @@
 -- Four places.
-use Prim.Native.Nat.{ℕ, _≤_, _-_, _*_, _+_, _<_}
+use Prim.Native.Nat.{_≤_, _-_}
 use borrow.Author.Needs.{needs}
 use Rattle.bobbin.proofs.frame.whose.Statement.{statement}
 use Rattle.bobbin.proofs.frame.whose.Tie as tie

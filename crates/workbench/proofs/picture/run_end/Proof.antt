@@ -1,5 +1,5 @@
 -- The place stays inside the frame.
-use Prim.Native.Nat.{ℕ, _≤_, _-_, _*_, _+_, _<_}
+use Prim.Native.Nat.{_≤_, _-_, _<_}
 use native.Mathlib.Omega.{arith}
 use borrow.Author.Needs.{needs}
 use Rattle.workbench.proofs.picture.run_end.Statement.{statement}
