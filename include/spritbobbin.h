@@ -42,7 +42,9 @@
  *
  * What one call is lent must not overlap: no two of its slices and arrays may share a byte.
  *
- * Beyond this a call may be given anything: every number and every content has an answer.
+ * Beyond this a call may be given anything: every number and every content has an answer. What
+ * is written may hold anything before; digits are put into it one by one, so a tool that tracks
+ * memory that was never set may ask that it be cleared first.
  *
  *
  * REFUSALS
@@ -97,7 +99,7 @@
  *
  *     int main(void)
  *     {
- *         uint8_t line[FRAME], stream[4 * FRAME], buffer[4 * QUARTER] = {0};
+ *         uint8_t line[FRAME] = {0}, stream[4 * FRAME], buffer[4 * QUARTER] = {0};
  *         uint8_t notes[1] = {SPRITBOBBIN_STUFFED_1 | SPRITBOBBIN_REMOTE_ALARM};
  *         uint64_t sent[5], received[7];
  *         int i;
