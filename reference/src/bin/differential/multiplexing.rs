@@ -38,7 +38,7 @@ fn every_set_of_faults(run: &mut Run) {
 }
 
 fn anything(run: &mut Run) {
-    for _ in 0..12_000 {
+    for _ in 0..8_000 {
         let level = 2 + run.random.below(3);
         let most = run.random.pick(&[2, 4, 8, 65]);
         let frames = run.random.index(most);

@@ -16,10 +16,10 @@ pub fn part(run: &mut Run) {
     for _ in 0..70_000 {
         any_digit(run);
     }
-    for _ in 0..90_000 {
+    for _ in 0..60_000 {
         any_piece(run);
     }
-    for _ in 0..150 {
+    for _ in 0..120 {
         stream_from_fresh(run);
     }
 }
