@@ -4,7 +4,8 @@
 if [ "$(uname -m)" = x86_64 ]; then
     cargo_x86() { cargo "$@"; }
 else
-    if ! command -v x86_64-linux-gnu-gcc qemu-x86_64 > /dev/null || [ ! -d /usr/lib/rustlib/x86_64-unknown-linux-gnu ]; then
+    # each asked for by itself: of several names `command -v` is content with one
+    if ! command -v x86_64-linux-gnu-gcc > /dev/null || ! command -v qemu-x86_64 > /dev/null || [ ! -d /usr/lib/rustlib/x86_64-unknown-linux-gnu ]; then
         echo "installing what builds and runs x86-64 programs here" >&2
         {
             dpkg --add-architecture amd64
