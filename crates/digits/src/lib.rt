@@ -23,10 +23,10 @@ pub fn put_digit(s: &mut [u8], p: usize, d: u8)
     s[i] = with_digit(s[i], 7 - p % 8, d);
 }
 
-// The byte b with d as the digit that is worth 2 to the k.
+// The byte b with d as the digit that is worth 2 to the k: the old digit is taken out, and d put in.
 fn with_digit(b: u8, k: usize, d: u8) -> u8
     requires { ⌜ (k < 8) × (d < 2) ⌝ }
     ensures { λ r. ⌜ r ≡ withDigit b k d ⌝ }
 {
-    (((b >> k) / 2 * 2 + d) << k) + b % (1 << k)
+    b - (((b >> k) % 2) << k) + (d << k)
 }
