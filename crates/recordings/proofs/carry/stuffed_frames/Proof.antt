@@ -1,0 +1,70 @@
+-- The count of the frames passed.
+use Prim.Native.Nat.{ℕ, _≤_, _-_, _+_}
+use mathlib.Core.Path.{_≡_, refl, ap, _∙_}
+use mathlib.Core.Bool.{Bool, cond}
+use native.Mathlib.Omega.{arith}
+use native.Mathlib.Numerals.{add-one}
+use lib.ListN.{length}
+use borrow.Author.Needs.{needs}
+use Rattle.levels.specs.Order.{decisions, stuffedTo}
+use Rattle.recordings.proofs.carry.stuffed_frames.Statement.{statement}
+use Rattle.recordings.proofs.carry.stuffed_frames.Tie as tie
+
+abbrev Inv-loop : tie.InvT-loop
+Inv-loop notes j stuffed₀ f₀ stuffed f = (f ≤ length notes) × (stuffed ≤ f) × (stuffed ≡ stuffedTo (decisions notes j) f)
+
+abbrev μ-loop : tie.MeasureT-loop
+μ-loop notes j stuffed₀ f₀ stuffed f = length notes - f
+
+one-more : (decided : ℕ → Bool) (f k : ℕ) → k ≡ cond (decided f) 1 0 → stuffedTo decided f + k ≡ stuffedTo decided (f + 1)
+unfolding stuffedTo
+one-more decided f k e = rw (add-one f, e)
+
+loop-holds : tie.Need-loop-holds Inv-loop μ-loop
+unfolding stuffedTo
+loop-holds c = (omega arith, omega arith, refl)
+
+shared-slice-read-is-stuffed : tie.Need-shared-slice-read-is-stuffed Inv-loop μ-loop
+shared-slice-read-is-stuffed c = search needs
+
+is-stuffed-requires : tie.Need-is-stuffed-requires Inv-loop μ-loop
+is-stuffed-requires c κs = search needs
+
+one-if-requires : tie.Need-one-if-requires Inv-loop μ-loop
+one-if-requires c κs = search needs
+
+add-stuffed : tie.Need-add-stuffed Inv-loop μ-loop
+add-stuffed c = search needs
+
+add-f : tie.Need-add-f Inv-loop μ-loop
+add-f c = search needs
+
+loop-less : tie.Need-loop-less Inv-loop μ-loop
+loop-less c = search needs
+
+loop-again : tie.Need-loop-again Inv-loop μ-loop
+loop-again c =
+    let l = c .before .before .before .before .loop in
+    let decided = c .one-if .ensures .0 ∙ ap (λ (b : Bool). cond b 1 0) (c .before .is-stuffed .ensures) in
+    (omega arith, omega (arith, c .one-if .ensures .1), ap (λ (n : ℕ). n + c .one-if .result) (l .inv .2) ∙ one-more _ (l .f) _ decided)
+
+returns : tie.Need-returns Inv-loop μ-loop
+returns c =
+    let end : c .before .loop .f ≡ length (c .before .before .before .args .notes .now) = omega arith in
+    (rw end at (c .before .loop .inv .2), omega arith)
+
+pub stuffed-frames-spec : {M : Type 1} → statement M
+stuffed-frames-spec =
+    tie.close
+    (tie.spec
+    Inv-loop
+    μ-loop
+    loop-holds
+    shared-slice-read-is-stuffed
+    is-stuffed-requires
+    one-if-requires
+    add-stuffed
+    add-f
+    loop-less
+    loop-again
+    returns)

@@ -1,0 +1,98 @@
+// Digits carried on from run to run without a gap, wherever in a byte a run ends. Everything here is one copy of digits from places to
+// places; specs/Carry.antt says which digit stands where after it.
+use levels::order;
+use workbench::digit_in;
+ghost use mathlib.Core.Path.{_≡_};
+ghost use mathlib.Core.Bool.{cond};
+ghost use Prim.Native.Nat.{ℕ, _+_, _*_, _/_, _%_, _^_, _<_, _≤_, min};
+ghost use lib.ListN.{length, getD};
+ghost use Rattle.digits.specs.Digits.{digitsOf, Bytes};
+ghost use Rattle.levels.specs.Order.{decisions, stuffedTo};
+ghost use Rattle.recordings.specs.Carry.{copied, joined};
+
+// The digits of a tributary that do not fill a byte yet: the first so many of the byte, and zeros after them.
+pub struct Kept {
+    pub byte: u8,
+    pub digits: usize,
+}
+
+// How many whole bytes there are now, and the digits kept for the next run.
+pub struct Joined {
+    pub whole: usize,
+    pub kept: Kept,
+}
+
+fn least(a: usize, b: usize) -> usize
+    ensures { λ r. ⌜ r ≡ min a b ⌝ }
+{
+    if a < b {
+        return a;
+    }
+    b
+}
+
+// Puts count digits of `from`, its digit first and on, in place of those of `to` at place `at` and on. Past the end of `from` there are
+// zeros; what is past the end of `to` is dropped.
+pub fn copy_digits(to: &mut [u8], at: usize, from: &[u8], first: usize, count: usize)
+    requires { ⌜ (length (now to) ≤ 65536) × (at ≤ 1048576) × (first ≤ 1048576) × (count ≤ 1048576) ⌝ }
+    ensures { λ _. ⌜ ((p : ℕ) → p < 8 * length (now (to .entry)) → getD (digitsOf (now (to .exit))) p 0 ≡ copied (digitsOf (now (to .entry))) at (digitsOf (now (from .entry))) first count p) ⌝ }
+{
+    let end = least(at + count, 8 * to.len());
+    let mut p = at;
+    while p < end {
+        digits::put_digit(to, p, digit_in(from, first + (p - at)));
+        p += 1;
+    }
+}
+
+// The byte at index i, and 0 past the end.
+fn byte_at(s: &[u8], i: usize) -> u8
+    ensures { λ r. ⌜ r ≡ getD (now (s .entry)) i 0 ⌝ }
+{
+    if s.len() <= i {
+        return 0;
+    }
+    s[i]
+}
+
+// The digits kept, then count digits of `from`, its digit first and on: they become the first digits of `out`, in which zeros are lent.
+pub fn join(out: &mut [u8], kept: Kept, from: &[u8], first: usize, count: usize) -> Joined
+    requires { ⌜ (length (now out) ≤ 65536) × (kept .digits ≤ 8) × (first ≤ 1048576) × (count ≤ 1048576) ⌝ }
+    ensures { λ r. ⌜ ((p : ℕ) → p < 8 * length (now (out .entry)) → getD (digitsOf (now (out .exit))) p 0 ≡ joined (digitsOf (now (out .entry))) kept (digitsOf (now (from .entry))) first count p) × (r .whole ≡ (kept .digits + count) / 8) × (r .kept .digits ≡ (kept .digits + count) % 8) × (r .kept .byte ≡ getD (now (out .exit)) (r .whole) 0) ⌝ }
+{
+    let byte = [kept.byte];
+    copy_digits(out, 0, &byte, 0, kept.digits);
+    copy_digits(out, kept.digits, from, first, count);
+    let all = kept.digits + count;
+    let whole = all / 8;
+    Joined {
+        whole,
+        kept: Kept {
+            byte: byte_at(out, whole),
+            digits: all % 8,
+        },
+    }
+}
+
+fn one_if(b: bool) -> usize
+    ensures { λ r. ⌜ (r ≡ cond b 1 0) × (r < 2) ⌝ }
+{
+    if b {
+        return 1;
+    }
+    0
+}
+
+// In how many of these frames tributary j (from 0) is stuffed.
+pub fn stuffed_frames(notes: &[u8], j: usize) -> usize
+    requires { ⌜ j < 4 ⌝ }
+    ensures { λ r. ⌜ (r ≡ stuffedTo (decisions (now (notes .entry)) j) (length (now (notes .entry)))) × (r ≤ length (now (notes .entry))) ⌝ }
+{
+    let mut stuffed: usize = 0;
+    let mut f: usize = 0;
+    while f < notes.len() {
+        stuffed += one_if(order::is_stuffed(notes[f], j));
+        f += 1;
+    }
+    stuffed
+}

@@ -1,0 +1,3 @@
+// Recordings of any length: what the program needs besides the calls to take a recording through them 64 frames at a time.
+pub mod carry;
+pub mod watch;
