@@ -1,6 +1,6 @@
 -- A copy digit by digit: after each turn the places passed hold the digits copied, and all others what they held.
 use mathlib.Core.Path.{_≡_, refl, sym, _∙_}
-use mathlib.Core.Bool.{true, false}
+use mathlib.Core.Bool.{cond}
 use mathlib.Core.List.{List, [], _∷_}
 use Prim.Native.Nat.{ℕ, _+_, _-_, _*_, _≤_, _<_}
 use native.Mathlib.Omega.{arith}
@@ -106,4 +106,18 @@ copies-join xs mid kept ys first count p e =
                 ∙ e
                 ∙ copied-after xs 0 (digitsOf (kept .byte ∷ [])) 0 (kept .digits) p (omega arith))
           ]
+    ]
+
+-- what is put behind m bytes fits, or nothing is put
+pub fits : (k l : ℕ) → k ≤ l → k ≡ cond (leb k l) k 0
+fits k l h = rw (le-leb k l h)
+
+pub no-room : (k l : ℕ) → l < k → 0 ≡ cond (leb k l) k 0
+no-room k l h = rw (lt-leb k l h)
+
+pub none-copied : (xs : List ℕ) (m : ℕ) (ys : List ℕ) (p : ℕ) → getD xs p 0 ≡ copied xs (8 * m) ys 0 (8 * (0 - m)) p
+none-copied xs m ys p =
+    elim (decLt p (8 * m)) [
+      | yes h ↦ sym (copied-before xs (8 * m) ys 0 (8 * (0 - m)) p h)
+      | no h ↦ sym (copied-after xs (8 * m) ys 0 (8 * (0 - m)) p (omega arith))
     ]
