@@ -1,15 +1,19 @@
 -- The late multiplexer's line place by place, and the count of wrong digits.
 use mathlib.Core.Bool.{Bool, cond, true, false}
 use mathlib.Core.List.{List}
-use Prim.Native.Nat.{ℕ, zero, suc, _+_, _%_}
+use Prim.Native.Nat.{ℕ, zero, suc, _+_, _*_, _%_}
 use lib.Dec.{eqb}
-use lib.ListN.{getD}
+use lib.ListN.{length, getD}
+use Rattle.digits.specs.Digits.{digitsOf, bytesOf, tab}
 use Rattle.levels.specs.declared.table.Row.{Row}
 use Rattle.levels.specs.declared.places.Kind.{Kind}
 use Rattle.levels.specs.declared.places.Kind.the-variants.{Word, Service, Control, Justification, Tributary}
 use Rattle.levels.specs.declared.places.ServiceDigit.{ServiceDigit}
 use Rattle.levels.specs.declared.places.ServiceDigit.the-variants.{RemoteAlarm, FirstNational, SecondNational, ThirdNational}
 use Rattle.levels.specs.Places.{kindAt}
+use Rattle.levels.specs.Table.{levelOf}
+use Rattle.levels.specs.Sizes.{onLevel}
+use Rattle.multiplex.specs.Multiplex.{refusalOn, lineOn}
 
 abbrev pub isControl : Kind → Bool
 isControl Word = false
@@ -21,6 +25,21 @@ isControl Tributary = false
 -- place p of a line whose control digits are those of one line and whose other digits are those of another
 unfoldable pub mixed : Row → List ℕ → List ℕ → ℕ → ℕ
 mixed row said line p = cond (isControl (kindAt row (p % row .digits))) (getD said p 0) (getD line p 0)
+
+-- the bytes of that line
+abbrev pub mixedLine : Row → List ℕ → List ℕ → List ℕ
+mixedLine row said line = bytesOf (length line) (tab (8 * length line) 0 (mixed row (digitsOf said) (digitsOf line)))
+
+-- the late multiplexer's line at the end: refused, as it was; else the line that the late notes make, with the control digits of the line
+-- that the notes make
+abbrev pub lateLine : ℕ → List ℕ → List ℕ → List ℕ → List ℕ → List ℕ → List ℕ
+lateLine level line said notes late buffer =
+    onLevel (levelOf level)
+    (λ (row : Row).
+    cond (eqb (refusalOn row (length line) late (length buffer)) 0)
+    (mixedLine row (lineOn row said notes buffer) (lineOn row line late buffer))
+    line)
+    line
 
 -- in how many of their first n digits two lists differ
 unfoldable pub wrongTo : List ℕ → List ℕ → ℕ → ℕ

@@ -14,8 +14,10 @@ ghost use mathlib.Core.Logic.{_≢_};
 ghost use Prim.Native.Nat.{ℕ, _+_, _*_, _^_, _<_, _≤_};
 ghost use lib.ListN.{length, getD};
 ghost use Rattle.digits.specs.Digits.{digitsOf};
-ghost use Rattle.levels.specs.Table.{Shared};
-ghost use Rattle.workbench.specs.Bench.{isControl, mixed, wrongTo};
+ghost use Rattle.levels.specs.Table.{Shared, levelOf};
+ghost use Rattle.levels.specs.Sizes.{onLevel};
+ghost use Rattle.multiplex.specs.Multiplex.{multiplexed, lineAfter};
+ghost use Rattle.workbench.specs.Bench.{isControl, mixed, mixedLine, lateLine, wrongTo};
 
 // Two runs of digits: how many are right before the first wrong one, which is its number from 0, and how many are wrong in all.
 pub struct Compared {
@@ -133,7 +135,7 @@ fn late_digit(row: Row, said: &[u8], line: &[u8], p: usize) -> u8
 // Every control digit of the line becomes that of `said`; every other digit stays.
 fn say_controls(row: Row, line: &mut [u8], said: &[u8])
     requires { ⌜ Shared row × (length (now line) ≤ 65536) ⌝ }
-    ensures { λ _. ⌜ ((p : ℕ) → p < 8 * length (now (line .entry)) → getD (digitsOf (now (line .exit))) p 0 ≡ mixed row (digitsOf (now (said .entry))) (digitsOf (now (line .entry))) p) ⌝ }
+    ensures { λ _. ⌜ now (line .exit) ≡ mixedLine row (now (said .entry)) (now (line .entry)) ⌝ }
 {
     let n = 8 * line.len();
     let mut p: usize = 0;
@@ -144,10 +146,11 @@ fn say_controls(row: Row, line: &mut [u8], said: &[u8])
     }
 }
 
-fn say_controls_at(level: u64, line: &mut [u8], said: &[u8]) {
-    if 65536 < line.len() {
-        return;
-    }
+// The same by the level's number; where there is no such level the line stays.
+fn say_controls_at(level: u64, line: &mut [u8], said: &[u8])
+    requires { ⌜ length (now line) ≤ 65536 ⌝ }
+    ensures { λ _. ⌜ now (line .exit) ≡ onLevel (levelOf level) (λ (row : Row). mixedLine row (now (said .entry)) (now (line .entry))) (now (line .entry)) ⌝ }
+{
     let found = table::level_of(level);
     match found {
         Level::Of(row) => say_controls(row, line, said),
@@ -156,7 +159,7 @@ fn say_controls_at(level: u64, line: &mut [u8], said: &[u8]) {
 }
 
 // The line of a multiplexer whose control digits say the notes and whose justification digits follow the late notes. `said` is left as the
-// line of a right multiplexer.
+// line of a right multiplexer. The answer is that of multiplexing by the late notes; refused, the line stays as it was.
 pub fn late_line(
     level: u64,
     line: &mut [u8],
@@ -164,9 +167,14 @@ pub fn late_line(
     notes: &[u8],
     late: &[u8],
     buffer: &[u8],
-) -> Multiplexed {
+) -> Multiplexed
+    ensures { λ r. ⌜ (r ≡ multiplexed level (length (now (line .entry))) (now (late .entry)) (length (now (buffer .entry)))) × (now (said .exit) ≡ lineAfter level (now (said .entry)) (now (notes .entry)) (now (buffer .entry))) × (now (line .exit) ≡ lateLine level (now (line .entry)) (now (said .entry)) (now (notes .entry)) (now (late .entry)) (now (buffer .entry))) ⌝ }
+{
     multiplex::multiplex(level, said, notes, buffer);
     let r = multiplex::multiplex(level, line, late, buffer);
+    if r.refusal != 0 {
+        return r;
+    }
     say_controls_at(level, line, said);
     r
 }
