@@ -1,8 +1,8 @@
 -- The late multiplexer's line place by place, and the count of wrong digits.
 use mathlib.Core.Bool.{Bool, cond, true, false}
-use mathlib.Core.List.{List}
-use Prim.Native.Nat.{ℕ, zero, suc, _+_, _*_, _%_}
-use lib.Dec.{eqb}
+use mathlib.Core.List.{List, _∷_}
+use Prim.Native.Nat.{ℕ, zero, suc, _+_, _*_, _/_, _%_}
+use lib.Dec.{eqb, ltb}
 use lib.ListN.{length, getD}
 use Rattle.digits.specs.Digits.{digitsOf, bytesOf, tab}
 use Rattle.levels.specs.declared.table.Row.{Row}
@@ -40,6 +40,15 @@ lateLine level line said notes late buffer =
     (mixedLine row (lineOn row said notes buffer) (lineOn row line late buffer))
     line)
     line
+
+-- a note with the decisions of one note, bits 0 to 3, and the service digits of another
+abbrev pub decidedBy : ℕ → ℕ → ℕ
+decidedBy last note = last % 16 + note / 16 * 16
+
+-- the late note of frame f: the decisions are those of the frame before (of the note `before` in frame 0), the service digits its own.
+-- Past the notes it is what stood there
+unfoldable pub delayed : ℕ → List ℕ → List ℕ → ℕ → ℕ
+delayed before notes late f = cond (ltb f (length notes)) (decidedBy (getD (before ∷ notes) f 0) (getD notes f 0)) (getD late f 0)
 
 -- in how many of their first n digits two lists differ
 unfoldable pub wrongTo : List ℕ → List ℕ → ℕ → ℕ

@@ -13,11 +13,11 @@ ghost use mathlib.Core.Path.{_≡_};
 ghost use mathlib.Core.Logic.{_≢_};
 ghost use Prim.Native.Nat.{ℕ, _+_, _*_, _^_, _<_, _≤_};
 ghost use lib.ListN.{length, getD};
-ghost use Rattle.digits.specs.Digits.{digitsOf};
+ghost use Rattle.digits.specs.Digits.{digitsOf, tab};
 ghost use Rattle.levels.specs.Table.{Shared, levelOf};
 ghost use Rattle.levels.specs.Sizes.{onLevel};
 ghost use Rattle.multiplex.specs.Multiplex.{multiplexed, lineAfter};
-ghost use Rattle.workbench.specs.Bench.{isControl, mixed, mixedLine, lateLine, wrongTo};
+ghost use Rattle.workbench.specs.Bench.{isControl, mixed, mixedLine, lateLine, decidedBy, delayed, wrongTo};
 
 // Two runs of digits: how many are right before the first wrong one, which is its number from 0, and how many are wrong in all.
 pub struct Compared {
@@ -180,12 +180,16 @@ pub fn late_line(
 }
 
 // The decisions of one note and the service digits of another.
-fn decided_by(last: u8, note: u8) -> u8 {
+fn decided_by(last: u8, note: u8) -> u8
+    ensures { λ r. ⌜ r ≡ decidedBy last note ⌝ }
+{
     last % 16 + note / 16 * 16
 }
 
 // The notes that a multiplexer acts by if it is a frame late: each frame's decisions are those of the frame before.
-pub fn delay(late: &mut [u8], notes: &[u8], before: u8) {
+pub fn delay(late: &mut [u8], notes: &[u8], before: u8)
+    ensures { λ _. ⌜ now (late .exit) ≡ tab (length (now (late .entry))) 0 (delayed before (now (notes .entry)) (now (late .entry))) ⌝ }
+{
     let mut last = before;
     let mut f: usize = 0;
     while f < late.len() {

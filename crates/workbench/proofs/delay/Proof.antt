@@ -1,25 +1,27 @@
--- The frame stays inside both lists of notes.
+-- After f turns the first f notes are delayed, and the rest are as they were (Delaying).
 use Prim.Native.Nat.{_≤_, _-_}
-use mathlib.Core.Path.{_≡_}
+use mathlib.Core.Logic.{inl, inr}
 use lib.ListN.{length}
+use native.Mathlib.Omega.{arith}
+use Rattle.workbench.proofs.Delaying.{Delaying, delaying-start, delaying-more, delaying-end}
 use borrow.Author.Needs.{needs}
 use Rattle.workbench.proofs.delay.Statement.{statement}
 use Rattle.workbench.proofs.delay.Tie as tie
 
 abbrev Inv-loop : tie.InvT-loop
-Inv-loop late₀ notes before last₀ f₀ late last f = (f ≤ length late₀) × (length late ≡ length late₀)
+Inv-loop late₀ notes before last₀ f₀ late last f = (f ≤ length late₀) × Delaying before notes late₀ f last late
 
 abbrev μ-loop : tie.MeasureT-loop
 μ-loop late₀ notes before last₀ f₀ late last f = length late₀ - f
 
 loop-holds : tie.Need-loop-holds Inv-loop μ-loop
-loop-holds c = search needs
+loop-holds c = (omega arith, delaying-start _ _ _)
 
 same-length : tie.Need-same-length Inv-loop μ-loop
 same-length c = search needs
 
 returns : tie.Need-returns Inv-loop μ-loop
-returns c = search needs
+returns c = delaying-end _ _ _ _ _ _ (c .before .before .loop .inv .1) (inr (c .if1 .taken))
 
 shared-slice-read-decided-by : tie.Need-shared-slice-read-decided-by Inv-loop μ-loop
 shared-slice-read-decided-by c = search needs
@@ -40,13 +42,15 @@ loop-less : tie.Need-loop-less Inv-loop μ-loop
 loop-less c = search needs
 
 loop-again : tie.Need-loop-again Inv-loop μ-loop
-loop-again c = search needs
+loop-again c =
+    let l = c .before .before .before .before .before .loop in
+    (omega arith, delaying-more _ _ _ (l .f) (l .last) _ (l .late) (l .inv .1) (omega arith) (omega arith) (c .before .decided-by .ensures))
 
 same-length-2 : tie.Need-same-length-2 Inv-loop μ-loop
 same-length-2 c = search needs
 
 returns-2 : tie.Need-returns-2 Inv-loop μ-loop
-returns-2 c = search needs
+returns-2 c = delaying-end _ _ _ _ _ _ (c .before .loop .inv .1) (inl (omega arith))
 
 pub delay-spec : {M : Type 1} → statement M
 delay-spec =
