@@ -1,7 +1,9 @@
 -- The late multiplexer's line place by place, and the count of wrong digits.
+use mathlib.Core.Path.{_≡_}
+use mathlib.Core.Logic.{_≢_}
 use mathlib.Core.Bool.{Bool, cond, true, false}
 use mathlib.Core.List.{List, _∷_}
-use Prim.Native.Nat.{ℕ, zero, suc, _+_, _*_, _/_, _%_}
+use Prim.Native.Nat.{ℕ, zero, suc, _+_, _*_, _/_, _%_, _≤_, _<_}
 use lib.Dec.{eqb, ltb}
 use lib.ListN.{length, getD}
 use Rattle.digits.specs.Digits.{digitsOf, bytesOf, tab}
@@ -68,3 +70,10 @@ kindNumber Control = 1
 kindNumber Justification = 2
 kindNumber Tributary = 3
 kindNumber (Service s) = serviceNumber s
+
+-- the places of a frame from p up to end are one run: all of one kind, and the next place, if the frame has one, of another
+pub record KindRun (row : Row) (p end : ℕ) : Type 0 where
+  pub some : p < end
+  pub inside : end ≤ row .digits
+  pub same : (q : ℕ) → p ≤ q → q < end → kindAt row q ≡ kindAt row p
+  pub other : end < row .digits → kindAt row end ≢ kindAt row p

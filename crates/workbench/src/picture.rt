@@ -5,10 +5,10 @@ use levels::places::Kind;
 use levels::places::ServiceDigit;
 use levels::table::Row;
 ghost use mathlib.Core.Path.{_≡_};
-ghost use Prim.Native.Nat.{_<_, _≤_};
+ghost use Prim.Native.Nat.{_<_};
 ghost use Rattle.levels.specs.Table.{Shared};
 ghost use Rattle.levels.specs.Places.{kindAt};
-ghost use Rattle.workbench.specs.Bench.{serviceNumber, kindNumber};
+ghost use Rattle.workbench.specs.Bench.{serviceNumber, kindNumber, KindRun};
 
 pub const WORD: u8 = 0;
 
@@ -54,7 +54,7 @@ pub fn kind_number_at(row: Row, p: usize) -> u8
 // Where the run of places of one kind ends that begins at place p: the first place after it of another kind, or the frame's end.
 pub fn run_end(row: Row, p: usize) -> usize
     requires { ⌜ Shared row × (p < row .digits) ⌝ }
-    ensures { λ r. ⌜ (p < r) × (r ≤ row .digits) ⌝ }
+    ensures { λ r. ⌜ KindRun row p r ⌝ }
 {
     let kind = kind_number_at(row, p);
     let mut q = p + 1;

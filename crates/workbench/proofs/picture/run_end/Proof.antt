@@ -1,12 +1,14 @@
--- The place stays inside the frame.
+-- The places passed are of the first one's kind (KindRuns), and the place stays inside the frame.
 use Prim.Native.Nat.{_≤_, _-_, _<_}
 use native.Mathlib.Omega.{arith}
+use mathlib.Core.Path.{sym, _∙_}
 use borrow.Author.Needs.{needs}
+use Rattle.workbench.proofs.KindRuns.{Alike, alike-start, alike-more, unlike}
 use Rattle.workbench.proofs.picture.run_end.Statement.{statement}
 use Rattle.workbench.proofs.picture.run_end.Tie as tie
 
 abbrev Inv-loop : tie.InvT-loop
-Inv-loop row p kind q₀ q = (p < q) × (q ≤ row .digits)
+Inv-loop row p kind q₀ q = (p < q) × (q ≤ row .digits) × Alike row p q
 
 abbrev μ-loop : tie.MeasureT-loop
 μ-loop row p kind q₀ q = row .digits - q
@@ -18,13 +20,20 @@ add-q : tie.Need-add-q Inv-loop μ-loop
 add-q c = omega arith
 
 loop-holds : tie.Need-loop-holds Inv-loop μ-loop
-loop-holds c = search needs
+loop-holds c = (omega arith, omega arith, alike-start _ _)
 
 kind-number-at-requires-2 : tie.Need-kind-number-at-requires-2 Inv-loop μ-loop
 kind-number-at-requires-2 c κs = search needs
 
 returns : tie.Need-returns Inv-loop μ-loop
-returns c = search needs
+returns c =
+    let l = c .before .before .before .before .loop in
+    record {
+      some = l .inv .0;
+      inside = l .inv .1;
+      same = l .inv .2;
+      other = λ h. unlike _ _ (l .q) (λ e. c .if2 .taken (c .before .kind-number-at2 .ensures ∙ e ∙ sym (c .before .before .before .before .before .kind-number-at .ensures)));
+    }
 
 add-q-2 : tie.Need-add-q-2 Inv-loop μ-loop
 add-q-2 c = search needs
@@ -33,10 +42,17 @@ loop-less : tie.Need-loop-less Inv-loop μ-loop
 loop-less c = search needs
 
 loop-again : tie.Need-loop-again Inv-loop μ-loop
-loop-again c = search needs
+loop-again c =
+    let l = c .before .before .before .before .loop in
+    (omega arith, omega arith, alike-more _ _ (l .q) (l .inv .2) (sym (c .before .kind-number-at2 .ensures) ∙ c .if2 .left ∙ c .before .before .before .before .before .kind-number-at .ensures))
 
 returns-2 : tie.Need-returns-2 Inv-loop μ-loop
-returns-2 c = search needs
+returns-2 c =
+    let l = c .before .before .loop in
+    record { some = l .inv .0; inside = l .inv .1; same = l .inv .2; other = λ h. absurd (past h) }
+  where
+    past : c .before .before .loop .q < c .before .before .before .before .args .row .digits → ⊥
+    past h = omega arith
 
 pub run-end-spec : {M : Type 1} → statement M
 run-end-spec =
