@@ -5,7 +5,7 @@ use mathlib.Core.Bool.{Bool, cond, true, false}
 use mathlib.Core.List.{List, _∷_}
 use Prim.Native.Nat.{ℕ, zero, suc, _+_, _*_, _/_, _%_, _≤_, _<_}
 use lib.Dec.{eqb, ltb}
-use lib.ListN.{length, getD}
+use lib.ListN.{length, getD, take, drop}
 use Rattle.digits.specs.Digits.{digitsOf, bytesOf, tab}
 use Rattle.levels.specs.declared.table.Row.{Row}
 use Rattle.levels.specs.declared.places.Kind.{Kind}
@@ -16,6 +16,7 @@ use Rattle.levels.specs.Places.{kindAt}
 use Rattle.levels.specs.Table.{levelOf}
 use Rattle.levels.specs.Sizes.{onLevel}
 use Rattle.multiplex.specs.Multiplex.{refusalOn, lineOn}
+use Rattle.workbench.specs.declared.Compared.{Compared}
 
 abbrev pub isControl : Kind → Bool
 isControl Word = false
@@ -56,6 +57,27 @@ delayed before notes late f = cond (ltb f (length notes)) (decidedBy (getD (befo
 unfoldable pub wrongTo : List ℕ → List ℕ → ℕ → ℕ
 wrongTo xs ys zero = 0
 wrongTo xs ys (suc n) = wrongTo xs ys n + cond (eqb (getD xs n 0) (getD ys n 0)) 0 1
+
+-- two lists of digits compared over their first so many: the digits before the first wrong one are right, and it is wrong; all wrong ones
+-- are counted
+pub record Comparison (xs ys : List ℕ) (count : ℕ) (r : Compared) : Type 0 where
+  pub within : r .right ≤ count
+  pub alike : (i : ℕ) → i < r .right → getD xs i 0 ≡ getD ys i 0
+  pub first-wrong : r .right < count → getD xs (r .right) 0 ≢ getD ys (r .right) 0
+  pub counted : r .wrong ≡ wrongTo xs ys count
+
+-- the quarter that a number names: every number past 3 names the last
+abbrev pub quarterNamed : ℕ → ℕ
+quarterNamed j = cond (ltb j 3) j 3
+
+-- that quarter of a buffer, if quarters have q bytes
+abbrev pub quarterIn : ℕ → ℕ → List ℕ → List ℕ
+quarterIn q j buffer = take q (drop (quarterNamed j * q) buffer)
+
+-- quarter j of two buffers compared, if quarters have q bytes; where the second ends before the quarter does, all is wrong
+pub record QuartersCompared (q j : ℕ) (a b : List ℕ) (count : ℕ) (r : Compared) : Type 0 where
+  pub there : quarterNamed j * q + q ≤ length b → Comparison (digitsOf (quarterIn q j a)) (digitsOf (quarterIn q j b)) count r
+  pub missing : length b < quarterNamed j * q + q → r ≡ record { right = 0; wrong = count }
 
 -- a number for each kind of a place
 abbrev pub serviceNumber : ServiceDigit → ℕ

@@ -11,13 +11,13 @@ use levels::table::Row;
 use multiplex::Multiplexed;
 ghost use mathlib.Core.Path.{_≡_};
 ghost use mathlib.Core.Logic.{_≢_};
-ghost use Prim.Native.Nat.{ℕ, _+_, _*_, _^_, _<_, _≤_};
+ghost use Prim.Native.Nat.{ℕ, _+_, _*_, _/_, _^_, _<_, _≤_};
 ghost use lib.ListN.{length, getD};
 ghost use Rattle.digits.specs.Digits.{digitsOf, tab};
 ghost use Rattle.levels.specs.Table.{Shared, levelOf};
 ghost use Rattle.levels.specs.Sizes.{onLevel};
 ghost use Rattle.multiplex.specs.Multiplex.{multiplexed, lineAfter};
-ghost use Rattle.workbench.specs.Bench.{isControl, mixed, mixedLine, lateLine, decidedBy, delayed, wrongTo};
+ghost use Rattle.workbench.specs.Bench.{isControl, mixed, mixedLine, lateLine, decidedBy, delayed, wrongTo, Comparison, quarterNamed, QuartersCompared};
 
 // Two runs of digits: how many are right before the first wrong one, which is its number from 0, and how many are wrong in all.
 pub struct Compared {
@@ -74,7 +74,7 @@ fn wrong_digits(a: &[u8], b: &[u8], count: usize) -> usize
 
 // Compares the first so many digits of two slices.
 pub fn compare(a: &[u8], b: &[u8], count: usize) -> Compared
-    ensures { λ r. ⌜ (r .right ≤ count) × ((i : ℕ) → i < r .right → getD (digitsOf (now (a .entry))) i 0 ≡ getD (digitsOf (now (b .entry))) i 0) × (r .right < count → getD (digitsOf (now (a .entry))) (r .right) 0 ≢ getD (digitsOf (now (b .entry))) (r .right) 0) × (r .wrong ≡ wrongTo (digitsOf (now (a .entry))) (digitsOf (now (b .entry))) count) ⌝ }
+    ensures { λ r. ⌜ Comparison (digitsOf (now (a .entry))) (digitsOf (now (b .entry))) count r ⌝ }
 {
     Compared {
         right: right_digits(a, b, count),
@@ -82,9 +82,10 @@ pub fn compare(a: &[u8], b: &[u8], count: usize) -> Compared
     }
 }
 
+// Where quarter j begins; every number past 3 names the last quarter.
 fn quarter_start(q: usize, j: usize) -> usize
     requires { ⌜ 4 * q < 2 ^ 64 ⌝ }
-    ensures { λ r. ⌜ r ≤ 3 * q ⌝ }
+    ensures { λ r. ⌜ (r ≡ quarterNamed j * q) × (r ≤ 3 * q) ⌝ }
 {
     match j {
         0 => 0,
@@ -94,8 +95,10 @@ fn quarter_start(q: usize, j: usize) -> usize
     }
 }
 
-// Compares the first so many digits of quarter j (from 0) of two buffers of one length.
-pub fn compare_quarter(a: &[u8], b: &[u8], j: usize, count: usize) -> Compared {
+// Compares the first so many digits of quarter j (from 0) of two buffers of one length. A second buffer that is too short is all wrong.
+pub fn compare_quarter(a: &[u8], b: &[u8], j: usize, count: usize) -> Compared
+    ensures { λ r. ⌜ QuartersCompared (length (now (a .entry)) / 4) j (now (a .entry)) (now (b .entry)) count r ⌝ }
+{
     let q = a.len() / 4;
     let start = quarter_start(q, j);
     let end = start + q;
