@@ -2,3 +2,4 @@ pub mod Bench
 pub mod Late
 pub mod Delaying
 pub mod KindRuns
+pub mod Scattering

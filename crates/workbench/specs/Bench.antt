@@ -2,7 +2,7 @@
 use mathlib.Core.Path.{_≡_}
 use mathlib.Core.Logic.{_≢_}
 use mathlib.Core.Bool.{Bool, cond, true, false}
-use mathlib.Core.List.{List, _∷_}
+use mathlib.Core.List.{List, [], _∷_}
 use Prim.Native.Nat.{ℕ, zero, suc, _+_, _*_, _/_, _%_, _≤_, _<_}
 use lib.Dec.{eqb, ltb}
 use lib.ListN.{length, getD, take, drop}
@@ -52,6 +52,18 @@ decidedBy last note = last % 16 + note / 16 * 16
 -- Past the notes it is what stood there
 unfoldable pub delayed : ℕ → List ℕ → List ℕ → ℕ → ℕ
 delayed before notes late f = cond (ltb f (length notes)) (decidedBy (getD (before ∷ notes) f 0) (getD notes f 0)) (getD late f 0)
+
+-- the number after x of the generator, and the eight digits that are taken from a number
+abbrev pub nextNumber : ℕ → ℕ
+nextNumber x = x % 65537 * 75 + 74
+
+abbrev pub eightDigits : ℕ → ℕ
+eightDigits x = x / 16 % 256
+
+-- the scattered digits of n bytes, from the numbers after x
+unfoldable pub scattered : ℕ → ℕ → List ℕ
+scattered x zero = []
+scattered x (suc n) = eightDigits (nextNumber x) ∷ scattered (nextNumber x) n
 
 -- in how many of their first n digits two lists differ
 unfoldable pub wrongTo : List ℕ → List ℕ → ℕ → ℕ

@@ -17,7 +17,7 @@ ghost use Rattle.digits.specs.Digits.{digitsOf, tab};
 ghost use Rattle.levels.specs.Table.{Shared, levelOf};
 ghost use Rattle.levels.specs.Sizes.{onLevel};
 ghost use Rattle.multiplex.specs.Multiplex.{multiplexed, lineAfter};
-ghost use Rattle.workbench.specs.Bench.{isControl, mixed, mixedLine, lateLine, decidedBy, delayed, wrongTo, Comparison, quarterNamed, QuartersCompared};
+ghost use Rattle.workbench.specs.Bench.{isControl, mixed, mixedLine, lateLine, decidedBy, delayed, nextNumber, eightDigits, scattered, wrongTo, Comparison, quarterNamed, QuartersCompared};
 
 // Two runs of digits: how many are right before the first wrong one, which is its number from 0, and how many are wrong in all.
 pub struct Compared {
@@ -206,16 +206,22 @@ pub fn delay(late: &mut [u8], notes: &[u8], before: u8)
 }
 
 // The next number of the generator, and the digits that are taken from it.
-fn next_number(x: u32) -> u32 {
+fn next_number(x: u32) -> u32
+    ensures { λ r. ⌜ r ≡ nextNumber x ⌝ }
+{
     x % 65537 * 75 + 74
 }
 
-fn eight_digits(x: u32) -> u8 {
+fn eight_digits(x: u32) -> u8
+    ensures { λ r. ⌜ r ≡ eightDigits x ⌝ }
+{
     (x / 16 % 256) as u8
 }
 
 // Digits without a pattern that an eye finds, the same at every run.
-pub fn scatter(s: &mut [u8], seed: u32) {
+pub fn scatter(s: &mut [u8], seed: u32)
+    ensures { λ _. ⌜ now (s .exit) ≡ scattered seed (length (now (s .entry))) ⌝ }
+{
     let mut x = seed;
     let mut i: usize = 0;
     while i < s.len() {
