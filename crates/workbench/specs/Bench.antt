@@ -1,4 +1,5 @@
--- The late multiplexer's line place by place, and the count of wrong digits.
+-- What the bench makes and what it finds: the late multiplexer's line and notes, the digits that are sent, the comparison with what came back,
+-- and the runs of places of a frame's picture.
 use mathlib.Core.Path.{_≡_}
 use mathlib.Core.Logic.{_≢_}
 use mathlib.Core.Bool.{Bool, cond, true, false}
