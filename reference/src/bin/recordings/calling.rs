@@ -1,0 +1,48 @@
+//! Help, and calls that are wrong: the right forms are listed, and nothing is done.
+
+use crate::case::{words, Case};
+
+const COMMANDS: [&str; 6] = ["demo", "frame", "send", "take", "find", "help"];
+
+/// Wrong calls. The files that they name are there.
+const WRONG: [&str; 21] = [
+    "",
+    "bogus",
+    "sen 2 notes tributaries out",
+    "a-command-that-is-a-word-of-many-letters",
+    "demo 2",
+    "frame",
+    "frame 2 3F picture.svg out",
+    "frame 2 00 3F",
+    "frame 2 3",
+    "frame 2 3FF",
+    "frame 2 GG",
+    "frame 2 picture.txt",
+    "frame 2 3F picture.txt",
+    "send",
+    "send 2 notes tributaries",
+    "send 2 notes tributaries out more",
+    "take 2 line out",
+    "take 2 line out more yet-more",
+    "find",
+    "find 2",
+    "find 2 line out more",
+];
+
+pub fn cases() -> Vec<Case> {
+    let form = |command: &&str| format!("spritbobbin {command}( |$)");
+    let forms: Vec<String> = COMMANDS.iter().map(form).collect();
+    // Of the last line no more is asked than that it is no refusal and no failure.
+    let mut cases = vec![Case::new("help").like(words("help"), 0, &forms, "^[^rf]")];
+    cases.extend(WRONG.iter().map(|command| wrong(command)));
+    cases
+}
+
+fn wrong(command: &str) -> Case {
+    let name = format!("wrong-call {command}").trim_end().replace(' ', "-");
+    Case::new(&name)
+        .file("notes", &[0])
+        .file("tributaries", &[0; 104])
+        .file("line", &[0; 106])
+        .like(words(command), 1, &["^The right forms are:$".into()], "^failed: ")
+}

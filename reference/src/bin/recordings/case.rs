@@ -1,0 +1,156 @@
+//! One case: commands, the folder before and after, and what is printed.
+
+use std::collections::BTreeMap;
+use std::path::Path;
+use std::{fs, io};
+
+/// What an output file holds that was there before.
+pub const OLD: &[u8] = b"An older file stands here, and it is longer than nothing.\n";
+
+#[derive(Clone)]
+enum Entry {
+    File(Vec<u8>),
+    Folder,
+}
+
+/// Paths in a folder, and what stands there.
+type Folder = BTreeMap<String, Entry>;
+
+#[derive(Clone, Default)]
+pub struct Case {
+    pub name: String,
+    commands: Vec<Vec<String>>,
+    status: Vec<u8>,
+    given: Folder,
+    after: Folder,
+    stdout: String,
+    /// Patterns where the words are left to the program; then `stdout` says nothing.
+    has: Vec<String>,
+    last: Option<String>,
+    svg: Option<String>,
+}
+
+/// The words of a command in which no word has a blank.
+pub fn words(command: &str) -> Vec<String> {
+    command.split_whitespace().map(String::from).collect()
+}
+
+impl Case {
+    pub fn new(name: &str) -> Case {
+        Case { name: name.into(), ..Case::default() }
+    }
+
+    /// A file that is there before and must be the same afterwards.
+    pub fn file(mut self, path: &str, bytes: &[u8]) -> Case {
+        self.after.insert(path.into(), Entry::File(bytes.into()));
+        self.had(path, bytes)
+    }
+
+    /// A folder that is there before and afterwards.
+    pub fn folder(mut self, path: &str) -> Case {
+        self.given.insert(path.into(), Entry::Folder);
+        self.after.insert(path.into(), Entry::Folder);
+        self
+    }
+
+    /// A file that is there before; the commands write it anew.
+    pub fn had(mut self, path: &str, bytes: &[u8]) -> Case {
+        self.given.insert(path.into(), Entry::File(bytes.into()));
+        self
+    }
+
+    /// A file that the commands make.
+    pub fn makes(mut self, path: &str, bytes: &[u8]) -> Case {
+        self.after.insert(path.into(), Entry::File(bytes.into()));
+        self
+    }
+
+    /// A picture that the command makes. That it is one is all that is asked of its bytes.
+    pub fn draws(mut self, path: &str) -> Case {
+        self.svg = Some(path.into());
+        self.makes(path, b"")
+    }
+
+    /// A command that is accepted, and all that it prints.
+    pub fn accepted(mut self, words: Vec<String>, stdout: &str) -> Case {
+        self.stdout += stdout;
+        self.command(words, 0)
+    }
+
+    /// A command that is refused or fails, and the one line that it prints.
+    pub fn fails(mut self, words: Vec<String>, line: &str) -> Case {
+        self.stdout += &format!("{line}\n");
+        self.command(words, 1)
+    }
+
+    /// A command of which only patterns of some lines are known, and of the last line.
+    pub fn like(mut self, words: Vec<String>, status: u8, has: &[String], last: &str) -> Case {
+        self.has = has.into();
+        self.last = Some(last.into());
+        self.command(words, status)
+    }
+
+    fn command(mut self, words: Vec<String>, status: u8) -> Case {
+        self.commands.push(words);
+        self.status.push(status);
+        self
+    }
+
+    /// Writes the folder of the case. There must be none of that name yet.
+    pub fn write(&self, folder: &Path) -> io::Result<()> {
+        fs::create_dir(folder)?;
+        let commands: Vec<String> = self.commands.iter().map(|words| words.join("\n")).collect();
+        fs::write(folder.join("command"), lines(&[commands.join("\n\n")]))?;
+        fs::write(folder.join("expected.status"), lines(&self.status))?;
+        match &self.last {
+            None => fs::write(folder.join("expected.stdout"), &self.stdout)?,
+            Some(last) => {
+                fs::write(folder.join("expected.has"), lines(&self.has))?;
+                fs::write(folder.join("expected.last"), lines(&[last]))?;
+            }
+        }
+        if let Some(path) = &self.svg {
+            fs::write(folder.join("expected.svg"), lines(&[path]))?;
+        }
+        write_all(&folder.join("given"), &self.given)?;
+        write_all(&folder.join("after"), &self.after)
+    }
+
+    /// Older files where the outputs go, which must stay as they are.
+    pub fn older(mut self, outputs: &[&str]) -> Case {
+        self.name += "-older-outputs";
+        outputs.iter().fold(self, |case, path| case.file(path, OLD))
+    }
+
+    /// The case without and with older files where the outputs go.
+    pub fn twice(self, outputs: &[&str]) -> Vec<Case> {
+        vec![self.clone(), self.older(outputs)]
+    }
+}
+
+/// The cases of a list, every second one with older files where the outputs go.
+pub fn in_turn(cases: Vec<Case>, outputs: &[&str]) -> Vec<Case> {
+    let older = |(k, case): (usize, Case)| if k % 2 == 1 { case.older(outputs) } else { case };
+    cases.into_iter().enumerate().map(older).collect()
+}
+
+/// The items, a line each; nothing where the only line is empty.
+fn lines(items: &[impl ToString]) -> String {
+    let text: String = items.iter().map(|item| item.to_string() + "\n").collect();
+    if text == "\n" {
+        return String::new();
+    }
+    text
+}
+
+fn write_all(folder: &Path, entries: &Folder) -> io::Result<()> {
+    fs::create_dir(folder)?;
+    for (path, entry) in entries {
+        let path = folder.join(path);
+        match entry {
+            Entry::Folder => fs::create_dir_all(path)?,
+            Entry::File(bytes) => fs::write(path, bytes)?,
+        }
+    }
+    Ok(())
+}

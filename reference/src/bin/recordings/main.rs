@@ -1,0 +1,58 @@
+//! `recordings DIR` writes into DIR the cases on which the commands of the program are
+//! tried. What the program must print and write is worked out by this package alone.
+//!
+//! A case is a folder, and the file `list` in DIR names every one of them, a line each:
+//!
+//! - `command`: the words of the command, a line each; an empty line stands between two
+//!   commands that are run one after the other;
+//! - `given`: the folder in which the commands are run, as it is before;
+//! - `after`: the same folder as it must be afterwards, with nothing more in it;
+//! - `expected.status`: the exit status of each command, a line each;
+//! - `expected.stdout`: all that the commands must print, one after the other. Where the
+//!   words are left to the program, there are instead `expected.has`, patterns each of
+//!   which some line must match, and `expected.last`, the pattern of the last line;
+//! - `expected.svg`, where a picture is made: its name. Its bytes are left to the program.
+//!
+//! `case` writes such a folder. `inputs` and `stream` make what is read, `worked` says
+//! what comes of it and `texts` in which words. The others list the cases.
+
+mod calling;
+mod case;
+mod finding;
+mod inputs;
+mod pictures;
+mod random;
+mod sending;
+mod stream;
+mod taking;
+mod texts;
+mod trips;
+mod worked;
+
+use std::path::Path;
+use std::{env, fs, io, process};
+
+fn main() -> io::Result<()> {
+    let folder = match env::args().nth(1) {
+        Some(folder) => folder,
+        None => {
+            eprintln!("recordings DIR: the folder to write the cases into is missing");
+            process::exit(2);
+        }
+    };
+    let folder = Path::new(&folder);
+    fs::create_dir_all(folder)?;
+    let mut cases = pictures::cases();
+    cases.extend(sending::cases());
+    cases.extend(taking::cases());
+    cases.extend(finding::cases());
+    cases.extend(trips::cases());
+    cases.extend(calling::cases());
+    let mut list = String::new();
+    for (k, case) in cases.iter().enumerate() {
+        let name = format!("{:03}-{}", k + 1, case.name);
+        case.write(&folder.join(&name))?;
+        list += &(name + "\n");
+    }
+    fs::write(folder.join("list"), list)
+}

@@ -1,0 +1,144 @@
+//! Cases of frame: the text picture of each level, without a note and with one, and the
+//! picture in a file. The text is made of the list of all places of a frame, and of the
+//! digits that a frame of that note has.
+
+use crate::case::{words, Case, OLD};
+use crate::inputs::{level, levels};
+use crate::texts;
+use reference::frame::{fill, layout, Place, Waiting};
+use reference::level::Row;
+
+const NOTED: [(u64, &str); 8] =
+    [(2, "00"), (2, "3F"), (2, "15"), (3, "01"), (3, "2a"), (4, "00"), (4, "FF"), (4, "a6")];
+
+const DRAWN: [&str; 4] = ["2", "2 2A", "3 15", "4 c3"];
+
+pub fn cases() -> Vec<Case> {
+    let mut cases = Vec::new();
+    for row in levels() {
+        let command = format!("frame {}", row.level);
+        cases.push(
+            Case::new(&command.replace(' ', "-")).accepted(words(&command), &picture(row, None)),
+        );
+    }
+    for (number, note) in NOTED {
+        let command = format!("frame {number} {note}");
+        let value = u8::from_str_radix(note, 16).expect("two hexadecimal digits");
+        let text = picture(level(number), Some(value));
+        cases.push(Case::new(&command.replace(' ', "-")).accepted(words(&command), &text));
+    }
+    for drawn in DRAWN {
+        cases.push(draws(&format!("frame-{}-svg", drawn.replace(' ', "-")), drawn));
+    }
+    cases.push(draws("frame-4-svg-over-an-older-file", "4").had("picture.svg", OLD));
+    cases.extend(failing());
+    cases
+}
+
+fn draws(name: &str, drawn: &str) -> Case {
+    let command = words(&format!("frame {drawn} picture.svg"));
+    Case::new(name).like(command, 0, &[], r"^written: picture\.svg$").draws("picture.svg")
+}
+
+fn failing() -> Vec<Case> {
+    let mut cases = vec![
+        Case::new("frame-no-level").fails(words("frame 5"), &texts::no_level("5")),
+        Case::new("frame-no-level-with-a-note").fails(words("frame 1 3F"), &texts::no_level("1")),
+        // The words of this refusal are left to the program: no file is named here.
+        Case::new("frame-2-no-such-digit").like(words("frame 2 40"), 1, &[], "^refused 5: "),
+        Case::new("frame-3-no-such-digit").like(words("frame 3 80"), 1, &[], "^refused 5: "),
+        Case::new("frame-svg-in-no-folder").fails(
+            words("frame 2 none/picture.svg"),
+            &texts::cannot("none/picture.svg", "written"),
+        ),
+        Case::new("frame-svg-is-a-folder")
+            .folder("picture.svg")
+            .fails(words("frame 3 picture.svg"), &texts::cannot("picture.svg", "written")),
+    ];
+    let svg = ["picture.svg"];
+    let no_level = Case::new("frame-svg-no-level");
+    cases.extend(no_level.fails(words("frame 6 picture.svg"), &texts::no_level("6")).twice(&svg));
+    let no_digit = Case::new("frame-svg-no-such-digit");
+    cases
+        .extend(no_digit.like(words("frame 3 C1 picture.svg"), 1, &[], "^refused 5: ").twice(&svg));
+    cases
+}
+
+/// The text picture of a frame: a line for each set, and in it the runs of places of one
+/// kind. With a note it also says what stands there.
+fn picture(row: &Row, note: Option<u8>) -> String {
+    let places = layout(row);
+    let zeros = Waiting::from(vec![0; row.tributary_digits]);
+    let digits = note.map(|note| fill(row, note, &mut vec![zeros; 4]));
+    let mut text = format!(
+        "Level {}: a frame of {} digits, places 0 on, in {} sets; each tributary has {} \
+         digits, one fewer where stuffed.",
+        row.level, row.frame_digits, row.sets, row.tributary_digits
+    );
+    let mut first = 0;
+    while first < places.len() {
+        let end = run_end(&places, first);
+        if first % row.set_digits == 0 {
+            text += &format!("\n  set {}: ", first / row.set_digits + 1);
+        } else {
+            text += ", ";
+        }
+        text += &run(&places[first..end], first);
+        if let Some(digits) = &digits {
+            text += &values(places[first], &digits[first..end]);
+        }
+        first = end;
+    }
+    text + "\n"
+}
+
+/// Where the run of places of one kind ends; a national digit stands alone.
+fn run_end(places: &[Place], first: usize) -> usize {
+    let kind = |place: Place| match place {
+        Place::National(k) => (name(place), k),
+        _ => (name(place), 0),
+    };
+    let same = |place: &&Place| kind(**place) == kind(places[first]);
+    first + places[first..].iter().take_while(same).count()
+}
+
+fn name(place: Place) -> &'static str {
+    match place {
+        Place::Word(_) => "alignment word",
+        Place::RemoteAlarm => "remote alarm",
+        Place::National(_) => "national",
+        Place::Control(_) => "control",
+        Place::Justification(_) => "justification",
+        Place::Tributary(_) => "tributary digits in turn",
+    }
+}
+
+/// The numbers of a run's places, its name, and the tributaries that it has in turn.
+fn run(places: &[Place], first: usize) -> String {
+    let mut text = first.to_string();
+    if places.len() > 1 {
+        text += &format!("-{}", first + places.len() - 1);
+    }
+    text += &format!(" {}", name(places[0]));
+    let owner = |place: &Place| match *place {
+        Place::Control(j) | Place::Justification(j) | Place::Tributary(j) => Some(j),
+        _ => None,
+    };
+    for j in places.iter().filter_map(owner).take(4) {
+        text += &format!(" {}", j + 1);
+    }
+    text
+}
+
+/// What stands in a run, of tributary digits nothing. The tributaries are zero here, so a
+/// justification digit that is 1 is stuffing.
+fn values(kind: Place, digits: &[u8]) -> String {
+    let list: String = match kind {
+        Place::Tributary(_) => return String::new(),
+        Place::Justification(_) => {
+            digits.iter().map(|&digit| if digit == 1 { " stuffing" } else { " digit" }).collect()
+        }
+        _ => " ".chars().chain(digits.iter().map(|&digit| char::from(b'0' + digit))).collect(),
+    };
+    format!(" ={list}")
+}

@@ -1,0 +1,83 @@
+//! A recording for find, put together piece by piece.
+
+use crate::inputs::known_bits;
+use crate::random::Random;
+use reference::digits::pack;
+use reference::frame::{fill, Waiting};
+use reference::level::Row;
+
+pub struct Stream {
+    row: &'static Row,
+    random: Random,
+    digits: Vec<u8>,
+}
+
+impl Stream {
+    pub fn new(row: &'static Row, seed: u64) -> Stream {
+        Stream { row, random: Random::new(seed), digits: Vec::new() }
+    }
+
+    pub fn junk(mut self, count: usize) -> Stream {
+        self.digits.extend(self.random.digits(count));
+        self
+    }
+
+    pub fn zeros(mut self, count: usize) -> Stream {
+        self.digits.extend(vec![0; count]);
+        self
+    }
+
+    /// An alignment word alone.
+    pub fn word(mut self) -> Stream {
+        self.digits.extend(self.row.word_digits());
+        self
+    }
+
+    /// Frames of random notes and tributaries.
+    pub fn good(mut self, frames: usize) -> Stream {
+        for _ in 0..frames {
+            let frame = self.frame();
+            self.digits.extend(frame);
+        }
+        self
+    }
+
+    /// The same with one wrong digit in each word.
+    pub fn wrong(mut self, frames: usize) -> Stream {
+        for _ in 0..frames {
+            let mut frame = self.frame();
+            frame[self.random.below(self.row.word_length())] ^= 1;
+            self.digits.extend(frame);
+        }
+        self
+    }
+
+    /// A frame whose digits are all 1 but for its word.
+    pub fn ones_after_word(self) -> Stream {
+        let count = self.row.frame_digits - self.row.word_length();
+        self.word().ones(count)
+    }
+
+    pub fn ones(mut self, count: usize) -> Stream {
+        self.digits.extend(vec![1; count]);
+        self
+    }
+
+    /// Breaks off so many digits earlier.
+    pub fn short_by(mut self, count: usize) -> Stream {
+        self.digits.truncate(self.digits.len() - count);
+        self
+    }
+
+    /// The recording; its last byte ends in zeros if it is not full.
+    pub fn bytes(self) -> Vec<u8> {
+        pack(&self.digits)
+    }
+
+    fn frame(&mut self) -> Vec<u8> {
+        let note = self.random.bytes(1)[0] & known_bits(self.row);
+        let count = self.row.tributary_digits;
+        let mut waiting: Vec<Waiting> = (0..4).map(|_| self.random.digits(count).into()).collect();
+        fill(self.row, note, &mut waiting)
+    }
+}

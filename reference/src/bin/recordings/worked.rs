@@ -1,0 +1,143 @@
+//! What send, take and find must make of their inputs, frame by frame, however many
+//! frames there are.
+
+use reference::digits::{pack, unpack};
+use reference::frame::{self, Waiting};
+use reference::history::{self, HandedOver};
+use reference::level::Row;
+use reference::{feed, fresh, State};
+
+/// Of each tributary: its digits, and the frames in which it is stuffed.
+#[derive(Default)]
+pub struct Counts {
+    pub digits: [usize; 4],
+    pub stuffed: [usize; 4],
+}
+
+pub struct Sent {
+    pub line: Vec<u8>,
+    pub counts: Counts,
+}
+
+/// Sends the frames of the notes, from a buffer of four equal quarters with room enough.
+pub fn send(row: &Row, notes: &[u8], buffer: &[u8]) -> Sent {
+    let quarter = buffer.len() / 4;
+    let digits_of = |j: usize| unpack(&buffer[j * quarter..(j + 1) * quarter], 8 * quarter);
+    let mut waiting: Vec<Waiting> = (0..4).map(|j| digits_of(j).into()).collect();
+    let mut line = Vec::new();
+    for &note in notes {
+        line.extend(pack(&frame::fill(row, note, &mut waiting)));
+    }
+    let digits = [0, 1, 2, 3].map(|j| 8 * quarter - waiting[j].len());
+    Sent { line, counts: Counts { digits, stuffed: stuffed(notes) } }
+}
+
+/// The frames in which each tributary is stuffed.
+pub fn stuffed(notes: &[u8]) -> [usize; 4] {
+    [0, 1, 2, 3].map(|j| notes.iter().filter(|&note| note >> j & 1 == 1).count())
+}
+
+/// What frames say, taken apart one after the other.
+#[derive(Default)]
+pub struct Taken {
+    pub notes: Vec<u8>,
+    pub tributaries: [Vec<u8>; 4],
+    pub counts: Counts,
+    pub alignment: u64,
+    pub groups: u64,
+}
+
+/// Takes whole frames apart that stand one after the other.
+pub fn take(row: &Row, line: &[u8]) -> Taken {
+    let mut all = Taken::default();
+    for bytes in line.chunks(row.frame_bytes()) {
+        let one = frame::take(row, &unpack(bytes, row.frame_digits));
+        all.notes.push(one.note);
+        all.alignment += one.alignment;
+        all.groups += one.groups;
+        for (digits, these) in all.tributaries.iter_mut().zip(&one.tributaries) {
+            digits.extend(these);
+        }
+    }
+    let digits = [0, 1, 2, 3].map(|j| all.tributaries[j].len());
+    all.counts = Counts { digits, stuffed: stuffed(&all.notes) };
+    all
+}
+
+/// Four quarters of so many bytes, each with its digits and then zeros.
+pub fn quarters(tributaries: &[Vec<u8>; 4], bytes: usize) -> Vec<u8> {
+    let mut buffer = Vec::new();
+    for (j, digits) in tributaries.iter().enumerate() {
+        buffer.extend(pack(digits));
+        assert!(buffer.len() <= (j + 1) * bytes, "a quarter is too short for its digits");
+        buffer.resize((j + 1) * bytes, 0);
+    }
+    buffer
+}
+
+/// Where alignment is found or lost: the first digit of the word that decides it.
+#[derive(Clone, Copy, Debug, PartialEq)]
+pub enum Event {
+    Found(usize),
+    Lost(usize),
+}
+
+#[derive(Default)]
+pub struct Found {
+    pub events: Vec<Event>,
+    pub frames: Vec<HandedOver>,
+    /// The mode at the end, as the receiver's state has it.
+    pub mode: u64,
+}
+
+impl Found {
+    /// The frames handed over as a line.
+    pub fn line(&self, row: &Row) -> Vec<u8> {
+        self.frames.iter().flat_map(|frame| frame.bytes[..row.frame_bytes()].to_vec()).collect()
+    }
+
+    pub fn all_ones(&self) -> usize {
+        self.frames.iter().filter(|frame| frame.all_ones).count()
+    }
+}
+
+/// Feeds the recording to a fresh receiver, up to each digit at which its mode can change.
+/// The frames and the last state must be those that the search through all digits gives.
+pub fn find(row: &Row, stream: &[u8]) -> Found {
+    let digits = unpack(stream, 8 * stream.len());
+    let (_, mut state) = fresh(row.level);
+    let mut found = Found::default();
+    let mut at = 0;
+    while at < digits.len() {
+        let end = (at + step(row, &digits, at, &state)).min(digits.len());
+        let piece = &stream[at / 8..(end + 7) / 8];
+        let fed = feed(&state, piece, (at % 8) as u64, (end - at) as u64);
+        assert_eq!(fed.refusal, 0, "a piece is refused");
+        at += fed.taken as usize;
+        if fed.ready {
+            let (bytes, all_ones) = (fed.state.frame, fed.all_ones);
+            found.frames.push(HandedOver { after: at, bytes, all_ones });
+        }
+        match (state.mode, fed.state.mode) {
+            (2, 3) => found.events.push(Event::Found(at - row.word_length())),
+            (3..=6, 0) => found.events.push(Event::Lost(at - row.word_length())),
+            _ => {}
+        }
+        state = fed.state;
+    }
+    found.mode = state.mode;
+    assert!(history::whole(row.level, &digits) == (found.frames.clone(), state));
+    found
+}
+
+/// How many digits on the mode can change: at the next word while hunting, else at the
+/// check. A piece stays within what one call takes.
+fn step(row: &Row, digits: &[u8], at: usize, state: &State) -> usize {
+    if state.mode != 0 {
+        return row.frame_digits - state.place as usize;
+    }
+    let word = row.word_digits();
+    let last = digits.len().min(at + 500_000);
+    let end = (at + 1..last).find(|&end| digits[..end].ends_with(&word));
+    end.unwrap_or(last) - at
+}
