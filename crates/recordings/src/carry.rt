@@ -1,5 +1,6 @@
 // Digits carried on from run to run without a gap, wherever in a byte a run ends. Everything here is one copy of digits from places to
 // places; specs/Carry.antt says which digit stands where after it.
+use crate::sizes::least;
 use levels::order;
 use workbench::digit_in;
 ghost use mathlib.Core.Path.{_≡_};
@@ -21,15 +22,6 @@ pub struct Kept {
 pub struct Joined {
     pub whole: usize,
     pub kept: Kept,
-}
-
-fn least(a: usize, b: usize) -> usize
-    ensures { λ r. ⌜ r ≡ min a b ⌝ }
-{
-    if a < b {
-        return a;
-    }
-    b
 }
 
 // Puts count digits of `from`, its digit first and on, in place of those of `to` at place `at` and on. Past the end of `from` there are
