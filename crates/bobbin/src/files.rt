@@ -1,194 +1,177 @@
-// Recordings: send makes a line of notes and tributaries, take takes a line apart. The files are packed as the calls pack them: a byte to
-// a frame's note, the four quarters one after the other. No output file is touched where a call refuses.
-use crate::help;
+// Files by the words of the call. An input is opened, measured and read at places; an output is written beside its name, as NAME.part, and
+// takes its name only when the whole command is done: no output file is touched where a command is refused or fails.
 use crate::say;
-use levels::table;
-use levels::table::Level;
-use levels::table::Row;
+use recordings::carry;
 ghost use Prim.Native.Nat.{_≤_};
+ghost use lib.ListN.{length};
 ghost use Rattle.io.specs.Counts.{Counts};
-ghost use Rattle.levels.specs.Table.{Shared};
 
-// Whether a file was read whole, and its bytes.
-pub struct Got {
+// The longest input, 2 to the 40 bytes, and a place that no file reaches.
+const MOST: i64 = 1099511627776;
+
+pub struct Input {
     pub ok: bool,
-    pub n: usize,
+    pub fd: i32,
+    pub bytes: usize,
+}
+
+fn no_input() -> Input
+    ensures { λ r. ⌜ r .bytes ≤ 1099511627776 ⌝ }
+{
+    Input {
+        ok: false,
+        fd: -1,
+        bytes: 0,
+    }
+}
+
+// The name that word k of the call gives.
+pub fn say_word(k: usize) {
+    let mut path = io::buffer();
+    let m = os::arg(k, &mut path);
+    say::text(&path[..m]);
 }
 
 // A sentence that names the file.
-fn failed(path: &[u8], what: &[u8]) {
+pub fn failed(k: usize, ending: &[u8], what: &[u8]) {
     say::text(b"failed: ");
-    say::text(path);
+    say_word(k);
+    say::text(ending);
     say::text(what);
 }
 
-// Reads the file that argument k names, to its end: one byte more is asked for, which tells the end from an error and from a longer file.
-fn read(k: usize, buf: &mut [u8]) -> Got
-    ensures { λ r. ⌜ Counts (r .n) (now (buf .exit)) ⌝ }
+fn bytes_of(end: i64) -> usize
+    ensures { λ r. ⌜ r ≤ 1099511627776 ⌝ }
+{
+    if end < 0 {
+        return 0;
+    }
+    if MOST < end {
+        return 0;
+    }
+    end as usize
+}
+
+// Opens the file that word k names, and measures it. A folder or a pipe cannot be read at a place.
+pub fn open(k: usize) -> Input
+    ensures { λ r. ⌜ r .bytes ≤ 1099511627776 ⌝ }
 {
     let mut path = io::buffer();
     let m = os::arg(k, &mut path);
     let fd = os::open_read(&path[..m]);
     if fd < 0 {
-        failed(&path[..m], b" cannot be opened.\n");
-        let n = io::count(-1, buf);
-        return Got { ok: false, n };
+        failed(k, b"", b" cannot be opened.\n");
+        return no_input();
     }
-    let n = io::read_full(fd, buf);
     let mut probe = [0u8; 1];
-    let more = libc::read(fd, &mut probe);
-    libc::close(fd);
-    if more < 0 {
-        failed(&path[..m], b" cannot be read.\n");
-        return Got { ok: false, n };
+    let got = libc::pread(fd, &mut probe, 0);
+    if got < 0 {
+        failed(k, b"", b" cannot be read.\n");
+        return no_input();
     }
-    if 0 < more {
-        failed(&path[..m], b" is longer than any file of 64 frames.\n");
-        return Got { ok: false, n };
+    let end = libc::lseek(fd, 0, libc::SEEK_END);
+    if MOST < end {
+        failed(k, b"", b" is longer than 1099511627776 bytes.\n");
+        return no_input();
     }
-    Got { ok: true, n }
+    Input {
+        ok: true,
+        fd,
+        bytes: bytes_of(end),
+    }
 }
 
-// Writes the file that argument k names, and answers whether it is written.
-fn write(k: usize, bytes: &[u8]) -> bool {
+fn place(at: usize) -> i64 {
+    if 4611686018427387904 < at {
+        return 4611686018427387904;
+    }
+    at as i64
+}
+
+// Fills the slice from this place of a file on, and answers whether it is full.
+pub fn read_at(fd: i32, buf: &mut [u8], at: usize) -> bool {
+    let got = libc::pread(fd, buf, place(at));
+    io::count(got, buf) == buf.len()
+}
+
+// Writes the slice at this place of a file, and answers whether it is written.
+pub fn write_at(fd: i32, bytes: &[u8], at: usize) -> bool {
+    let put = libc::pwrite(fd, bytes, place(at));
+    io::count(put, bytes) == bytes.len()
+}
+
+// Makes a file so long, with zeros where nothing was written.
+pub fn set_length(fd: i32, bytes: usize) -> bool {
+    libc::ftruncate(fd, place(bytes)) == 0
+}
+
+// The path of an output: word k and an ending. 0 where there is none.
+fn output(path: &mut [u8; 4096], k: usize, ending: &[u8]) -> usize
+    ensures { λ r. ⌜ Counts r (now (path .exit)) ⌝ }
+{
+    let m = os::arg(k, path);
+    if m == 0 {
+        return 0;
+    }
+    carry::follow(path, m, ending)
+}
+
+// The path at which it is written first.
+fn part(path: &mut [u8; 4096], k: usize, ending: &[u8]) -> usize
+    ensures { λ r. ⌜ Counts r (now (path .exit)) ⌝ }
+{
+    let m = output(path, k, ending);
+    if m == 0 {
+        return 0;
+    }
+    carry::follow(path, m, b".part")
+}
+
+// Whether a file of this name can be written, as far as can be told without touching it.
+fn is_free(k: usize, ending: &[u8]) -> bool {
     let mut path = io::buffer();
-    let m = os::arg(k, &mut path);
-    let fd = os::open_overwrite(&path[..m]);
+    let m = output(&mut path, k, ending);
+    let fd = os::open_append(&path[..m]);
     if fd < 0 {
-        failed(&path[..m], b" cannot be opened for writing.\n");
-        return false;
+        return os::errno() == libc::ENOENT;
     }
-    let whole = io::write_all(fd, bytes);
     libc::close(fd);
-    if !whole {
-        failed(&path[..m], b" cannot be written.\n");
-        return false;
-    }
     true
 }
 
-fn least(a: usize, b: usize) -> usize
-    ensures { λ r. ⌜ (r ≤ a) × (r ≤ b) ⌝ }
-{
-    if a < b {
-        return a;
+// Opens an output to be written beside its name, and answers its descriptor, or a number below 0.
+pub fn create(k: usize, ending: &[u8]) -> i32 {
+    let mut fd: i32 = -1;
+    if is_free(k, ending) {
+        let mut path = io::buffer();
+        let m = part(&mut path, k, ending);
+        fd = os::open_overwrite(&path[..m]);
     }
-    b
+    if fd < 0 {
+        failed(k, ending, b" cannot be written.\n");
+    }
+    fd
 }
 
-// How long the line of so many frames is; of more than 64 it is that of 65, which the call refuses.
-fn line_bytes(row: Row, f: usize) -> usize
-    requires { ⌜ Shared row ⌝ }
-    ensures { λ r. ⌜ r ≤ 65536 ⌝ }
-{
-    least(f, 65) * row.bytes
-}
-
-// How long the buffer of so many frames is: four quarters of whole bytes.
-fn buffer_bytes(row: Row, f: usize) -> usize
-    requires { ⌜ Shared row ⌝ }
-    ensures { λ r. ⌜ r ≤ 65536 ⌝ }
-{
-    4 * ((least(f, 65) * row.n + 7) / 8)
-}
-
-// send LEVEL NOTES TRIBUTARIES LINE
-pub fn send(level: u64) {
-    let found = table::level_of(level);
-    match found {
-        Level::Of(row) => send_at(row, level),
-        Level::NoSuchLevel => help::refused(1),
+// Gives a written output its name.
+pub fn keep(k: usize, ending: &[u8]) -> bool {
+    let mut from = io::buffer();
+    let m = part(&mut from, k, ending);
+    let mut to = io::buffer();
+    let n = output(&mut to, k, ending);
+    if os::rename(&from[..m], &to[..n]) != 0 {
+        failed(k, ending, b" cannot be written.\n");
+        return false;
     }
-}
-
-fn send_at(row: Row, level: u64)
-    requires { ⌜ Shared row ⌝ }
-{
-    let mut notes = io::large_buffer();
-    let noted = read(3, &mut notes);
-    if !noted.ok {
-        return;
-    }
-    let mut buffer = io::large_buffer();
-    let filled = read(4, &mut buffer);
-    if !filled.ok {
-        return;
-    }
-    let f = noted.n;
-    let b = filled.n;
-    let n = line_bytes(row, f);
-    let mut line = io::large_buffer();
-    send_on(level, &mut line[..n], &notes[..f], &buffer[..b]);
-}
-
-fn send_on(level: u64, line: &mut [u8], notes: &[u8], buffer: &[u8]) {
-    let r = multiplex::multiplex(level, line, notes, buffer);
-    if r.refusal != 0 {
-        if r.refusal == 5 {
-            say::column(b"first such frame:", r.frame);
-            say::text(b"\n");
-        }
-        help::refused(r.refusal);
-        return;
-    }
-    if !write(5, line) {
-        return;
-    }
-    say::column(b"frames sent:", notes.len());
+    say::text(b"written: ");
+    say::text(&to[..n]);
     say::text(b"\n");
-    let counts = r.counts;
-    four(counts);
+    true
 }
 
-fn four(counts: [usize; 4]) {
-    say::column(b"digits of tributaries 1 to 4:", counts[0]);
-    say::column(b" ", counts[1]);
-    say::column(b" ", counts[2]);
-    say::column(b" ", counts[3]);
-    say::text(b"\n");
-}
-
-// take LEVEL LINE NOTES TRIBUTARIES
-pub fn take(level: u64) {
-    let found = table::level_of(level);
-    match found {
-        Level::Of(row) => take_at(row, level),
-        Level::NoSuchLevel => help::refused(1),
-    }
-}
-
-fn take_at(row: Row, level: u64)
-    requires { ⌜ Shared row ⌝ }
-{
-    let mut line = io::large_buffer();
-    let got = read(3, &mut line);
-    if !got.ok {
-        return;
-    }
-    let n = got.n;
-    let f = least(n / row.bytes, 65536);
-    let b = buffer_bytes(row, f);
-    let mut notes = io::large_buffer();
-    let mut buffer = io::large_buffer();
-    take_on(level, &line[..n], &mut notes[..f], &mut buffer[..b]);
-}
-
-fn take_on(level: u64, line: &[u8], notes: &mut [u8], buffer: &mut [u8]) {
-    let r = demultiplex::demultiplex(level, line, notes, buffer);
-    if r.refusal != 0 {
-        help::refused(r.refusal);
-        return;
-    }
-    if !write(4, notes) {
-        return;
-    }
-    if !write(5, buffer) {
-        return;
-    }
-    say::column(b"frames taken apart:", notes.len());
-    say::column(b"\nalignment digits wrong:", r.alignment);
-    say::column(b"\ncontrol groups not unanimous:", r.groups);
-    say::text(b"\n");
-    let counts = r.counts;
-    four(counts);
+// Removes what was written beside the name.
+pub fn discard(k: usize, ending: &[u8]) {
+    let mut path = io::buffer();
+    let m = part(&mut path, k, ending);
+    os::unlink(&path[..m]);
 }

@@ -1,12 +1,11 @@
 // The frame of a level as a picture in text, set by set: runs of places of one kind, as the calls classify them. With a note it shows what
 // the multiplex call puts there for that note.
-use crate::help;
+use crate::files;
 use crate::say;
+use crate::svg;
 use levels::order;
 use levels::places;
 use levels::places::FramePlace;
-use levels::table;
-use levels::table::Level;
 use levels::table::Row;
 use workbench::picture;
 ghost use Prim.Native.Nat.{_<_, _≤_};
@@ -18,15 +17,7 @@ pub struct Noted {
     pub note: u8,
 }
 
-pub fn run(level: u64, noted: Noted) {
-    let found = table::level_of(level);
-    match found {
-        Level::Of(row) => show(row, level, noted),
-        Level::NoSuchLevel => help::refused(1),
-    }
-}
-
-fn show(row: Row, level: u64, noted: Noted)
+pub fn run(row: Row, level: u64, noted: Noted, drawn: bool, k: usize)
     requires { ⌜ Shared row ⌝ }
 {
     let mut line = [0u8; 366];
@@ -35,11 +26,23 @@ fn show(row: Row, level: u64, noted: Noted)
     let n = row.bytes;
     let r = multiplex::multiplex(level, &mut line[..n], &notes, &zeros);
     if r.refusal != 0 {
-        help::refused(r.refusal);
+        say::text(
+            b"refused 5: the note has bit 6 or 7 set; only level 4 has these national digits.\n",
+        );
         return;
+    }
+    let mut fd: i32 = -1;
+    if drawn {
+        fd = files::create(k, b"");
+        if fd < 0 {
+            return;
+        }
     }
     heading(row, level);
     runs(row, &line, noted);
+    if drawn {
+        svg::draw(fd, row, level, &line, noted, k);
+    }
 }
 
 fn heading(row: Row, level: u64) {

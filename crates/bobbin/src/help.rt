@@ -1,4 +1,5 @@
 // The right form of each call, the answer to a wrong one, and what each refusal number means.
+use crate::files;
 use crate::say;
 
 pub fn forms() {
@@ -6,13 +7,14 @@ pub fn forms() {
         b"  ./spritbobbin demo                                 a multiplexer that acts a frame late, on built-in data\n",
     );
     say::text(
-        b"  ./spritbobbin frame LEVEL [NOTE]                   the frame of level 2, 3 or 4; NOTE as 3F: what it holds\n",
+        b"  ./spritbobbin frame LEVEL [NOTE] [FILE.svg]        the frame of level 2, 3 or 4; NOTE as 3F: what it holds\n",
+    );
+    say::text(b"  ./spritbobbin send LEVEL NOTES TRIBUTARIES LINE    makes the file LINE\n");
+    say::text(
+        b"  ./spritbobbin take LEVEL LINE NOTES TRIBUTARIES    takes the file LINE apart, from its first digit on\n",
     );
     say::text(
-        b"  ./spritbobbin send LEVEL NOTES TRIBUTARIES LINE    makes the file LINE, up to 64 frames\n",
-    );
-    say::text(
-        b"  ./spritbobbin take LEVEL LINE NOTES TRIBUTARIES    takes the file LINE apart, up to 64 frames\n",
+        b"  ./spritbobbin find LEVEL STREAM [PREFIX]           finds the frames in a recording begun anywhere, and takes them\n                                                     apart, into PREFIX.notes and PREFIX.tributaries\n",
     );
     say::text(b"  ./spritbobbin help                                 these forms\n");
 }
@@ -25,23 +27,54 @@ pub fn wrong_call(what: &[u8]) {
     say::text(b"\n");
 }
 
-pub fn refused(no: u64) {
-    say::text(b"refused ");
-    io::print_decimal(libc::STDOUT_FILENO, no);
-    meaning(no);
+// The first line of what a command found.
+pub fn heading(level: u64, frames: usize, what: &[u8]) {
+    say::text(b"Level ");
+    io::print_decimal(libc::STDOUT_FILENO, level);
+    say::text(b": ");
+    say::number(frames);
+    say::text(what);
 }
 
-fn meaning(no: u64) {
-    match no {
-        1 => say::text(b": the level is not 2, 3 or 4.\n"),
-        2 => say::text(b": the line is not a whole number of frames, or over 64 frames.\n"),
-        3 => say::text(b": the notes are not one byte to a frame.\n"),
-        4 => say::text(
-            b": the tributaries are not four equal quarters with room for every frame.\n",
-        ),
-        5 => say::text(
-            b": a note has bit 6 or 7 set, and only level 4 has these national digits.\n",
-        ),
-        _ => say::text(b".\n"),
-    }
+pub fn no_level(word: &[u8]) {
+    say::text(b"refused 1: no level ");
+    say::text(word);
+    say::text(b"; LEVEL is 2, 3 or 4.\n");
+}
+
+pub fn no_whole_frames(k: usize, bytes: usize, level: u64, frame: usize) {
+    say::text(b"refused 2: ");
+    has_bytes(k, bytes);
+    say::text(b", no whole number of frames; a frame of level ");
+    io::print_decimal(libc::STDOUT_FILENO, level);
+    say::text(b" has ");
+    say::number(frame);
+    say::text(b" bytes.\n");
+}
+
+pub fn no_room(k: usize, bytes: usize, level: u64, frames: usize, wanted: usize) {
+    say::text(b"refused 4: ");
+    has_bytes(k, bytes);
+    say::text(b", and ");
+    say::number(frames);
+    say::text(b" frames of level ");
+    io::print_decimal(libc::STDOUT_FILENO, level);
+    say::text(b" want four equal quarters of ");
+    say::number(wanted);
+    say::text(b" bytes or more.\n");
+}
+
+fn has_bytes(k: usize, bytes: usize) {
+    files::say_word(k);
+    say::text(b" has ");
+    say::number(bytes);
+    say::text(b" bytes");
+}
+
+pub fn note_bits(k: usize, frame: usize) {
+    say::text(b"refused 5: ");
+    files::say_word(k);
+    say::text(b": the note of frame ");
+    say::number(frame);
+    say::text(b" has bit 6 or 7 set; only level 4 has these national digits.\n");
 }

@@ -1,13 +1,31 @@
 // Spritbobbin on the command line: reads the arguments and hands on to a command. The last line of a refused or failed command begins with
 // `refused` or `failed`, which ./spritbobbin turns into an exit status.
+mod apart;
 mod demo;
 mod files;
+mod find;
 mod frame;
 mod help;
 mod say;
+mod send;
+mod svg;
+mod take;
 mod words;
 
 use frame::Noted;
+use levels::table;
+use levels::table::Level;
+use levels::table::Row;
+ghost use Rattle.levels.specs.Table.{Shared};
+
+// The commands that take a level.
+const FRAME: u8 = 0;
+
+const SEND: u8 = 1;
+
+const TAKE: u8 = 2;
+
+const FIND: u8 = 3;
 
 fn main() {
     let mut word = [0u8; 16];
@@ -29,67 +47,124 @@ fn command(word: &[u8], count: usize) {
         demo::run();
         return;
     }
-    if words::same(word, b"frame") {
-        picture(count);
+    let which = which_command(word);
+    if FIND < which {
+        help::wrong_call(b"there is no such command, or it is missing.");
         return;
+    }
+    counted(which, count);
+}
+
+fn which_command(word: &[u8]) -> u8 {
+    if words::same(word, b"frame") {
+        return FRAME;
     }
     if words::same(word, b"send") {
-        recording(count, true);
-        return;
+        return SEND;
     }
     if words::same(word, b"take") {
-        recording(count, false);
-        return;
+        return TAKE;
     }
-    help::wrong_call(b"there is no such command, or it is missing.");
+    if words::same(word, b"find") {
+        return FIND;
+    }
+    FIND + 1
 }
 
-// frame LEVEL [NOTE]
-fn picture(count: usize) {
-    let mut word = [0u8; 16];
+// Whether the command has as many words as it takes.
+fn counted(which: u8, count: usize) {
+    if which == FRAME {
+        if count < 3 || 5 < count {
+            help::wrong_call(
+                b"frame takes a level, then a note and a file for the picture where wanted.",
+            );
+            return;
+        }
+    }
+    if which == SEND || which == TAKE {
+        if count != 6 {
+            help::wrong_call(b"send and take take a level and three files.");
+            return;
+        }
+    }
+    if which == FIND {
+        if count < 4 || 5 < count {
+            help::wrong_call(
+                b"find takes a level and a file, and a prefix where files are wanted.",
+            );
+            return;
+        }
+    }
+    levelled(which, count);
+}
+
+fn levelled(which: u8, count: usize) {
+    let mut word = io::buffer();
     let n = os::arg(2, &mut word);
     let level = words::level(&word[..n]);
-    if count == 3 {
-        let none = Noted {
-            given: false,
-            note: 0,
-        };
-        frame::run(level, none);
-        return;
+    let found = table::level_of(level);
+    match found {
+        Level::Of(row) => started(which, count, row, level),
+        Level::NoSuchLevel => help::no_level(&word[..n]),
     }
-    if count != 4 {
-        help::wrong_call(b"frame takes a level, and a note where one is to be shown.");
-        return;
-    }
-    let mut digits = [0u8; 16];
-    let m = os::arg(3, &mut digits);
-    noted(level, words::note(&digits[..m]));
 }
 
-fn noted(level: u64, note: u16) {
-    if 255 < note {
-        help::wrong_call(b"a note is two hexadecimal digits, as 3F.");
+fn started(which: u8, count: usize, row: Row, level: u64)
+    requires { ⌜ Shared row ⌝ }
+{
+    match which {
+        FRAME => picture(row, level, count),
+        SEND => send::run(row, level),
+        TAKE => take::run(row, level),
+        _ => find::run(row, level, count == 5),
+    }
+}
+
+// frame LEVEL [NOTE] [FILE.svg]: the last word is a file where it ends in .svg, and a word before it is a note.
+fn picture(row: Row, level: u64, count: usize)
+    requires { ⌜ Shared row ⌝ }
+{
+    let mut word = io::buffer();
+    let n = os::arg(least_word(count), &mut word);
+    let drawn = 3 < count && words::is_svg(&word[..n]);
+    let noted = read_note(count, drawn);
+    if 256 < noted {
+        help::wrong_call(
+            b"a note is two hexadecimal digits, as 3F, and a picture's file ends in .svg.",
+        );
         return;
     }
     let one = Noted {
-        given: true,
-        note: note as u8,
+        given: noted < 256,
+        note: (noted % 256) as u8,
     };
-    frame::run(level, one);
+    frame::run(row, level, one, drawn, least_word(count));
 }
 
-// send LEVEL NOTES TRIBUTARIES LINE, take LEVEL LINE NOTES TRIBUTARIES
-fn recording(count: usize, sending: bool) {
-    if count != 6 {
-        help::wrong_call(b"send and take take a level and three files.");
-        return;
+// The number of the last word.
+fn least_word(count: usize) -> usize {
+    if count == 0 {
+        return 0;
+    }
+    count - 1
+}
+
+// The note that word 3 is: 256 where there is none, 257 where it is no note, or more words stand there than a note and a file.
+fn read_note(count: usize, drawn: bool) -> u16 {
+    if count == 3 {
+        return 256;
+    }
+    if count == 4 && drawn {
+        return 256;
+    }
+    if count == 5 && !drawn {
+        return 257;
     }
     let mut word = [0u8; 16];
-    let n = os::arg(2, &mut word);
-    let level = words::level(&word[..n]);
-    if sending {
-        files::send(level);
-        return;
+    let n = os::arg(3, &mut word);
+    let note = words::note(&word[..n]);
+    if 255 < note {
+        return 257;
     }
-    files::take(level);
+    note
 }

@@ -1,4 +1,5 @@
-// Writes words, numbers and columns to standard output.
+// Writes words, numbers and columns to standard output, or to a file that is open.
+ghost use Prim.Native.Nat.{_≤_};
 use libc::STDOUT_FILENO;
 
 pub fn text(words: &[u8]) {
@@ -18,23 +19,37 @@ pub fn digit(d: u8) {
     }
 }
 
+fn blanks(width: usize, k: usize) -> usize
+    ensures { λ r. ⌜ r ≤ 20 ⌝ }
+{
+    if width <= k {
+        return 0;
+    }
+    if 20 < width - k {
+        return 20;
+    }
+    width - k
+}
+
+// A number at the right of a column so wide.
+pub fn right(width: usize, n: usize) {
+    let mut digits = [0u8; 20];
+    let k = io::decimal(n as u64, &mut digits);
+    let blank = [b' '; 20];
+    let m = blanks(width, k);
+    text(&blank[..m]);
+    text(&digits[..k]);
+}
+
 // A number after the words, in a column of six.
 pub fn column(words: &[u8], n: usize) {
     text(words);
-    if n < 100000 {
-        text(b" ");
-    }
-    if n < 10000 {
-        text(b" ");
-    }
-    if n < 1000 {
-        text(b" ");
-    }
-    if n < 100 {
-        text(b" ");
-    }
-    if n < 10 {
-        text(b" ");
-    }
+    right(6, n);
+}
+
+// A line of words and a number.
+pub fn line(words: &[u8], n: usize) {
+    text(words);
     number(n);
+    text(b"\n");
 }

@@ -50,3 +50,13 @@ pub fn note(word: &[u8]) -> u16 {
     }
     16 * high + low
 }
+
+// Whether a word ends in .svg.
+pub fn is_svg(word: &[u8]) -> bool {
+    let n = word.len();
+    if n < 5 {
+        return false;
+    }
+    let first = n - 4;
+    same(&word[first..n], b".svg")
+}

@@ -7,7 +7,7 @@ ghost use mathlib.Core.Path.{_≡_};
 ghost use mathlib.Core.Bool.{cond};
 ghost use Prim.Native.Nat.{ℕ, _+_, _-_, _*_, _/_, _%_, _<_, _≤_, min};
 ghost use lib.Dec.{leb};
-ghost use lib.ListN.{length, getD};
+ghost use lib.ListN.{length, getD, take};
 ghost use Rattle.digits.specs.Digits.{digitsOf};
 ghost use Rattle.levels.specs.Order.{decisions, stuffedTo};
 ghost use Rattle.recordings.specs.Carry.{copied, joined};
@@ -41,7 +41,7 @@ pub fn copy_digits(to: &mut [u8], at: usize, from: &[u8], first: usize, count: u
 // Puts these bytes behind the first m of the slice, and answers how many there are then, or 0 where there is no room and nothing is put.
 pub fn follow(to: &mut [u8], m: usize, from: &[u8]) -> usize
     requires { ⌜ length (now to) ≤ 65536 ⌝ }
-    ensures { λ r. ⌜ (r ≡ cond (leb (m + length (now (from .entry))) (length (now (to .entry)))) (m + length (now (from .entry))) 0) × (r ≤ length (now (to .exit))) × ((p : ℕ) → p < 8 * length (now (to .entry)) → getD (digitsOf (now (to .exit))) p 0 ≡ copied (digitsOf (now (to .entry))) (8 * m) (digitsOf (now (from .entry))) 0 (8 * (r - m)) p) ⌝ }
+    ensures { λ r. ⌜ (r ≡ cond (leb (m + length (now (from .entry))) (length (now (to .entry)))) (m + length (now (from .entry))) 0) × (r ≤ length (now (to .exit))) × (r ≡ length (take r (now (to .exit)))) × ((p : ℕ) → p < 8 * length (now (to .entry)) → getD (digitsOf (now (to .exit))) p 0 ≡ copied (digitsOf (now (to .entry))) (8 * m) (digitsOf (now (from .entry))) 0 (8 * (r - m)) p) ⌝ }
 {
     let n = from.len();
     if to.len() < m {

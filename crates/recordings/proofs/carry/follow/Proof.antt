@@ -1,7 +1,7 @@
 -- Where there is room the bytes are copied as their digits; else nothing is.
-use mathlib.Core.Path.{_∙_}
+use mathlib.Core.Path.{refl, _∙_}
 use Prim.Native.Nat.{_+_}
-use lib.ListN.{length}
+use lib.ListN.{length, length-take}
 use native.Mathlib.Omega.{arith}
 use Rattle.recordings.proofs.Copies.{fits, no-room, none-copied, copied-same}
 use borrow.Author.Needs.{needs}
@@ -11,7 +11,7 @@ use Rattle.recordings.proofs.carry.follow.Tie as tie
 returns : tie.Need-returns
 returns c =
     let a = c .before .before .before .args in
-    (no-room (a .m + length (a .from .now)) (length (a .to .now)) (omega arith), omega arith, λ p h. none-copied _ _ _ p)
+    (no-room (a .m + length (a .from .now)) (length (a .to .now)) (omega arith), omega arith, refl, λ p h. none-copied _ _ _ p)
 
 sub-if2 : tie.Need-sub-if2
 sub-if2 c = search needs
@@ -19,7 +19,7 @@ sub-if2 c = search needs
 returns-2 : tie.Need-returns-2
 returns-2 c =
     let a = c .before .before .before .before .args in
-    (no-room (a .m + length (a .from .now)) (length (a .to .now)) (omega arith), omega arith, λ p h. none-copied _ _ _ p)
+    (no-room (a .m + length (a .from .now)) (length (a .to .now)) (omega arith), omega arith, refl, λ p h. none-copied _ _ _ p)
 
 mul-copy-digits : tie.Need-mul-copy-digits
 mul-copy-digits c = search needs
@@ -40,6 +40,7 @@ returns-3 : tie.Need-returns-3
 returns-3 c = (
   fits _ _ (omega arith),
   omega arith,
+  simp length-take (omega arith),
   λ p h. c .before .before .copy-digits .ensures p h ∙ copied-same _ _ _ _ _ _ p (λ k. omega arith) (λ k. omega arith),
 )
 
