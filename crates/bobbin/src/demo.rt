@@ -36,6 +36,10 @@ pub fn run() {
     );
     let counts = slow.counts;
     show(&late_line, &sent, counts);
+    shown();
+}
+
+fn shown() {
     say::text(
         b"\nShown: a multiplexer that acts a frame late slips every tributary whose decisions alternate and spares the one whose\ndecision never changes, so a bench that never changes its decisions passes it.\n",
     );

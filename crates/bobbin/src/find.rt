@@ -2,6 +2,7 @@
 // over are held until there are 64 of them.
 use crate::apart;
 use crate::apart::Apart;
+use crate::apart::Sink;
 use crate::files;
 use crate::help;
 use crate::say;
@@ -103,7 +104,7 @@ fn chunks(row: Row, level: u64, fd: i32, bytes: usize, t: Finding) -> Finding
 fn progress(at: usize, bytes: usize)
     requires { ⌜ at ≤ 1099511693312 ⌝ }
 {
-    if bytes < 16777216 {
+    if bytes < 1048576 {
         return;
     }
     if libc::isatty(libc::STDERR_FILENO) == 1 {
@@ -277,38 +278,54 @@ fn flush(row: Row, level: u64, line: &[u8], t: Finding) -> Finding
 fn end(row: Row, t: Finding, writes: bool) {
     let all = t.apart;
     let sink = all.sink;
-    let totals = all.totals;
-    let mut ok = sink.ok;
-    if writes {
-        ok = apart::finish(sink);
-    }
-    if !ok {
-        if writes {
-            files::discard(4, b".notes");
-            files::discard(4, b".tributaries");
-        }
-        files::failed(
-            3,
-            b"",
-            b" cannot be read, or what is in it cannot be written.\n",
-        );
+    if !is_whole(sink, writes) {
         return;
     }
-    if !t.found {
-        say::text(b"alignment was not found: three good words in a row, ");
-        say::number(row.digits);
-        say::text(b" digits apart, did not come\n");
-    }
+    let totals = all.totals;
+    let state = t.state;
+    let mode = state.mode;
+    say_found(row, t.found);
     say::line(b"frames handed over: ", totals.frames);
     say::line(b"frames marked all-ones: ", t.ones);
     apart::say_totals(totals);
-    let state = t.state;
-    let mode = state.mode;
     say_mode(mode);
+    keep(writes);
+}
+
+// Whether all was read and written; else nothing is kept.
+fn is_whole(sink: Sink, writes: bool) -> bool {
+    if !writes {
+        if !sink.ok {
+            files::failed(3, b"", b" cannot be read.\n");
+        }
+        return sink.ok;
+    }
+    if apart::finish(sink) {
+        return true;
+    }
+    files::discard(4, b".notes");
+    files::discard(4, b".tributaries");
+    files::failed(
+        4,
+        b"",
+        b" cannot be written, or the recording cannot be read.\n",
+    );
+    false
+}
+
+fn keep(writes: bool) {
     if writes {
         if files::keep(4, b".notes") {
             files::keep(4, b".tributaries");
         }
+    }
+}
+
+fn say_found(row: Row, found: bool) {
+    if !found {
+        say::text(b"alignment was not found: three good words in a row, ");
+        say::number(row.digits);
+        say::text(b" digits apart, did not come\n");
     }
 }
 

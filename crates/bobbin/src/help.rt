@@ -3,20 +3,34 @@ use crate::files;
 use crate::say;
 
 pub fn forms() {
-    say::text(
-        b"  ./spritbobbin demo                                 a multiplexer that acts a frame late, on built-in data\n",
+    form(
+        b"demo                              ",
+        b"a multiplexer that acts a frame late, on built-in data",
     );
-    say::text(
-        b"  ./spritbobbin frame LEVEL [NOTE] [FILE.svg]        the frame of level 2, 3 or 4; NOTE as 3F: what it holds\n",
+    form(
+        b"frame LEVEL [NOTE] [FILE.svg]     ",
+        b"the frame of level 2, 3 or 4; NOTE as 3F: what it holds",
     );
-    say::text(b"  ./spritbobbin send LEVEL NOTES TRIBUTARIES LINE    makes the file LINE\n");
-    say::text(
-        b"  ./spritbobbin take LEVEL LINE NOTES TRIBUTARIES    takes the file LINE apart, from its first digit on\n",
+    form(
+        b"send LEVEL NOTES TRIBUTARIES LINE ",
+        b"makes the file LINE",
     );
-    say::text(
-        b"  ./spritbobbin find LEVEL STREAM [PREFIX]           finds the frames in a recording begun anywhere, and takes them\n                                                     apart, into PREFIX.notes and PREFIX.tributaries\n",
+    form(
+        b"take LEVEL LINE NOTES TRIBUTARIES ",
+        b"takes the file LINE apart, from its first digit on",
     );
-    say::text(b"  ./spritbobbin help                                 these forms\n");
+    form(
+        b"find LEVEL STREAM [PREFIX]        ",
+        b"finds the frames in a recording; PREFIX: takes them apart",
+    );
+    form(b"help                              ", b"these forms");
+}
+
+fn form(words: &[u8], what: &[u8]) {
+    say::text(b"  ./spritbobbin ");
+    say::text(words);
+    say::text(what);
+    say::text(b"\n");
 }
 
 pub fn wrong_call(what: &[u8]) {
