@@ -45,7 +45,7 @@ up-one mode p h = rw h
 
 module _ (row : Row) where
   -- outside hunting the mode stays until the place comes to N
-  rises : (es : List ℕ) (s : State) → hunting (s .mode) ≡ false → s .place + length es < row .digits
+  pub rises : (es : List ℕ) (s : State) → hunting (s .mode) ≡ false → s .place + length es < row .digits
       → (heard row s es .mode ≡ s .mode) × (heard row s es .place ≡ s .place + length es)
   unfolding heard
   rises [] s h room = (refl, omega arith)

@@ -3,16 +3,9 @@ use mathlib.Core.Bool.{Bool, cond, true, false}
 use Prim.Native.Nat.{ℕ, _-_, min}
 use Rattle.levels.specs.declared.table.Row.{Row}
 use Rattle.receiver.specs.declared.Mode.{Mode}
-use Rattle.receiver.specs.declared.Mode.the-variants.{Hunting, OneFound, TwoFound, Aligned}
 use Rattle.receiver.specs.Modes.{hunting}
 use Rattle.recordings.specs.declared.watch.Change.{Change}
 use Rattle.recordings.specs.declared.watch.Change.the-variants.{Nothing, Found, Lost}
-
-abbrev pub aligned : Mode → Bool
-aligned Hunting = false
-aligned OneFound = false
-aligned TwoFound = false
-aligned (Aligned m) = true
 
 -- aligned before and after: lost where it was and is not, found where it was not and is
 abbrev pub changeOf : Bool → Bool → Change

@@ -7,8 +7,9 @@ use receiver::State;
 ghost use mathlib.Core.Path.{_≡_};
 ghost use Prim.Native.Nat.{_-_, min};
 ghost use Rattle.receiver.specs.Modes.{hunting};
+ghost use Rattle.receiver.specs.Frame.{aligned};
 ghost use Rattle.receiver.specs.Feed.{feedOf};
-ghost use Rattle.recordings.specs.Watch.{aligned, changeOf, stretchOf};
+ghost use Rattle.recordings.specs.Watch.{changeOf, stretchOf};
 
 pub enum Change {
     Nothing,
