@@ -4,7 +4,6 @@ use crate::apart;
 use crate::apart::Apart;
 use crate::apart::Sink;
 use crate::files;
-use crate::help;
 use crate::say;
 use levels::table::Row;
 use receiver::Mode;
@@ -110,7 +109,7 @@ fn progress(at: usize, bytes: usize)
     if libc::isatty(libc::STDERR_FILENO) == 1 {
         io::write_all(libc::STDERR_FILENO, b"\r");
         io::print_decimal(libc::STDERR_FILENO, (at * 100 / bytes) as u64);
-        io::write_all(libc::STDERR_FILENO, b"% ");
+        io::write_all(libc::STDERR_FILENO, b"% \r");
         if at == bytes {
             io::write_all(libc::STDERR_FILENO, b"\r     \r");
         }

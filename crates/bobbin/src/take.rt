@@ -2,9 +2,7 @@
 use crate::apart;
 use crate::apart::Apart;
 use crate::files;
-use crate::files::Input;
 use crate::help;
-use crate::say;
 use levels::table::Row;
 use recordings::sizes;
 ghost use Prim.Native.Nat.{_≤_};
