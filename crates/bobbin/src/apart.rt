@@ -2,6 +2,7 @@
 // a tributary that do not fill a byte yet are kept for the next run, so that there is no gap.
 use crate::files;
 use crate::say;
+use demultiplex::Demultiplexed;
 use recordings::carry;
 use recordings::carry::Kept;
 use recordings::sizes;
@@ -70,6 +71,14 @@ pub fn run(level: u64, line: &[u8], notes: &mut [u8], buffer: &mut [u8], t: Apar
     requires { ⌜ length (now buffer) ≤ 65536 ⌝ }
 {
     let r = demultiplex::demultiplex(level, line, notes, buffer);
+    let u = add(r, notes, buffer, t);
+    only_if(r.refusal == 0, u)
+}
+
+// Adds up what these frames gave, and writes it.
+fn add(r: Demultiplexed, notes: &[u8], buffer: &[u8], t: Apart) -> Apart
+    requires { ⌜ length (now buffer) ≤ 65536 ⌝ }
+{
     let totals = t.totals;
     let sink = t.sink;
     let counts = r.counts;
@@ -77,7 +86,6 @@ pub fn run(level: u64, line: &[u8], notes: &mut [u8], buffer: &mut [u8], t: Apar
     let digits = four_sums(digits, counts);
     let stuffed = totals.stuffed;
     let stuffed = four_sums(stuffed, four_stuffed(notes));
-    let after = write(sink, notes, totals.frames, buffer, counts);
     Apart {
         totals: Totals {
             frames: sizes::plus(totals.frames, notes.len()),
@@ -86,7 +94,7 @@ pub fn run(level: u64, line: &[u8], notes: &mut [u8], buffer: &mut [u8], t: Apar
             alignment: sizes::plus(totals.alignment, r.alignment),
             groups: sizes::plus(totals.groups, r.groups),
         },
-        sink: after,
+        sink: write(sink, notes, totals.frames, buffer, counts),
     }
 }
 
