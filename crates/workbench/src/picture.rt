@@ -24,7 +24,7 @@ fn service_number(s: ServiceDigit) -> u8
     ensures { λ r. ⌜ r ≡ serviceNumber s ⌝ }
 {
     match s {
-        ServiceDigit::RemoteAlarm => 4,
+        ServiceDigit::RemoteAlarm => REMOTE_ALARM,
         ServiceDigit::FirstNational => 5,
         ServiceDigit::SecondNational => 6,
         ServiceDigit::ThirdNational => 7,
@@ -35,10 +35,10 @@ fn kind_number(kind: Kind) -> u8
     ensures { λ r. ⌜ r ≡ kindNumber kind ⌝ }
 {
     match kind {
-        Kind::Word => 0,
-        Kind::Control => 1,
-        Kind::Justification => 2,
-        Kind::Tributary => 3,
+        Kind::Word => WORD,
+        Kind::Control => CONTROL,
+        Kind::Justification => JUSTIFICATION,
+        Kind::Tributary => TRIBUTARY,
         Kind::Service(s) => service_number(s),
     }
 }
