@@ -87,6 +87,12 @@ fn counted(which: u8, count: usize) {
             return;
         }
     }
+    if which == TAKE {
+        if words::one_name(4, 5) {
+            help::wrong_call(b"NOTES and TRIBUTARIES are two files: give two names.");
+            return;
+        }
+    }
     if which == FIND {
         if count < 4 || 5 < count {
             help::wrong_call(

@@ -60,3 +60,12 @@ pub fn is_svg(word: &[u8]) -> bool {
     let first = n - 4;
     same(&word[first..n], b".svg")
 }
+
+// Whether two words of the call are the same.
+pub fn one_name(j: usize, k: usize) -> bool {
+    let mut a = io::buffer();
+    let m = os::arg(j, &mut a);
+    let mut b = io::buffer();
+    let n = os::arg(k, &mut b);
+    same(&a[..m], &b[..n])
+}

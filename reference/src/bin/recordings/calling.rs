@@ -5,7 +5,7 @@ use crate::case::{words, Case};
 const COMMANDS: [&str; 6] = ["demo", "frame", "send", "take", "find", "help"];
 
 /// Wrong calls. The files that they name are there.
-const WRONG: [&str; 21] = [
+const WRONG: [&str; 22] = [
     "",
     "bogus",
     "sen 2 notes tributaries out",
@@ -24,6 +24,7 @@ const WRONG: [&str; 21] = [
     "send 2 notes tributaries out more",
     "take 2 line out",
     "take 2 line out more yet-more",
+    "take 2 line out out",
     "find",
     "find 2",
     "find 2 line out more",
