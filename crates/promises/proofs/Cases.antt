@@ -1,39 +1,28 @@
--- The worked cases hold: one theorem over the whole table, by computation. And what their empty quarters stand for.
+-- The worked cases hold: one theorem over the whole table. A frame without digits is computed; zeros, however many, make the same line, and so
+-- multiplexing leaves it.
 use mathlib.Core.Path.{_≡_, refl, sym, _∙_, ap}
+use mathlib.Core.Bool.{false}
 use mathlib.Core.List.{List, [], _∷_}
 use Prim.Native.Nat.{ℕ, _+_, _*_, _-_, _/_, _%_, _^_, _≤_}
 use native.Mathlib.Omega.{arith}
 use native.Mathlib.Decide.{decLt}
 use native.Mathlib.Nat.{zero-add, zero-div}
-use lib.ListN.{length, getD, take, drop, replicate, length-take, List·getD-eq-default}
+use lib.Dec.{ltb}
+use lib.ListN.{length, getD, take, drop, replicate, length-replicate, length-take, List·getD-eq-default}
 use lib.Seq.{getD-take, getD-drop}
+use borrow.Author.Tests.{eq-eqb, le-ltb}
 use Rattle.digits.specs.Digits.{bytesOf, tab, digitsOf}
 use Rattle.digits.proofs.Laws.{digit-at, tab-of, tab-at, tab-length, zeros-at}
 use Rattle.levels.specs.declared.table.Row.{Row}
-use Rattle.levels.specs.Table.{levelOf}
+use Rattle.levels.specs.declared.table.Level.the-variants.{Of}
+use Rattle.levels.specs.Table.{levelOf, row2, row3, row4}
 use Rattle.levels.specs.Places.{firstSet, laterSet, kindOf, posOf}
-use Rattle.levels.specs.Order.{carries, decisions, before, placesOf, stuffedTo, countOf}
-use Rattle.levels.specs.Sizes.{quarterOf}
+use Rattle.levels.specs.Order.{carries, decisions, before, placesOf, stuffedTo, countOf, countsOf}
+use Rattle.levels.specs.Sizes.{quarterOf, sizeRefusal}
 use Rattle.levels.specs.Vote.{votesFor, voteBy}
 use Rattle.multiplex.specs.Line.{lineDigit, lineOf}
-use Rattle.multiplex.specs.Multiplex.{refusalOn, lineOn}
+use Rattle.multiplex.specs.Multiplex.{firstOver, firstFaulty, refusalOn, multiplexed, lineAfter}
 use Rattle.promises.specs.Cases.{Every, cases}
-
-pub all-hold : Every cases
-unfolding cases levelOf firstSet laterSet kindOf posOf carries before placesOf stuffedTo countOf votesFor voteBy lineDigit tab bytesOf
-all-hold = (
-  (refl, refl),
-  (
-    (refl, refl),
-    (
-      (refl, refl),
-      (
-        (refl, refl),
-        (refl, (refl, (refl, (refl, (refl, (refl, (refl, (refl, (refl, (refl, (refl, (refl, (refl, (refl, (refl, (refl, tt)))))))))))))))),
-      ),
-    ),
-  ),
-)
 
 -- every part of a list of zeros has 0 at every place
 part-at : (a b n k : ℕ) → getD (take a (drop b (replicate {A = ℕ} n 0))) k 0 ≡ 0
@@ -51,7 +40,7 @@ quarter-digit n j i =
     digit-at (quarterOf (replicate n 0) j) i ∙ rw (part-at q (j * q) n (i / 8), zero-div (2 ^ (7 - i % 8)))
 
 -- quarters of zeros, however long, make the line that the cases name
-pub zero-quarters : (row : Row) (notes : List ℕ) (tributary : ℕ → List ℕ) (bytes : ℕ) → ((j i : ℕ) → getD (tributary j) i 0 ≡ 0)
+zero-quarters : (row : Row) (notes : List ℕ) (tributary : ℕ → List ℕ) (bytes : ℕ) → ((j i : ℕ) → getD (tributary j) i 0 ≡ 0)
     → lineOf row notes tributary bytes ≡ lineOf row notes (λ (j : ℕ). []) bytes
 unfolding lineDigit
 zero-quarters row notes tributary bytes zero-at =
@@ -61,7 +50,36 @@ zero-quarters row notes tributary bytes zero-at =
     (tab-of (tab n 0 f) n (lineDigit row notes (λ (j : ℕ). [])) (tab-length n 0 f)
     (λ p h. tab-at n 0 f p h ∙ rw (zero-add p, zero-at (p % 4) (before row (decisions notes (p % 4)) (p % 4) (p / 4)))))
 
--- so an accepted call on a buffer of zeros leaves the frame of the case
-pub zero-buffer : (row : Row) (line notes : List ℕ) (n : ℕ) → refusalOn row (length line) notes (length (replicate {A = ℕ} n 0)) ≡ 0
-    → lineOn row line notes (replicate n 0) ≡ lineOf row notes (λ (j : ℕ). []) (length line)
-zero-buffer row line notes n e = rw e (zero-quarters row notes (λ (j : ℕ). digitsOf (quarterOf (replicate n 0) j)) (length line) (quarter-digit n))
+-- so a frame that computes, of a note that the level has, is what the call makes
+sent-frame : (level : ℕ) (row : Row) → levelOf level ≡ Of row → (note : ℕ) (bytes counts : List ℕ)
+    → row .bytes % row .bytes ≡ 0 → row .bytes / row .bytes ≡ 1 → firstFaulty row (note ∷ []) ≡ 1
+    → lineOf row (note ∷ []) (λ (j : ℕ). []) (row .bytes) ≡ bytes → countsOf row (note ∷ []) 1 ≡ counts
+    → (line : List ℕ) (q : ℕ) → length line ≡ row .bytes → row .n ≤ 8 * q
+    → (multiplexed level (length line) (note ∷ []) (4 * q) ≡ record { refusal = 0; frame = 0; counts = counts })
+    × (lineAfter level line (note ∷ []) (replicate (4 * q) 0) ≡ bytes)
+unfolding refusalOn sizeRefusal
+sent-frame level row e note bytes counts whole one fits is are line q len room =
+    let zeros = length-replicate {A = ℕ} (4 * q) 0 in
+    let quarters : 4 * q % 4 ≡ 0 = omega arith in
+    let enough : ltb (8 * (4 * q / 4)) (1 * row .n) ≡ false = le-ltb (8 * (4 * q / 4)) (1 * row .n) (omega arith) in
+    let ok : refusalOn row (length line) (note ∷ []) (4 * q) ≡ 0 = rw (len, whole, one, quarters, enough, fits) in
+    let made = rw zeros at (zero-quarters row (note ∷ []) (λ (j : ℕ). digitsOf (quarterOf (replicate (4 * q) 0) j)) (length line) (quarter-digit (4 * q))) in (
+      rw (e, eq-eqb (refusalOn row (length line) (note ∷ []) (4 * q)) 0 ok) (ap (λ (c : List ℕ). record { refusal = 0; frame = 0; counts = c }) are),
+      rw (e, zeros, eq-eqb (refusalOn row (length line) (note ∷ []) (4 * q)) 0 ok) (made ∙ rw len is),
+    )
+
+pub all-hold : Every cases
+unfolding cases levelOf firstSet laterSet kindOf posOf carries before placesOf stuffedTo countOf votesFor voteBy lineDigit tab bytesOf firstOver
+all-hold = (
+  sent-frame 2 row2 refl 0x00 _ _ refl refl refl refl refl,
+  (
+    sent-frame 2 row2 refl 0x3F _ _ refl refl refl refl refl,
+    (
+      sent-frame 3 row3 refl 0x01 _ _ refl refl refl refl refl,
+      (
+        sent-frame 4 row4 refl 0xFF _ _ refl refl refl refl refl,
+        (refl, (refl, (refl, (refl, (refl, (refl, (refl, (refl, (refl, (refl, (refl, (refl, (refl, (refl, (refl, (refl, tt)))))))))))))))),
+      ),
+    ),
+  ),
+)

@@ -2,14 +2,14 @@
 use mathlib.Core.Path.{_≡_}
 use mathlib.Core.Bool.{Bool, true, false}
 use mathlib.Core.List.{List, [], _∷_}
-use Prim.Native.Nat.{ℕ, _-_, _/_}
-use lib.ListN.{getD, set, replicate}
+use Prim.Native.Nat.{ℕ, _*_, _-_, _/_, _≤_}
+use lib.ListN.{length, getD, set, replicate}
 use Rattle.levels.specs.declared.table.Row.{Row}
 use Rattle.levels.specs.Table.{levelOf}
 use Rattle.levels.specs.Sizes.{onLevel}
-use Rattle.levels.specs.Order.{placesOf, countsOf}
+use Rattle.levels.specs.Order.{placesOf}
 use Rattle.levels.specs.Vote.{voteOf}
-use Rattle.multiplex.specs.Line.{lineOf}
+use Rattle.multiplex.specs.Multiplex.{multiplexed, lineAfter}
 
 -- a byte of a frame and what it holds
 pub record Byte : Type 0 where
@@ -32,11 +32,15 @@ pub data Case : Type 0 where
   -- a control group: whether it reads stuffed
   group : List ℕ → Bool → Case
 
--- what a case claims. A quarter that holds no 1 is written [] here: proofs/Cases.antt shows that zeros, however many, make the same line
+-- what a case claims. Of a frame: multiplexing, lent any line of its length and any buffer of zeros with room, is accepted, answers these
+-- counts and leaves these bytes
 abbrev pub Claim : Case → Type 0
 Claim (frame level note bytes counts) =
     onLevel (levelOf level)
-    (λ (row : Row). (lineOf row (note ∷ []) (λ (j : ℕ). []) (row .bytes) ≡ bytesWith (row .bytes) bytes) × (countsOf row (note ∷ []) 1 ≡ counts))
+    (λ (row : Row).
+    (line : List ℕ) (q : ℕ) → length line ≡ row .bytes → row .n ≤ 8 * q
+    → (multiplexed level (length line) (note ∷ []) (4 * q) ≡ record { refusal = 0; frame = 0; counts = counts })
+    × (lineAfter level line (note ∷ []) (replicate (4 * q) 0) ≡ bytesWith (row .bytes) bytes))
     ⊥
 Claim (digit level tributary number stuffed place) =
     onLevel (levelOf level) (λ (row : Row). getD (placesOf row (λ (f : ℕ). stuffed) (tributary - 1) (row .digits / 4)) number 0 ≡ place) ⊥
