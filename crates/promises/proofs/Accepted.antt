@@ -2,14 +2,14 @@
 use mathlib.Core.Path.{_≡_, refl, sym, _∙_, ap}
 use mathlib.Core.Bool.{Bool, cond, true, false}
 use mathlib.Core.List.{List, [], _∷_, _++_, append-assoc, append-nil}
-use Prim.Native.Nat.{ℕ, zero, suc, _+_, _*_, _-_, _/_, _^_, _≤_, _<_}
+use Prim.Native.Nat.{ℕ, zero, suc, _+_, _*_, _-_, _/_, _%_, _^_, _≤_, _<_}
 use native.Mathlib.Omega.{arith}
 use native.Mathlib.Decide.{ℕ-discrete}
-use native.Mathlib.Nat.{mul-left-comm, not-suc-le-zero}
+use native.Mathlib.Nat.{mul-left-comm, not-suc-le-zero, div-add-mod'}
 use lib.Dec.{eqb, ltb, leb}
 use lib.ListN.{length, getD, take, replicate, length-append, length-map, length-replicate}
 use lib.Seq.{take-at}
-use borrow.Author.Tests.{eq-eqb, ne-eqb, ltb-false, leb-false}
+use borrow.Author.Tests.{eq-eqb, ne-eqb, le-ltb, ltb-false, leb-false}
 use Rattle.digits.specs.Digits.{digitsOf, Binary}
 use Rattle.digits.proofs.Laws.{digits-length, digits-binary, digits-of-bytes, bytes-length, tab-length, map-binary, binary-append, zeros-binary}
 use Rattle.levels.specs.declared.table.Row.{Row}
@@ -35,7 +35,7 @@ use Rattle.demultiplex.specs.Demultiplex.{demultiplexed, bufferAfter}
 use Rattle.demultiplex.specs.Demultiplex as read
 use Rattle.promises.specs.Damage.{lineDigits}
 use Rattle.promises.specs.Carried.{Sound, digitsRead}
-use Rattle.promises.specs.Calls.{Lent, SendAccepted, sentLine, sentCounts, ReadAccepted, readNotes, readDigits}
+use Rattle.promises.specs.Calls.{Lent, SendAccepted, sentLine, sentCounts, ReadAccepted, readNotes, readDigits, LentFor}
 use Rattle.promises.proofs.Lists.{of-four, quarter-at}
 use Rattle.promises.proofs.RoundTrip.{line-binary}
 
@@ -140,6 +140,14 @@ taken-length row sh notes ds F j hj =
     ∙ places-length row (decisions notes j) j (F * columns row)
     ∙ omega (arith, line-count row sh j hj (decisions notes j) F)
 
+-- lengths that are what accepted lengths say are refused by no test
+no-test : (row : Row) (line notes buffer : ℕ) → Accepted row line notes buffer → sizeRefusal row line notes buffer ≡ 0
+unfolding sizeRefusal
+no-test row line notes buffer sizes =
+    let whole : line % row .bytes ≡ 0 = omega (arith, sizes .frames, div-add-mod' line (row .bytes)) in
+    let fours : buffer % 4 ≡ 0 = omega (arith, sizes .quarters) in
+    rw (whole, le-ltb 64 (framesOf row line) (sizes .few), eq-eqb notes (framesOf row line) (sizes .noted), fours, le-ltb (8 * (buffer / 4)) (framesOf row line * row .n) (sizes .room))
+
 -- the digits of a line of accepted length are those of its frames
 line-places : (row : Row) → Shared row → (line notes buffer : ℕ) → Accepted row line notes buffer → 8 * line ≡ notes * row .digits
 line-places row sh line notes buffer sizes =
@@ -149,6 +157,15 @@ line-places row sh line notes buffer sizes =
 module _ (level : ℕ) (row : Row) (e : levelOf level ≡ Of row) where
   pub shared : Shared row
   shared = shared-row level row e
+
+  -- a reading of a line as long as that of an accepted call, lent enough for as many frames, is accepted, whatever it is lent
+  pub read-accepted : (one other : Lent) → Accepted row (length (one .line)) (length (one .notes)) (length (one .buffer))
+      → length (other .line) ≡ length (one .line) → LentFor (row .n) one other → ReadAccepted level other
+  read-accepted one other sizes same lent =
+      let F : framesOf row (length (other .line)) ≡ length (one .notes) = ap (λ (n : ℕ). framesOf row n) same ∙ sym (sizes .noted) in
+      let found : Accepted row (length (other .line)) (length (other .notes)) (length (other .buffer)) =
+      record { frames = rw same (sizes .frames); few = rw same (sizes .few); noted = lent .noted ∙ sym F; quarters = omega (arith, lent .quarters); room = rw F (lent .room) } in
+      rw (e, no-test row (length (other .line)) (length (other .notes)) (length (other .buffer)) found)
 
   -- an accepted send
   module _ (c : Lent) (ok : SendAccepted level c) where
@@ -168,11 +185,11 @@ module _ (level : ℕ) (row : Row) (e : levelOf level ≡ Of row) where
     unfolding refusalOn
     tests = no-refusal (sizeRefusal row (length (c .line)) F (length (c .buffer))) (ltb (firstFaulty row (c .notes)) F) unrefused
 
-    sizes : Accepted row (length (c .line)) F (length (c .buffer))
-    sizes = accepted row (length (c .line)) F (length (c .buffer)) (tests .0)
+    pub send-sizes : Accepted row (length (c .line)) F (length (c .buffer))
+    send-sizes = accepted row (length (c .line)) F (length (c .buffer)) (tests .0)
 
     pub send-places : 8 * length (c .line) ≡ F * row .digits
-    send-places = line-places row shared (length (c .line)) F (length (c .buffer)) sizes
+    send-places = line-places row shared (length (c .line)) F (length (c .buffer)) send-sizes
 
     pub send-sound : Sound row F (c .notes) tributary
     send-sound =
@@ -180,7 +197,7 @@ module _ (level : ℕ) (row : Row) (e : levelOf level ≡ Of row) where
           all-noted = refl;
           notes-fit = none-over (2 ^ (5 + row .nationals)) (c .notes) (ltb-false (firstFaulty row (c .notes)) F (tests .1));
           digits = λ j hj. digits-binary (quarterOf (c .buffer) j);
-          room = λ j hj. rw (digits-length, quarter-length (c .buffer) j hj) (line-few row (c .notes) (c .buffer) (c .line) sizes .1);
+          room = λ j hj. rw (digits-length, quarter-length (c .buffer) j hj) (line-few row (c .notes) (c .buffer) (c .line) send-sizes .1);
         }
 
     pub send-line : digitsOf (sentLine level c) ≡ lineDigits row (c .notes) tributary F
@@ -212,14 +229,11 @@ module _ (level : ℕ) (row : Row) (e : levelOf level ≡ Of row) where
     accepted-size : size ≡ 0
     accepted-size = zero-refusal (λ (r : Demultiplexed). r .refusal) size (read.received row notes ds frames) (read.refusedWith size) refl (rw e at ok)
 
-    read-sizes : Accepted row (length (c .line)) frames (length (c .buffer))
+    pub read-sizes : Accepted row (length (c .line)) frames (length (c .buffer))
     read-sizes = accepted row (length (c .line)) frames (length (c .buffer)) accepted-size
 
     pub read-places : 8 * length (c .line) ≡ frames * row .digits
     read-places = line-places row shared (length (c .line)) frames (length (c .buffer)) read-sizes
-
-    pub read-frames : framesOf row (length (c .line)) ≡ frames
-    read-frames = sym (read-sizes .noted)
 
     pub read-answer : demultiplexed level (c .line) frames (length (c .buffer)) ≡ read.received row notes ds frames
     read-answer = rw (e, eq-eqb size 0 accepted-size)

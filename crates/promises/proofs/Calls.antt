@@ -1,40 +1,44 @@
--- Demand 3 and the round trip as theorems on the two calls. What is assumed of a call is that it was accepted, and nothing else: level,
--- lengths, room and notes follow from that. Of two sends, that their lines have one length: one level and one frame count.
+-- Demand 3 and the round trip as theorems on the two calls. What is assumed of a send is that it was accepted, and nothing else: level,
+-- lengths, room and notes follow from that, and of two sends whose damaged lines are equal, that they have one frame count. A reading that is
+-- lent enough for the send's frames is accepted.
 use mathlib.Core.Path.{_≡_, refl, sym, _∙_, ap}
 use mathlib.Core.Logic.{_≢_}
 use mathlib.Core.List.{List}
-use Prim.Native.Nat.{ℕ, _*_, _<_}
+use Prim.Native.Nat.{ℕ, _*_, _%_, _<_}
 use native.Mathlib.Omega.{arith}
 use native.Mathlib.Nat.{eq-of-mul-eq-mul-right}
 use lib.Dec.{lit<}
 use lib.ListN.{length, getD}
+use borrow.Author.Tests.{ne-eqb}
 use Rattle.digits.specs.Digits.{digitsOf}
 use Rattle.digits.proofs.Laws.{digits-length, digits-binary, tab-length}
 use Rattle.levels.specs.declared.table.Row.{Row}
-use Rattle.levels.specs.declared.table.Level.the-variants.{Of}
+use Rattle.levels.specs.declared.table.Level.{Level}
+use Rattle.levels.specs.declared.table.Level.the-variants.{Of, NoSuchLevel}
 use Rattle.levels.specs.Table.{Shared, levelOf}
+use Rattle.levels.specs.Sizes.{onLevel}
 use Rattle.levels.specs.Order.{decisions, countOf, countsOf}
 use Rattle.levels.proofs.Positions.{in-frame}
 use Rattle.multiplex.specs.Line.{lineDigit}
 use Rattle.demultiplex.specs.declared.Demultiplexed.{Demultiplexed}
 use Rattle.demultiplex.specs.Notes.{notesOf}
 use Rattle.demultiplex.specs.Demultiplex.{demultiplexed, received}
-use Rattle.promises.specs.Damage.{Damage, lineDigits}
+use Rattle.promises.specs.Damage.{Damage, lineDigits, SameBut}
 use Rattle.promises.specs.Carried.{decisionRead, digitsRead, countRead, Returned}
-use Rattle.promises.specs.Calls.{Lent, SendAccepted, sentLine, sentCounts, sentDigits, ReadAccepted, readNotes, readCounts, readDigits, DamageAt, SameButAt, SendsSame, SendReturned, SendBack, ReadsSame}
+use Rattle.promises.specs.Calls.{Lent, SendAccepted, sentLine, sentCounts, sentDigits, ReadAccepted, readNotes, readCounts, readDigits, LentFor, LentAt, DamageAt, SameButAt, SendsSame, SendReturned, SendBack, ReadsSame}
+use Rattle.promises.specs.Plain.{SameOutside}
 use Rattle.promises.proofs.Recovered.{damage-recovered}
 use Rattle.promises.proofs.Others.{others-untouched}
 use Rattle.promises.proofs.RoundTrip.{round-trip}
-use Rattle.promises.proofs.Accepted.{send-level, read-level, shared, count-at, tributary, send-places, send-sound, send-line, send-counts, read-places, read-frames, read-answer, read-notes, read-digits}
+use Rattle.promises.proofs.Accepted.{send-level, read-level, shared, count-at, tributary, send-sizes, send-places, send-sound, send-line, send-counts, read-accepted, read-sizes, read-places, read-answer, read-notes, read-digits}
 
 -- the four counts are the same where each is
 counts-same : (row : Row) (a b : List ℕ) (F : ℕ) → ((j : ℕ) → j < 4 → countOf row (decisions a j) F ≡ countOf row (decisions b j) F) → countsOf row a F ≡ countsOf row b F
 counts-same row a b F h = rw (h 0 (lit< tt), h 1 (lit< tt), h 2 (lit< tt), h 3 (lit< tt))
 
--- lines of one length have one frame count
-same-frames : (row : Row) → Shared row → (F G m n : ℕ) → 8 * m ≡ F * row .digits → 8 * n ≡ G * row .digits → m ≡ n → F ≡ G
-same-frames row sh F G m n f g e =
-    eq-of-mul-eq-mul-right (row .digits) (omega (arith, in-frame row sh 0 0 (omega (arith, sh .later-set)) (omega (arith, sh .room)))) F G (omega arith)
+-- lines of as many digits have one frame count
+same-frames : (row : Row) → Shared row → (F G : ℕ) → F * row .digits ≡ G * row .digits → F ≡ G
+same-frames row sh = eq-of-mul-eq-mul-right (row .digits) (omega (arith, in-frame row sh 0 0 (omega (arith, sh .later-set)) (omega (arith, sh .room))))
 
 module _ (level : ℕ) (row : Row) (e : levelOf level ≡ Of row) where
   abbrev sh : Shared row
@@ -68,11 +72,13 @@ module _ (level : ℕ) (row : Row) (e : levelOf level ≡ Of row) where
       (rw (send-line level row e c ok) at (damage-on (c .notes) (sentLine level c) received d))
       (send-sound level row e c ok .room))
 
-  sends-on : (a b : Lent) → SendAccepted level a → SendAccepted level b → length (a .line) ≡ length (b .line) → (received other : List ℕ)
+  sends-on : (a b : Lent) → SendAccepted level a → SendAccepted level b → (received other : List ℕ)
       → DamageAt level (a .notes) (sentLine level a) received → DamageAt level (b .notes) (sentLine level b) other → received ≡ other → SendsSame level a b
-  sends-on a b ok-a ok-b len received other da db equal =
+  sends-on a b ok-a ok-b received other da db equal =
       let one = damaged a ok-a received da in
-      let F = same-frames row sh (length (b .notes)) (length (a .notes)) (length (b .line)) (length (a .line)) (send-places level row e b ok-b) (send-places level row e a ok-a) (sym len) in
+      let size-a = damage-on (a .notes) (sentLine level a) received da .size in
+      let size-b = damage-on (b .notes) (sentLine level b) other db .size in
+      let F = same-frames row sh (length (b .notes)) (length (a .notes)) (sym size-b ∙ ap (λ (l : List ℕ). length (digitsOf l)) (sym equal) ∙ size-a) in
       let two : AsRead b (length (a .notes)) (digitsOf received) = rw (← F, equal) (damaged b ok-b other db) in
       record {
         decided = λ j f hj hf. one .decided j f hj hf ∙ sym (two .decided j f hj hf);
@@ -82,41 +88,50 @@ module _ (level : ℕ) (row : Row) (e : levelOf level ≡ Of row) where
 
   -- an accepted reading of a line of F frames
   record Reads (c : Lent) (F : ℕ) (ds : List ℕ) : Type 0 where
+    accepted : ReadAccepted level c
     noted : readNotes level c ≡ notesOf row ds F
     answered : demultiplexed level (c .line) (length (c .notes)) (length (c .buffer)) ≡ received row (notesOf row ds F) ds F
     digits : (j : ℕ) → j < 4 → readDigits level c j ≡ digitsRead row F ds j
 
-  reads : (c : Lent) → ReadAccepted level c → (F : ℕ) → length (digitsOf (c .line)) ≡ F * row .digits → Reads c F (digitsOf (c .line))
-  reads c ok F h =
+  reads : (c : Lent) → ReadAccepted level c → (F : ℕ) → length (c .notes) ≡ F → Reads c F (digitsOf (c .line))
+  reads c ok F same =
       let ds = digitsOf (c .line) in
-      let same = same-frames row sh (length (c .notes)) F (length (c .line)) (length (c .line)) (read-places level row e c ok) (sym (digits-length (c .line)) ∙ h) refl in
       record {
+        accepted = ok;
         noted = read-notes level row e c ok ∙ ap (λ (n : ℕ). notesOf row ds n) same;
         answered = read-answer level row e c ok ∙ ap (λ (n : ℕ). received row (notesOf row ds n) ds n) same;
         digits = λ j hj. read-digits level row e c ok j hj ∙ ap (λ (n : ℕ). digitsRead row n ds j) same;
       }
 
+  -- a reading of a line of the send's frames
+  reading : (send read : Lent) → SendAccepted level send → LentFor (row .n) send read → length (digitsOf (read .line)) ≡ length (send .notes) * row .digits
+      → Reads read (length (send .notes)) (digitsOf (read .line))
+  reading send read ok lent size =
+      let same : length (read .line) ≡ length (send .line) = omega (arith, digits-length (read .line), send-places level row e send ok, size) in
+      reads read (read-accepted level row e send read (send-sizes level row e send ok) same lent) (length (send .notes)) (lent .noted)
+
   returns : (send read : Lent) (ds : List ℕ) → AsRead send (length (send .notes)) ds → Reads read (length (send .notes)) ds → SendReturned level send read
   returns send read ds sent got =
       record {
+        accepted = got .accepted;
         decided = λ j f hj hf. ap (λ (notes : List ℕ). decisions notes j f) (got .noted) ∙ sym (sent .decided j f hj hf);
         counted = ap (λ (r : Demultiplexed). r .counts) (got .answered) ∙ sym (sent .counted);
         digits = λ j hj. got .digits j hj ∙ sym (sent .digits j hj);
       }
 
-  returned-on : (send read : Lent) → SendAccepted level send → ReadAccepted level read → DamageAt level (send .notes) (sentLine level send) (read .line)
+  returned-on : (send read : Lent) → SendAccepted level send → LentFor (row .n) send read → DamageAt level (send .notes) (sentLine level send) (read .line)
       → SendReturned level send read
-  returned-on send read ok ok′ d =
+  returned-on send read ok lent d =
       returns send read (digitsOf (read .line)) (damaged send ok (read .line) d)
-      (reads read ok′ (length (send .notes)) (damage-on (send .notes) (sentLine level send) (read .line) d .size))
+      (reading send read ok lent (damage-on (send .notes) (sentLine level send) (read .line) d .size))
 
-  back-on : (send read : Lent) → SendAccepted level send → ReadAccepted level read → read .line ≡ sentLine level send → SendBack level send read
-  back-on send read ok ok′ same =
+  back-on : (send read : Lent) → SendAccepted level send → LentFor (row .n) send read → read .line ≡ sentLine level send → SendBack level send read
+  back-on send read ok lent same =
       let F = length (send .notes) in
       let line = lineDigits row (send .notes) (given send ok) F in
       let trip = round-trip row sh F (send .notes) (given send ok) (send-sound level row e send ok) in
       let ds : digitsOf (read .line) ≡ line = ap digitsOf same ∙ send-line level row e send ok in
-      let got : Reads read F line = rw (← ds) (reads read ok′ F (ap length ds ∙ tab-length (F * row .digits) 0 (lineDigit row (send .notes) (given send ok)))) in
+      let got : Reads read F line = rw (← ds) (reading send read ok lent (ap length ds ∙ tab-length (F * row .digits) 0 (lineDigit row (send .notes) (given send ok)))) in
       record {
         noted = got .noted ∙ trip .noted;
         returned = returns send read line (as-read send ok line (trip .returned)) got;
@@ -124,38 +139,52 @@ module _ (level : ℕ) (row : Row) (e : levelOf level ≡ Of row) where
         unanimous = ap (λ (r : Demultiplexed). r .groups) (got .answered) ∙ trip .unanimous;
       }
 
-  others-on : (j k : ℕ) (a b : Lent) → ReadAccepted level a → ReadAccepted level b → length (a .line) ≡ length (b .line) → SameButAt level j (a .line) (b .line)
+  others-on : (j k : ℕ) (a b : Lent) → ReadAccepted level a → LentFor (row .n) a b → length (a .line) ≡ length (b .line) → SameOutside j (a .line) (b .line)
       → k < 4 → k ≢ j → ReadsSame level k a b
-  others-on j k a b ok-a ok-b len same hk other =
+  others-on j k a b ok lent len same hk other =
       let F = length (a .notes) in
       let da = digitsOf (a .line) in
       let db = digitsOf (b .line) in
-      let places = digits-length (a .line) ∙ read-places level row e a ok-a in
-      let out = others-untouched row sh F j da db (digits-binary (a .line)) (digits-binary (b .line)) (rw (e, read-frames level row e a ok-a) at same) k hk other in
-      let one = reads a ok-a F places in
-      let two = reads b ok-b F (omega (arith, digits-length (a .line), digits-length (b .line), places)) in
+      let places = digits-length (a .line) ∙ read-places level row e a ok in
+      let out = others-untouched row sh F j da db (digits-binary (a .line)) (digits-binary (b .line)) (λ p h. same p (omega (arith, places))) k hk other in
+      let one = reads a ok F refl in
+      let two = reads b (read-accepted level row e a b (read-sizes level row e a ok) (sym len) lent) F (lent .noted) in
       let counts : (c : Lent) (ds : List ℕ) → Reads c F ds → getD (readCounts level c) k 0 ≡ countRead row F ds k = λ c ds got. ap (λ (r : Demultiplexed). getD (r .counts) k 0) (got .answered) ∙ count-at row (notesOf row ds F) F k hk in
       record {
+        accepted = two .accepted;
         decided = λ f hf. rw (one .noted, two .noted) (out .decided f hf);
         counted = counts a da one ∙ out .counted ∙ sym (counts b db two);
         digits = one .digits k hk ∙ out .digits ∙ sym (two .digits k hk);
       }
 
--- two accepted sends of one level and one frame count, whose damaged lines are equal, carried the same
-pub sends-same : (level : ℕ) (a b : Lent) → SendAccepted level a → SendAccepted level b → length (a .line) ≡ length (b .line) → (received other : List ℕ)
+-- two accepted sends, whose damaged lines are equal, carried the same: one level and one frame count, which equal lines have
+pub sends-same : (level : ℕ) (a b : Lent) → SendAccepted level a → SendAccepted level b → (received other : List ℕ)
     → DamageAt level (a .notes) (sentLine level a) received → DamageAt level (b .notes) (sentLine level b) other → received ≡ other → SendsSame level a b
 sends-same level a b ok-a ok-b = let on = send-level level a ok-a in sends-on level (on .0) (on .1) a b ok-a ok-b
 
--- and an accepted reading of the damaged line returns them
-pub send-returned : (level : ℕ) (send read : Lent) → SendAccepted level send → ReadAccepted level read → DamageAt level (send .notes) (sentLine level send) (read .line)
+-- and a reading of the damaged line, lent enough, returns them
+pub send-returned : (level : ℕ) (send read : Lent) → SendAccepted level send → LentAt level send read → DamageAt level (send .notes) (sentLine level send) (read .line)
     → SendReturned level send read
-send-returned level send read ok = let on = send-level level send ok in returned-on level (on .0) (on .1) send read ok
+send-returned level send read ok lent = let on = send-level level send ok in returned-on level (on .0) (on .1) send read ok (rw (on .1) at lent)
 
--- the round trip, for an accepted send and an accepted reading of its line
-pub send-back : (level : ℕ) (send read : Lent) → SendAccepted level send → ReadAccepted level read → read .line ≡ sentLine level send → SendBack level send read
-send-back level send read ok = let on = send-level level send ok in back-on level (on .0) (on .1) send read ok
+-- the round trip, for an accepted send and a reading of its line
+pub send-back : (level : ℕ) (send read : Lent) → SendAccepted level send → LentAt level send read → read .line ≡ sentLine level send → SendBack level send read
+send-back level send read ok lent = let on = send-level level send ok in back-on level (on .0) (on .1) send read ok (rw (on .1) at lent)
 
--- whatever is changed in tributary j's own places of any line, every other tributary k comes out as before
-pub others-come-out : (level j k : ℕ) (a b : Lent) → ReadAccepted level a → ReadAccepted level b → length (a .line) ≡ length (b .line)
+-- whatever is changed in the places of any line that have the remainder j, every other tributary k comes out as before
+pub others-outside : (level j k : ℕ) (a b : Lent) → ReadAccepted level a → LentAt level a b → length (a .line) ≡ length (b .line)
+    → SameOutside j (a .line) (b .line) → k < 4 → k ≢ j → ReadsSame level k a b
+others-outside level j k a b ok lent = let on = read-level level a ok in others-on level (on .0) (on .1) j k a b ok (rw (on .1) at lent)
+
+-- lines that differ in tributary j's own places only have the same digit at every place with another remainder
+pub own-outside : (level j : ℕ) (line other : List ℕ) → SameButAt level j line other → SameOutside j line other
+own-outside level j line other same = go (levelOf level) same
+  where
+    go : (l : Level) → onLevel l (λ (row : Row). SameBut row j (digitsOf line) (digitsOf other)) ⊥ → SameOutside j line other
+    go (Of row) same p h n = same p h (rw (ne-eqb (p % 4) j n))
+    go NoSuchLevel same p h n = absurd same
+
+-- so, whatever is changed in tributary j's own places
+pub others-come-out : (level j k : ℕ) (a b : Lent) → ReadAccepted level a → LentAt level a b → length (a .line) ≡ length (b .line)
     → SameButAt level j (a .line) (b .line) → k < 4 → k ≢ j → ReadsSame level k a b
-others-come-out level j k a b ok-a = let on = read-level level a ok-a in others-on level (on .0) (on .1) j k a b ok-a
+others-come-out level j k a b ok lent len same = others-outside level j k a b ok lent len (own-outside level j (a .line) (b .line) same)

@@ -2,43 +2,37 @@
 -- allow is damage as the row defines it, and the places that they give to a tributary are its own.
 use mathlib.Core.Path.{_≡_, refl, sym, _∙_, ap}
 use mathlib.Core.Logic.{_≢_}
-use mathlib.Core.Bool.{Bool, true, false, true≢false}
+use mathlib.Core.Bool.{Bool, true, false, true≢false, _&&_}
 use mathlib.Core.List.{List, [], _∷_, map}
 use Prim.Native.Nat.{ℕ, zero, suc, _+_, _*_, _-_, _/_, _%_, _≤_, _<_}
 use native.Mathlib.Omega.{arith}
-use native.Mathlib.Decide.{decLe, decLt}
-use native.Mathlib.Nat.{add-mul, add-zero, div-add-mod', mod-lt, lt-of-mul-lt-mul-right}
+use native.Mathlib.Decide.{decLe, decLt, ℕ-discrete}
+use native.Mathlib.Nat.{add-mul, zero-mul, div-add-mod', div-lt-iff-lt-mul, mod-lt, lt-of-mul-lt-mul-right}
+use lib.Dec.{eqb, leb}
 use lib.ListN.{length, getD}
-use borrow.Author.Tests.{eq-eqb, le-leb, lt-leb, le-ltb}
+use lib.Arith.{digits-lt}
+use borrow.Author.Tests.{le-leb, lt-leb}
 use Rattle.digits.specs.Digits.{digitsOf, tab}
-use Rattle.digits.proofs.Laws.{digits-binary, digits-length, map-append}
+use Rattle.digits.proofs.Laws.{digits-binary, map-append, tab-at, tab-length}
 use Rattle.levels.specs.declared.table.Row.{Row}
 use Rattle.levels.specs.declared.table.Level.the-variants.{Of}
 use Rattle.levels.specs.declared.places.Kind.{Kind}
 use Rattle.levels.specs.declared.places.Kind.the-variants.{Word, Service, Control, Justification, Tributary}
 use Rattle.levels.specs.Table.{Shared, levelOf, row2, row3, row4}
-use Rattle.levels.specs.Places.{isOwn, kindOf, kindAt, posOf}
+use Rattle.levels.specs.Places.{isOwn, kindOf, posOf}
 use Rattle.levels.specs.Order.{decisions}
 use Rattle.levels.specs.Vote.{groupOf}
 use Rattle.levels.proofs.Positions.{stands, pos-of-sum, in-frame}
 use Rattle.levels.proofs.Columns.{frame-start}
-use Rattle.levels.proofs.Ways.{kind-control, kind-justification}
-use Rattle.multiplex.proofs.Own.{head-not-own, own-past}
-use Rattle.promises.specs.Damage.{counted, kept, liberty, libertyAt, allowed, Damage, ownKind, SameBut}
+use Rattle.levels.proofs.Ways.{kind-first, kind-control, kind-justification, kind-between, kind-after}
+use Rattle.multiplex.proofs.Own.{head-not-own, head-pos, own-past}
+use Rattle.promises.specs.Damage.{counted, kept, liberty, libertyAt, allowed, Damage, ownPlace}
 use Rattle.promises.specs.Calls.{Lent, sentLine, DamageAt}
-use Rattle.promises.specs.Plain.{inFour, inFours, digitsAfter, Changed, SameOutside, DemandThree}
+use Rattle.promises.specs.Plain.{OutOfFours, digitsAfter, Changed, DemandThree}
 use Rattle.promises.proofs.Lists.{tab-more}
 use Rattle.promises.proofs.Sent.{whose}
-use Rattle.promises.proofs.Accepted.{shared, read-places, read-frames}
-use Rattle.promises.proofs.Calls.{sends-same, send-returned, others-come-out}
-
--- demand 3's own places are document 01's
-pub own-kinds : (k : Kind) → ownKind k ≡ isOwn k
-own-kinds Word = refl
-own-kinds (Service s) = refl
-own-kinds Control = refl
-own-kinds Justification = refl
-own-kinds Tributary = refl
+use Rattle.promises.proofs.Accepted.{shared}
+use Rattle.promises.proofs.Calls.{sends-same, send-returned, others-outside}
 
 -- what is kept is an own place, and no control digit, and no stuffing digit
 kept-own : (k : Kind) (st : Bool) → liberty k st ≡ kept → isOwn k ≡ true
@@ -55,43 +49,29 @@ kept-carried false e = refl
 kept-counted : counted ≡ kept → ⊥
 kept-counted e = let z : _≡_ {A = ℕ} 0 1 = cc in omega arith
 
--- place r is in none of these fours
-out-of-four : (r c : ℕ) → (c ≤ r → r < c + 4 → ⊥) → inFour r c ≡ false
-out-of-four r c n =
-    elim (decLe c r) [
-      | yes lo ↦
-          elim (decLt r (c + 4)) [
-            | yes hi ↦ absurd (n lo hi)
-            | no hi ↦ rw (le-leb c r lo) (le-ltb r (c + 4) (omega arith))
-          ]
-      | no lo ↦ rw (lt-leb c r (omega arith))
-    ]
-
-none-in : (r k p : ℕ) (at : ℕ → ℕ) → ((i : ℕ) → i < k → inFour r (at (p + i)) ≡ false) → inFours r (tab k p at) ≡ false
-unfolding tab
-none-in r zero p at h = refl
-none-in r (suc k) p at h =
-    rw (rw (add-zero p) at (h 0 (omega arith)))
-    (none-in r k (suc p) at (λ i hi. let e : suc p + i ≡ p + suc i = omega arith in rw e (h (suc i) (omega arith))))
-
 module _ (row : Row) (sh : Shared row) where
   -- the numbers of the level: where its control digits and its justification digits begin
+  abbrev starts : ℕ → ℕ
+  starts s = s * row .set
+
   abbrev controls : List ℕ
-  controls = tab (row .control) 1 (λ (s : ℕ). s * row .set)
+  controls = tab (row .control) 1 starts
+
+  control-start : (i : ℕ) → i < row .control → getD controls i 0 ≡ (1 + i) * row .set
+  control-start = tab-at (row .control) 1 starts
 
   abbrev justification : ℕ
   justification = (row .sets - 1) * row .set + 4
 
   -- a control group is the digits at these numbers
-  group-after : (ds : List ℕ) (start j k : ℕ) → groupOf ds (start + (row .set + j)) (row .set) k ≡ digitsAfter ds (start + j) (tab k 1 (λ (s : ℕ). s * row .set))
+  group-after : (ds : List ℕ) (start j k : ℕ) → groupOf ds (start + (row .set + j)) (row .set) k ≡ digitsAfter ds (start + j) (tab k 1 starts)
   unfolding groupOf tab
   group-after ds start j zero = refl
   group-after ds start j (suc k) =
-      let at : ℕ → ℕ = λ (s : ℕ). s * row .set in
       let digit : ℕ → ℕ = λ (c : ℕ). getD ds (start + j + c) 0 in
       let here : start + (row .set + j) + k * row .set ≡ start + j + (1 + k) * row .set = omega (arith, add-mul 1 k (row .set)) in
       rw (group-after ds start j k, here)
-      (sym (ap (λ (l : List ℕ). map digit l) (tab-more k 1 at) ∙ map-append digit (tab k 1 at) (at (1 + k) ∷ [])))
+      (sym (ap (λ (l : List ℕ). map digit l) (tab-more k 1 starts) ∙ map-append digit (tab k 1 starts) (starts (1 + k) ∷ [])))
 
   -- a kept place is past the head, no control digit and no stuffing digit
   module _ (notes : List ℕ) (p f r : ℕ) (e : p ≡ f * row .digits + r) (keep : libertyAt row notes p ≡ kept) where
@@ -107,11 +87,13 @@ module _ (row : Row) (sh : Shared row) where
               absurd (true≢false (sym own ∙ head-not-own row sh r (omega arith)))
         ]
 
-    kept-no-control : (i : ℕ) → i < row .control → (1 + i) * row .set ≤ r → r < (1 + i) * row .set + 4 → ⊥
+    kept-no-control : OutOfFours r controls
     kept-no-control i hi lo up =
         let t = r - (1 + i) * row .set in
-        let here = standing (1 + i) t (omega arith) (omega (arith, sh .group)) (omega (arith, sh .room)) in
-        kept-counted (rw (kind-control row sh (1 + i) (omega arith) t (omega arith)) at here)
+        let few : i < row .control = omega (arith, tab-length (row .control) 1 starts) in
+        let start = control-start i few in
+        let here = standing (1 + i) t (omega (arith, start)) (omega (arith, sh .group)) (omega (arith, start, sh .room)) in
+        kept-counted (rw (kind-control row sh (1 + i) (omega arith) t (omega (arith, start))) at here)
 
     kept-unstuffed : justification ≤ r → r < justification + 4 → decisions notes (r - justification) f ≡ false
     kept-unstuffed lo up =
@@ -122,6 +104,42 @@ module _ (row : Row) (sh : Shared row) where
         let here = standing s t (omega arith) hs ht in
         let mine : p % 4 ≡ r - justification = whose row sh f s t p (omega arith) hs ht ∙ omega arith in
         rw mine at (kept-carried (decisions notes (p % 4) f) (rw (kind-justification row sh s (omega (arith, sh .later-set)) (omega (arith, sh .later-set)) t (omega arith) (omega arith)) at here))
+
+  -- and every other place is kept: past the head, no control digit and no stuffing digit
+  plain-kept : (notes : List ℕ) (p f r : ℕ) → p ≡ f * row .digits + r → row .first ≤ r → r < row .digits → OutOfFours r controls
+      → (justification ≤ r → r < justification + 4 → decisions notes (r - justification) f ≡ false) → libertyAt row notes p ≡ kept
+  plain-kept notes p f r e lo hi out carried =
+      let some : 0 < row .set = omega (arith, sh .room) in
+      let parts = div-add-mod' r (row .set) in
+      let hs : r / row .set < row .sets = div-lt-iff-lt-mul some .1 (omega (arith, hi, sh .whole)) in
+      let ht = mod-lt r some in
+      rw (pos-of-sum row sh p f (r / row .set) (r % row .set) (omega (arith, parts)) hs ht) (go (r / row .set) (r % row .set) parts hs ht)
+    where
+      go : (s t : ℕ) → s * row .set + t ≡ r → s < row .sets → t < row .set → liberty (kindOf row s t) (decisions notes (p % 4) f) ≡ kept
+      go s t parts hs ht =
+          elim (ℕ-discrete s 0) [
+            | yes z ↦ rw (z, kind-first row sh t (let none : s * row .set ≡ 0 = rw z (zero-mul (row .set)) in omega arith))
+            | no n ↦
+                elim (decLt t 4) [
+                  | yes few ↦
+                      let k : 1 + (s - 1) ≡ s = omega arith in
+                      let start : getD controls (s - 1) 0 ≡ s * row .set = control-start (s - 1) (omega (arith, sh .group)) ∙ rw k in
+                      absurd (out (s - 1) (omega (arith, sh .group, tab-length (row .control) 1 starts)) (omega (arith, start)) (omega (arith, start)))
+                  | no past ↦
+                      elim (ℕ-discrete (s + 1) (row .sets)) [
+                        | yes last ↦
+                            elim (decLt t 8) [
+                              | yes few ↦
+                                  let k : row .sets - 1 ≡ s = omega arith in
+                                  let at : justification ≡ s * row .set + 4 = rw k in
+                                  let mine : p % 4 ≡ r - justification = whose row sh f s t p (omega arith) hs ht ∙ omega (arith, at) in
+                                  rw (kind-justification row sh s (omega arith) last t (omega arith) few, mine, carried (omega (arith, at)) (omega (arith, at)))
+                              | no after ↦ rw (kind-after row sh s (omega arith) t (omega arith))
+                            ]
+                        | no between ↦ rw (kind-between row sh s (omega arith) between t (omega arith))
+                      ]
+                ]
+          ]
 
   -- changes that the plain words allow are damage
   changed-damage : (level : ℕ) (send : Lent) (received : List ℕ) → Changed level (row .digits) (row .first) controls justification (allowed row) send received
@@ -144,21 +162,30 @@ module _ (row : Row) (sh : Shared row) where
       go p f r h keep e hr =
           rw e
           (c .kept f r (lt-of-mul-lt-mul-right (row .digits) (omega arith)) (kept-past (send .notes) p f r e keep) hr
-          (none-in r (row .control) 1 (λ (s : ℕ). s * row .set) (λ i hi. out-of-four r ((1 + i) * row .set) (kept-no-control (send .notes) p f r e keep i hi)))
+          (kept-no-control (send .notes) p f r e keep)
           (kept-unstuffed (send .notes) p f r e keep))
 
-  -- places outside tributary j's, as the plain words give them, are no own places of it
-  outside-same : (j F : ℕ) (line other : List ℕ) → length (digitsOf line) ≡ F * row .digits → SameOutside (row .digits) (row .first) j line other
-      → SameBut row j F (digitsOf line) (digitsOf other)
-  outside-same j F line other len same p h own = go (p / row .digits) (p % row .digits) (sym (div-add-mod' p (row .digits))) (mod-lt p (omega (arith, in-frame row sh 0 0 (omega (arith, sh .later-set)) (omega (arith, sh .room)))))
-    where
-      go : (f r : ℕ) → p ≡ f * row .digits + r → r < row .digits → getD (digitsOf line) p 0 ≡ getD (digitsOf other) p 0
-      go f r e hr = rw e (same f r (omega arith) hr not-own)
-        where
-          not-own : row .first ≤ r → r % 4 ≢ j
-          not-own lo m =
-              let mine : p % 4 ≡ j = omega (arith, frame-start row sh 0 (omega arith) f) in
-              true≢false (rw (eq-eqb (p % 4) j mine, own-kinds (kindAt row p), own-past row sh f r p e lo hr) at own)
+  -- and damage is no more: the plain words allow all of it
+  damage-changed : (level : ℕ) (send : Lent) (received : List ℕ) → Damage row (send .notes) (length (send .notes)) (digitsOf (sentLine level send)) (digitsOf received)
+      → Changed level (row .digits) (row .first) controls justification (allowed row) send received
+  damage-changed level send received d =
+      record {
+        size = d .size;
+        kept = λ f r hf lo hi out carried. d .others-kept (f * row .digits + r) (digits-lt hf hi) (plain-kept (send .notes) (f * row .digits + r) f r refl lo hi out carried);
+        few = λ f j hf hj.
+            rw (← group-after (digitsOf (sentLine level send)) (f * row .digits) j (row .control), ← group-after (digitsOf received) (f * row .digits) j (row .control))
+            (d .few-controls f j hf hj);
+      }
+
+  -- tributary j's own places are those with the remainder j from the frame's first tributary place on
+  pub own-places : (j f r : ℕ) → r < row .digits → ownPlace row j (f * row .digits + r) ≡ eqb (r % 4) j && leb (row .first) r
+  own-places j f r hr =
+      let p = f * row .digits + r in
+      let mine : p % 4 ≡ r % 4 = omega (arith, frame-start row sh 0 (omega arith) f) in
+      elim (decLe (row .first) r) [
+        | yes lo ↦ rw (mine, own-past row sh f r p refl lo hr, le-leb (row .first) r lo)
+        | no lo ↦ rw (mine, head-pos row sh f r p refl (omega arith), head-not-own row sh r (omega arith), lt-leb (row .first) r (omega arith))
+      ]
 
 -- demand 3 at a level, by the numbers of its row
 module _ (level : ℕ) (row : Row) (e : levelOf level ≡ Of row) where
@@ -172,28 +199,25 @@ module _ (level : ℕ) (row : Row) (e : levelOf level ≡ Of row) where
       on-row : (sent : List ℕ) → Damage row (send .notes) (length (send .notes)) (digitsOf sent) (digitsOf received) → DamageAt level (send .notes) sent received
       on-row sent d = rw e d
 
-  pub demand-three : DemandThree level (row .digits) (row .first) (controls row sh) (justification row sh) (allowed row)
+  pub demand-three : DemandThree level (row .digits) (row .n) (row .first) (controls row sh) (justification row sh) (allowed row)
   demand-three =
       record {
-        same = λ a b received other ok-a ok-b len ca cb. sends-same level a b ok-a ok-b len received other (damage-at a received ca) (damage-at b other cb);
-        returned = λ send read ok ok′ c. send-returned level send read ok ok′ (damage-at send (read .line) c);
-        others = λ j k a b ok-a ok-b len same.
-            let places = digits-length (a .line) ∙ read-places level row e a ok-a in
-            others-come-out level j k a b ok-a ok-b len
-            (rw (e, read-frames level row e a ok-a) (outside-same row sh j (length (a .notes)) (a .line) (b .line) places same));
+        same = λ a b received other ok-a ok-b ca cb. sends-same level a b ok-a ok-b received other (damage-at a received ca) (damage-at b other cb);
+        returned = λ send read ok lent c. send-returned level send read ok (rw e lent) (damage-at send (read .line) c);
+        others = λ j k a b ok lent. others-outside level j k a b ok (rw e lent);
       }
 
 -- 8448 kbit/s: one of three control digits
-pub level-2 : DemandThree 2 848 12 (212 ∷ 424 ∷ 636 ∷ []) 640 1
+pub level-2 : DemandThree 2 848 206 12 (212 ∷ 424 ∷ 636 ∷ []) 640 1
 unfolding tab levelOf
 level-2 = demand-three 2 row2 refl
 
 -- 34368 kbit/s: one of three
-pub level-3 : DemandThree 3 1536 12 (384 ∷ 768 ∷ 1152 ∷ []) 1156 1
+pub level-3 : DemandThree 3 1536 378 12 (384 ∷ 768 ∷ 1152 ∷ []) 1156 1
 unfolding tab levelOf
 level-3 = demand-three 3 row3 refl
 
 -- 139264 kbit/s: two of five
-pub level-4 : DemandThree 4 2928 16 (488 ∷ 976 ∷ 1464 ∷ 1952 ∷ 2440 ∷ []) 2444 2
+pub level-4 : DemandThree 4 2928 723 16 (488 ∷ 976 ∷ 1464 ∷ 1952 ∷ 2440 ∷ []) 2444 2
 unfolding tab levelOf
 level-4 = demand-three 4 row4 refl

@@ -1,12 +1,11 @@
 -- Demand 3, last part: whatever is changed in one tributary's own places, of any line, the other three come out as before. What is read
--- of tributary k is read from places with the remainder k, and none of them is another tributary's.
+-- of tributary k is read from places with the remainder k, so that even every place with the remainder j may be changed.
 use mathlib.Core.Path.{_≡_, sym, _∙_, ap}
 use mathlib.Core.Logic.{_≢_}
 use mathlib.Core.List.{List}
 use Prim.Native.Nat.{ℕ, _+_, _*_, _%_, _<_}
 use native.Mathlib.Omega.{arith}
 use lib.ListN.{getD}
-use borrow.Author.Tests.{ne-eqb}
 use Rattle.digits.specs.Digits.{Binary}
 use Rattle.levels.specs.declared.table.Row.{Row}
 use Rattle.levels.specs.declared.vote.Vote.{Vote}
@@ -16,17 +15,16 @@ use Rattle.levels.specs.Vote.{voteOf}
 use Rattle.levels.proofs.Columns.{columns}
 use Rattle.demultiplex.specs.Notes.{voteAt, notesOf}
 use Rattle.demultiplex.specs.Extract.{takenTo}
-use Rattle.promises.specs.Damage.{SameBut}
 use Rattle.promises.specs.Carried.{decisionRead, digitsRead, SameRead}
 use Rattle.promises.proofs.Lists.{group-same}
 use Rattle.promises.proofs.Sent.{control-place, in-line, whose}
 use Rattle.promises.proofs.Reading.{decisions-read}
 use Rattle.promises.proofs.Order.{column-place, places-same, count-same, digits-same}
 
-module _ (row : Row) (sh : Shared row) (F j : ℕ) (ds es : List ℕ) (bin-ds : Binary ds) (bin-es : Binary es) (same : SameBut row j F ds es) (k : ℕ) (kh : k < 4) (other : k ≢ j) where
-  -- a place of tributary k is none of tributary j's
+module _ (row : Row) (sh : Shared row) (F j : ℕ) (ds es : List ℕ) (bin-ds : Binary ds) (bin-es : Binary es)
+    (same : (p : ℕ) → p < F * row .digits → p % 4 ≢ j → getD ds p 0 ≡ getD es p 0) (k : ℕ) (kh : k < 4) (other : k ≢ j) where
   same-at : (p : ℕ) → p < F * row .digits → p % 4 ≡ k → getD ds p 0 ≡ getD es p 0
-  same-at p h m = same p h (rw (m, ne-eqb k j other))
+  same-at p h m = same p h (λ e. other (sym m ∙ e))
 
   same-vote : (f : ℕ) → f < F → voteAt row ds f k ≡ voteAt row es f k
   unfolding voteAt

@@ -1,5 +1,5 @@
 -- Demand 3, first part: damage changes no vote and no digit that a tributary's place carries, so the send is read back from the damaged
--- line; and so two sends whose damaged lines are equal carried the same.
+-- line.
 use mathlib.Core.Path.{_≡_, refl, sym, _∙_, ap}
 use mathlib.Core.Bool.{Bool, cond, true, false, false≢true}
 use mathlib.Core.List.{List}
@@ -21,7 +21,7 @@ use Rattle.levels.proofs.Majority.{group-length, vote-stands}
 use Rattle.demultiplex.specs.Notes.{voteAt, notesOf}
 use Rattle.demultiplex.specs.Extract.{takenTo}
 use Rattle.promises.specs.Damage.{kept, liberty, libertyAt, groupAt, differing, Damage, lineDigits}
-use Rattle.promises.specs.Carried.{digitsRead, digitsSent, countSent, Room, SameSent, Returned}
+use Rattle.promises.specs.Carried.{digitsRead, digitsSent, countSent, Room, Returned}
 use Rattle.promises.proofs.Lists.{group-binary, differing-votes}
 use Rattle.promises.proofs.Sent.{sent-group, sent-carried}
 use Rattle.promises.proofs.Reading.{decisions-read}
@@ -85,15 +85,3 @@ module _ (row : Row) (sh : Shared row) (F : ℕ) where
             let all : before row d j X ≡ countSent row F notes j = omega (arith, line-count row sh j hj d F) in
             rw (places-same row sh F j hj (decisions (notesOf row ds F) j) d (λ f hf. decision-kept f j hf hj) X (omega arith))
             (digits-back row d j ds (tributary j) X (digit-kept j hj) (omega (arith, line-count row sh j hj d F, room j hj)) ∙ ap (λ (n : ℕ). take n (tributary j)) all)
-
-  -- two sends: where their damaged lines are equal, both carried the same
-  pub same-sends : (a b : List ℕ) (s t : ℕ → List ℕ) (ds es : List ℕ) → Room row F s → Room row F t
-      → Damage row a F (lineDigits row a s F) ds → Damage row b F (lineDigits row b t F) es → ds ≡ es → SameSent row F a s b t
-  same-sends a b s t ds es room-s room-t da db e =
-      let from = damage-recovered a s ds da room-s in
-      let to = rw (← e) at (damage-recovered b t es db room-t) in
-      record {
-        decided = λ j f hj hf. sym (from .decided j f hj hf) ∙ to .decided j f hj hf;
-        counted = λ j hj. sym (from .counted j hj) ∙ to .counted j hj;
-        digits = λ j hj. sym (from .digits j hj) ∙ to .digits j hj;
-      }

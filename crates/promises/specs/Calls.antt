@@ -1,14 +1,15 @@
 -- Demand 3 and the round trip, said of the two calls. A call is lent a line, notes and a buffer, as bytes; what it leaves and answers is
--- given by the definitions that the statements of `multiplex` and `demultiplex` cite. Nothing is assumed but that a call was accepted:
--- that it answered refusal 0. Levels are the numbers 2, 3 and 4; tributaries are counted from 0.
+-- given by the definitions that the statements of `multiplex` and `demultiplex` cite. Of a send nothing is assumed but that it was accepted:
+-- that it answered refusal 0. A reading is lent enough, and that it is accepted is part of what is said. Levels are the numbers 2, 3 and 4;
+-- tributaries are counted from 0.
 use mathlib.Core.Path.{_≡_}
 use mathlib.Core.List.{List}
-use Prim.Native.Nat.{ℕ, _<_}
+use Prim.Native.Nat.{ℕ, _*_, _/_, _%_, _≤_, _<_}
 use lib.ListN.{length, getD, take}
 use Rattle.digits.specs.Digits.{digitsOf}
 use Rattle.levels.specs.declared.table.Row.{Row}
 use Rattle.levels.specs.Table.{levelOf}
-use Rattle.levels.specs.Sizes.{onLevel, framesOf, quarterOf}
+use Rattle.levels.specs.Sizes.{onLevel, quarterOf}
 use Rattle.levels.specs.Order.{decisions}
 use Rattle.multiplex.specs.Multiplex.{multiplexed, lineAfter}
 use Rattle.demultiplex.specs.Demultiplex.{demultiplexed, notesAfter, bufferAfter}
@@ -47,6 +48,16 @@ abbrev pub readDigits : ℕ → Lent → ℕ → List ℕ
 readDigits level c j =
     take (getD (readCounts level c) j 0) (digitsOf (quarterOf (bufferAfter level (c .line) (length (c .notes)) (c .buffer)) j))
 
+-- a call for as many frames as another: it is lent as many notes, and four equal quarters, each with room for n digits of every frame; what
+-- notes and buffer hold is no matter
+pub record LentFor (n : ℕ) (one other : Lent) : Type 0 where
+  pub noted : length (other .notes) ≡ length (one .notes)
+  pub quarters : length (other .buffer) % 4 ≡ 0
+  pub room : length (one .notes) * n ≤ 8 * (length (other .buffer) / 4)
+
+abbrev pub LentAt : ℕ → Lent → Lent → Type 0
+LentAt level one other = onLevel (levelOf level) (λ (row : Row). LentFor (row .n) one other) ⊥
+
 -- received comes from sent, a line sent with these notes, by damage
 abbrev pub DamageAt : ℕ → List ℕ → List ℕ → List ℕ → Type 0
 DamageAt level notes sent received =
@@ -55,7 +66,7 @@ DamageAt level notes sent received =
 -- two lines that differ in places of tributary j only
 abbrev pub SameButAt : ℕ → ℕ → List ℕ → List ℕ → Type 0
 SameButAt level j line other =
-    onLevel (levelOf level) (λ (row : Row). SameBut row j (framesOf row (length line)) (digitsOf line) (digitsOf other)) ⊥
+    onLevel (levelOf level) (λ (row : Row). SameBut row j (digitsOf line) (digitsOf other)) ⊥
 
 -- "both sends carried the same decisions and the same digits of every tributary, in order"
 pub record SendsSame (level : ℕ) (a b : Lent) : Type 0 where
@@ -65,6 +76,7 @@ pub record SendsSame (level : ℕ) (a b : Lent) : Type 0 where
 
 -- "and demultiplexing returns them"
 pub record SendReturned (level : ℕ) (send read : Lent) : Type 0 where
+  pub accepted : ReadAccepted level read
   pub decided : (j f : ℕ) → j < 4 → f < length (send .notes) → decisions (readNotes level read) j f ≡ decisions (send .notes) j f
   pub counted : readCounts level read ≡ sentCounts level send
   pub digits : (j : ℕ) → j < 4 → readDigits level read j ≡ sentDigits level send j
@@ -78,6 +90,7 @@ pub record SendBack (level : ℕ) (send read : Lent) : Type 0 where
 
 -- "come out as before: digits, numbers of digits and decisions", of tributary k
 pub record ReadsSame (level k : ℕ) (a b : Lent) : Type 0 where
+  pub accepted : ReadAccepted level b
   pub decided : (f : ℕ) → f < length (a .notes) → decisions (readNotes level a) k f ≡ decisions (readNotes level b) k f
   pub counted : getD (readCounts level a) k 0 ≡ getD (readCounts level b) k 0
   pub digits : readDigits level a k ≡ readDigits level b k

@@ -41,12 +41,6 @@ pub record Sound (row : Row) (F : ℕ) (notes : List ℕ) (tributary : ℕ → L
   pub digits : (j : ℕ) → j < 4 → Binary (tributary j)
   pub room : Room row F tributary
 
--- two sends carried the same
-pub record SameSent (row : Row) (F : ℕ) (a : List ℕ) (s : ℕ → List ℕ) (b : List ℕ) (t : ℕ → List ℕ) : Type 0 where
-  pub decided : (j f : ℕ) → j < 4 → f < F → decisions a j f ≡ decisions b j f
-  pub counted : (j : ℕ) → j < 4 → countSent row F a j ≡ countSent row F b j
-  pub digits : (j : ℕ) → j < 4 → digitsSent row F a s j ≡ digitsSent row F b t j
-
 -- demultiplexing returns what was sent
 pub record Returned (row : Row) (F : ℕ) (notes : List ℕ) (tributary : ℕ → List ℕ) (ds : List ℕ) : Type 0 where
   pub decided : (j f : ℕ) → j < 4 → f < F → decisionRead row F ds j f ≡ decisions notes j f

@@ -2,7 +2,7 @@
 -- The letter: "Change each line: alignment, service and stuffing digits at will, and in each tributary's control group of each frame at
 -- most one of three digits, or two of five at 139264." Lines are lists of digits here; a line of F frames has F * N of them.
 use mathlib.Core.Path.{_≡_}
-use mathlib.Core.Bool.{Bool, cond, true, false, _&&_}
+use mathlib.Core.Bool.{Bool, cond, false, _&&_}
 use mathlib.Core.List.{List, [], _∷_}
 use Prim.Native.Nat.{ℕ, _+_, _*_, _/_, _%_, _≤_, _<_}
 use lib.Dec.{eqb}
@@ -11,7 +11,7 @@ use Rattle.digits.specs.Digits.{tab, Binary}
 use Rattle.levels.specs.declared.table.Row.{Row}
 use Rattle.levels.specs.declared.places.Kind.{Kind}
 use Rattle.levels.specs.declared.places.Kind.the-variants.{Word, Service, Control, Justification, Tributary}
-use Rattle.levels.specs.Places.{kindAt, posOf}
+use Rattle.levels.specs.Places.{kindAt, posOf, isOwn}
 use Rattle.levels.specs.Order.{decisions}
 use Rattle.levels.specs.Vote.{groupOf}
 use Rattle.multiplex.specs.Line.{lineDigit}
@@ -61,16 +61,9 @@ abbrev pub lineDigits : Row → List ℕ → (ℕ → List ℕ) → ℕ → List
 lineDigits row notes tributary F = tab (F * row .digits) 0 (lineDigit row notes tributary)
 
 -- "A tributary's own places are its control, justification and tributary digits, stuffed or not."
-abbrev pub ownKind : Kind → Bool
-ownKind Word = false
-ownKind (Service s) = false
-ownKind Control = true
-ownKind Justification = true
-ownKind Tributary = true
-
 abbrev pub ownPlace : Row → ℕ → ℕ → Bool
-ownPlace row j p = eqb (p % 4) j && ownKind (kindAt row p)
+ownPlace row j p = eqb (p % 4) j && isOwn (kindAt row p)
 
 -- two lines that differ in places of tributary j only, in as many as one likes
-abbrev pub SameBut : Row → ℕ → ℕ → List ℕ → List ℕ → Type 0
-SameBut row j F ds es = (p : ℕ) → p < F * row .digits → ownPlace row j p ≡ false → getD ds p 0 ≡ getD es p 0
+abbrev pub SameBut : Row → ℕ → List ℕ → List ℕ → Type 0
+SameBut row j ds es = (p : ℕ) → p < length ds → ownPlace row j p ≡ false → getD ds p 0 ≡ getD es p 0
