@@ -21,21 +21,26 @@ use Rattle.levels.specs.declared.places.Kind.the-variants.{Word, Service, Contr
 use Rattle.levels.specs.Table.{Shared, row2, row3, row4, levelOf}
 use Rattle.levels.specs.Sizes.{sizeRefusal}
 use Rattle.levels.specs.Places.{firstSet, laterSet, kindOf, kindAt, posOf}
-use Rattle.levels.specs.Order.{stuffed, decisions, carries, before}
-use Rattle.levels.specs.Vote.{groupOf}
+use Rattle.levels.specs.Order.{stuffed, decisions, carries, before, placesOf, stuffedTo, countOf}
+use Rattle.levels.specs.Vote.{groupOf, votesFor, voteBy}
+use Rattle.levels.specs.Word.{wrongTo}
 use Rattle.levels.proofs.Rows.{shared2, shared3, shared4}
 use Rattle.levels.proofs.Positions.{stands, pos-of-sum}
 use Rattle.levels.proofs.Majority.{group-length}
 use Rattle.levels.proofs.Ways.{kind-control}
 use Rattle.multiplex.specs.Line.{digitBy, lineDigit}
 use Rattle.multiplex.specs.Multiplex.{firstOver, refusalOn}
+use Rattle.demultiplex.specs.Notes.{voteAt, serviceAt, noteOf, alignmentTo, splitIn, splitTo}
+use Rattle.demultiplex.specs.Extract.{takenTo, quarterFrom, quartersFrom}
+use Rattle.demultiplex.specs.Demultiplex.{demultiplexed, bufferAfter}
 use Rattle.promises.specs.Damage.{Liberty, at-will, counted, kept, liberty, libertyAt, groupAt, differing, allowed, DamageUpTo, Damage, lineDigits}
 use Rattle.promises.specs.Carried.{Sound}
-use Rattle.promises.specs.Calls.{SendAccepted, sentLine, DamageAt}
-use Rattle.promises.specs.Border.{inverted, spoilt, changes, early, late, noneStuffed, allStuffed, idle, Border, exampleSend, exampleLine, exampleDamaged, Example}
+use Rattle.promises.specs.Calls.{SendAccepted, sentLine, readNotes, LentAt, DamageAt}
+use Rattle.promises.specs.Border.{inverted, spoilt, changes, early, late, noneStuffed, allStuffed, idle, Border, exampleSend, exampleLine, exampleDamaged, exampleRead, Example}
 use Rattle.promises.proofs.Lists.{of-four, differing-more}
 use Rattle.promises.proofs.Sent.{control-place, in-line, sent-at}
 use Rattle.promises.proofs.RoundTrip.{line-binary}
+use Rattle.promises.proofs.Calls.{send-returned}
 
 inverted-small : (l : Liberty) (change : Bool) (d : ℕ) → d < 2 → inverted l change d < 2
 inverted-small at-will change d h = omega arith
@@ -227,15 +232,29 @@ example-seventeen : differing (digitsOf exampleLine) (digitsOf exampleDamaged) �
 unfolding differing digitsOf exampleLine exampleDamaged
 example-seventeen = refl
 
-example-damaged : DamageAt 2 (exampleSend .notes) exampleLine exampleDamaged
+example-damaged : DamageAt 2 (exampleSend .notes) (sentLine 2 exampleSend) exampleDamaged
 unfolding levelOf
-example-damaged = rw (← example-spoilt) (all-allowed row2 shared2 (1 ∷ []) 1 (digitsOf exampleLine) (digits-binary exampleLine))
+example-damaged = rw (example-leaves, ← example-spoilt) (all-allowed row2 shared2 (1 ∷ []) 1 (digitsOf exampleLine) (digits-binary exampleLine))
+
+example-read : (demultiplexed 2 exampleDamaged 1 104 ≡ record { refusal = 0; counts = 205 ∷ 206 ∷ 206 ∷ 206 ∷ []; alignment = 10; groups = 4 })
+    × (readNotes 2 exampleRead ≡ 0x31 ∷ [])
+    × (bufferAfter 2 exampleDamaged 1 (exampleRead .buffer) ≡ exampleSend .buffer)
+unfolding levelOf sizeRefusal noteOf voteAt serviceAt voteBy votesFor groupOf countOf stuffedTo alignmentTo wrongTo splitTo splitIn quartersFrom quarterFrom takenTo placesOf carries posOf kindOf firstSet laterSet tab bytesOf digitsOf exampleDamaged
+example-read = (refl, refl, refl)
+
+example-lent : LentAt 2 exampleSend exampleRead
+unfolding levelOf
+example-lent = record { noted = refl; quarters = refl; room = omega arith }
 
 pub example : Example
 example =
     record {
       accepted = example-accepted;
       leaves = example-leaves;
-      damaged = rw example-leaves example-damaged;
+      damaged = example-damaged;
       seventeen = example-seventeen;
+      returned = send-returned 2 exampleSend exampleRead example-accepted example-lent example-damaged;
+      answers = example-read .0;
+      noted = example-read .1;
+      filled = example-read .2;
     }

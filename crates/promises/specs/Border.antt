@@ -10,9 +10,10 @@ use Rattle.digits.specs.Digits.{tab, digitsOf}
 use Rattle.levels.specs.declared.table.Row.{Row}
 use Rattle.levels.specs.Places.{posOf}
 use Rattle.levels.specs.Order.{decisions}
+use Rattle.demultiplex.specs.Demultiplex.{demultiplexed, bufferAfter}
 use Rattle.promises.specs.Damage.{Liberty, at-will, counted, kept, libertyAt, allowed, differing, DamageUpTo, Damage, lineDigits}
 use Rattle.promises.specs.Carried.{Sound}
-use Rattle.promises.specs.Calls.{Lent, SendAccepted, sentLine, DamageAt}
+use Rattle.promises.specs.Calls.{Lent, SendAccepted, sentLine, readNotes, DamageAt, SendReturned}
 
 -- every digit that may be changed at will is inverted, and every control digit of the sets that change says
 abbrev pub inverted : Liberty → Bool → ℕ → ℕ
@@ -56,21 +57,30 @@ pub record Border (row : Row) (F : ℕ) : Type 0 where
   pub from-other : DamageUpTo (allowed row + 1) row (allStuffed F) F (lineDigits row (allStuffed F) (idle row F) F) line
   pub differ : (j f : ℕ) → j < 4 → f < F → decisions (noneStuffed F) j f ≢ decisions (allStuffed F) j f
 
--- one frame at 8448 kbit/s, stuffed for tributary 1, all digits 0: the line that is left, and that line damaged in every way that is
--- allowed at once. The word, the remote alarm digit and the national digit are inverted, the first control digit of each of the four groups
--- (0x08 is sent there, 0x07 comes) and the stuffing digit (0x80 is sent, 0x00 comes)
+-- one frame at 8448 kbit/s, stuffed for tributary 1, whose digit 154 is 1, all others 0: the line that is left, and that line damaged in every
+-- way that is allowed at once. The word, the remote alarm digit and the national digit are inverted, the first control digit of each of the
+-- four groups (0x08 is sent there, 0x07 comes) and the stuffing digit (0x88 is sent, 0x08 comes: digit 154 stands four places on)
 abbrev pub exampleSend : Lent
-exampleSend = record { line = replicate 106 0; notes = 1 ∷ []; buffer = replicate 104 0 }
+exampleSend = record { line = replicate 106 0; notes = 1 ∷ []; buffer = replicate 19 0 ++ (0x20 ∷ replicate 84 0) }
 
 unfoldable pub exampleLine : List ℕ
-exampleLine = 0xF4 ∷ (replicate 25 0 ++ (0x08 ∷ (replicate 26 0 ++ (0x80 ∷ (replicate 25 0 ++ (0x08 ∷ (0x80 ∷ replicate 25 0)))))))
+exampleLine = 0xF4 ∷ (replicate 25 0 ++ (0x08 ∷ (replicate 26 0 ++ (0x80 ∷ (replicate 25 0 ++ (0x08 ∷ (0x88 ∷ replicate 25 0)))))))
 
 unfoldable pub exampleDamaged : List ℕ
-exampleDamaged = 0x0B ∷ 0xF0 ∷ (replicate 24 0 ++ (0x07 ∷ (replicate 26 0 ++ (0x80 ∷ (replicate 25 0 ++ (0x08 ∷ (0x00 ∷ replicate 25 0)))))))
+exampleDamaged = 0x0B ∷ 0xF0 ∷ (replicate 24 0 ++ (0x07 ∷ (replicate 26 0 ++ (0x80 ∷ (replicate 25 0 ++ (0x08 ∷ (0x08 ∷ replicate 25 0)))))))
 
--- ten digits of the word, two service digits, four control digits and a stuffing digit differ: all the send's decision leaves free
+-- the damaged line is read into notes and a buffer that hold something else
+abbrev pub exampleRead : Lent
+exampleRead = record { line = exampleDamaged; notes = 0xFF ∷ []; buffer = replicate 104 0xFF }
+
+-- ten digits of the word, two service digits, four control digits and a stuffing digit differ: all the send's decision leaves free. The
+-- reading counts the ten and the four; its note has the send's decision, and the service digits as they came; its buffer is the send's
 pub record Example : Type 0 where
   pub accepted : SendAccepted 2 exampleSend
   pub leaves : sentLine 2 exampleSend ≡ exampleLine
   pub damaged : DamageAt 2 (exampleSend .notes) (sentLine 2 exampleSend) exampleDamaged
   pub seventeen : differing (digitsOf exampleLine) (digitsOf exampleDamaged) ≡ 17
+  pub returned : SendReturned 2 exampleSend exampleRead
+  pub answers : demultiplexed 2 exampleDamaged 1 104 ≡ record { refusal = 0; counts = 205 ∷ 206 ∷ 206 ∷ 206 ∷ []; alignment = 10; groups = 4 }
+  pub noted : readNotes 2 exampleRead ≡ 0x31 ∷ []
+  pub filled : bufferAfter 2 exampleDamaged 1 (exampleRead .buffer) ≡ exampleSend .buffer
