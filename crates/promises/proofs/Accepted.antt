@@ -9,7 +9,7 @@ use native.Mathlib.Nat.{mul-left-comm, not-suc-le-zero, div-add-mod'}
 use lib.Dec.{eqb, ltb, leb}
 use lib.ListN.{length, getD, take, replicate, length-append, length-map, length-replicate}
 use lib.Seq.{take-at}
-use borrow.Author.Tests.{eq-eqb, ne-eqb, le-ltb, ltb-false, leb-false}
+use borrow.Author.Tests.{eq-eqb, ne-eqb, le-ltb, lt-leb, ltb-false, leb-false}
 use Rattle.digits.specs.Digits.{digitsOf, Binary}
 use Rattle.digits.proofs.Laws.{digits-length, digits-binary, digits-of-bytes, bytes-length, tab-length, map-binary, binary-append, zeros-binary}
 use Rattle.levels.specs.declared.table.Row.{Row}
@@ -34,8 +34,8 @@ use Rattle.demultiplex.specs.Extract.{takenTo, quarterFrom, quartersFrom}
 use Rattle.demultiplex.specs.Demultiplex.{demultiplexed, bufferAfter}
 use Rattle.demultiplex.specs.Demultiplex as read
 use Rattle.promises.specs.Damage.{lineDigits}
-use Rattle.promises.specs.Carried.{Sound, digitsRead}
-use Rattle.promises.specs.Calls.{Lent, SendAccepted, sentLine, sentCounts, ReadAccepted, readNotes, readDigits, LentFor}
+use Rattle.promises.specs.Carried.{Sound, digitsSent, digitsRead}
+use Rattle.promises.specs.Calls.{Lent, SendAccepted, sentLine, sentCounts, sentDigits, ReadAccepted, readNotes, readDigits, LentFor}
 use Rattle.promises.proofs.Lists.{of-four, quarter-at}
 use Rattle.promises.proofs.RoundTrip.{line-binary}
 
@@ -72,6 +72,12 @@ none-over limit (x ∷ xs) h f hf = go (leb limit x) refl h (none-over limit xs)
     go false e h rest zero hf = leb-false limit x e
     go false e h rest (suc f) hf = rest (omega arith) f (omega arith)
 
+-- and none is found to be where none is
+none-found : (limit : ℕ) (notes : List ℕ) → ((f : ℕ) → f < length notes → getD notes f 0 < limit) → firstOver limit notes ≡ length notes
+unfolding firstOver
+none-found limit [] h = refl
+none-found limit (x ∷ xs) h = rw (lt-leb limit x (h 0 (omega arith))) (ap (λ (n : ℕ). suc n) (none-found limit xs (λ f hf. h (suc f) (omega arith))))
+
 -- the tests of the lengths and of the notes, where none refuses
 no-refusal : (size : ℕ) (faulty : Bool) → cond {A = ℕ} (eqb size 0) (cond faulty 5 0) size ≡ 0 → (size ≡ 0) × (faulty ≡ false)
 no-refusal size faulty e =
@@ -92,32 +98,35 @@ pub count-at : (row : Row) (notes : List ℕ) (F j : ℕ) → j < 4 → getD (co
 count-at row notes F = of-four (λ (j : ℕ). getD (countsOf row notes F) j 0 ≡ countOf row (decisions notes j) F) refl refl refl refl
 
 -- the quarters that an extraction leaves are those of its tributaries
-quarter-is : (row : Row) (notes line : List ℕ) (q j : ℕ) → j < 4 → quarterOf (quartersFrom row notes line q) j ≡ quarterFrom row notes line q j
-unfolding quartersFrom quarterFrom
-quarter-is row notes line q =
-    of-four (λ (j : ℕ). quarterOf all j ≡ part j)
-    (quarter-at all [] (part 0) (part 1 ++ (part 2 ++ part 3)) 0 q refl size (omega arith) (long 0))
-    (quarter-at all (part 0) (part 1) (part 2 ++ part 3) 1 q refl size (omega (arith, long 0)) (long 1))
-    (quarter-at all (part 0 ++ part 1) (part 2) (part 3) 2 q (sym (append-assoc (part 0) (part 1) (part 2 ++ part 3))) size (two ∙ omega arith) (long 2))
-    (quarter-at all ((part 0 ++ part 1) ++ part 2) (part 3) [] 3 q last size (length-append (part 0 ++ part 1) (part 2) ∙ omega (arith, two, long 2)) (long 3))
-  where
-    part : ℕ → List ℕ
-    part j = quarterFrom row notes line q j
+module _ (row : Row) (notes line : List ℕ) (q : ℕ) where
+  abbrev part : ℕ → List ℕ
+  part j = quarterFrom row notes line q j
 
-    long : (j : ℕ) → length (part j) ≡ q
-    long j = bytes-length q _
+  long : (j : ℕ) → length (part j) ≡ q
+  unfolding quarterFrom
+  long j = bytes-length q _
 
-    all : List ℕ
-    all = part 0 ++ (part 1 ++ (part 2 ++ part 3))
+  pub quarters-length : length (quartersFrom row notes line q) ≡ 4 * q
+  unfolding quartersFrom
+  quarters-length = simp length-append (omega (arith, long 0, long 1, long 2, long 3))
 
-    two : length (part 0 ++ part 1) ≡ q + q
-    two = length-append (part 0) (part 1) ∙ omega (arith, long 0, long 1)
+  quarter-is : (j : ℕ) → j < 4 → quarterOf (quartersFrom row notes line q) j ≡ part j
+  unfolding quartersFrom
+  quarter-is =
+      of-four (λ (j : ℕ). quarterOf all j ≡ part j)
+      (quarter-at all [] (part 0) (part 1 ++ (part 2 ++ part 3)) 0 q refl quarters-length (omega arith) (long 0))
+      (quarter-at all (part 0) (part 1) (part 2 ++ part 3) 1 q refl quarters-length (omega (arith, long 0)) (long 1))
+      (quarter-at all (part 0 ++ part 1) (part 2) (part 3) 2 q (sym (append-assoc (part 0) (part 1) (part 2 ++ part 3))) quarters-length (two ∙ omega arith) (long 2))
+      (quarter-at all ((part 0 ++ part 1) ++ part 2) (part 3) [] 3 q last quarters-length (length-append (part 0 ++ part 1) (part 2) ∙ omega (arith, two, long 2)) (long 3))
+    where
+      all : List ℕ
+      all = quartersFrom row notes line q
 
-    last : all ≡ ((part 0 ++ part 1) ++ part 2) ++ (part 3 ++ [])
-    last = simp (append-nil, append-assoc)
+      two : length (part 0 ++ part 1) ≡ q + q
+      two = length-append (part 0) (part 1) ∙ omega (arith, long 0, long 1)
 
-    size : length all ≡ 4 * q
-    size = simp length-append (omega (arith, long 0, long 1, long 2, long 3))
+      last : all ≡ ((part 0 ++ part 1) ++ part 2) ++ (part 3 ++ [])
+      last = simp (append-nil, append-assoc)
 
 -- a quarter with room for a tributary's digits holds them, and zeros after them
 quarter-digits : (row : Row) (notes line taken : List ℕ) (q j : ℕ) → takenTo row notes (digitsOf line) j (2 * length line) ≡ taken → length taken ≤ 8 * q
@@ -167,6 +176,14 @@ module _ (level : ℕ) (row : Row) (e : levelOf level ≡ Of row) where
       record { frames = rw same (sizes .frames); few = rw same (sizes .few); noted = lent .noted ∙ sym F; quarters = omega (arith, lent .quarters); room = rw F (lent .room) } in
       rw (e, no-test row (length (other .line)) (length (other .notes)) (length (other .buffer)) found)
 
+  -- a send of accepted lengths, with no bit in its notes that the level has not, is accepted
+  pub send-accepted : (c : Lent) → sizeRefusal row (length (c .line)) (length (c .notes)) (length (c .buffer)) ≡ 0
+      → ((f : ℕ) → f < length (c .notes) → getD (c .notes) f 0 < 2 ^ (5 + row .nationals)) → SendAccepted level c
+  unfolding refusalOn
+  send-accepted c size fit =
+      let none : ltb (firstFaulty row (c .notes)) (length (c .notes)) ≡ false = rw (none-found (2 ^ (5 + row .nationals)) (c .notes) fit) (le-ltb (length (c .notes)) (length (c .notes)) (omega arith)) in
+      rw (e, size, none)
+
   -- an accepted send
   module _ (c : Lent) (ok : SendAccepted level c) where
     abbrev F : ℕ
@@ -212,6 +229,9 @@ module _ (level : ℕ) (row : Row) (e : levelOf level ≡ Of row) where
     pub send-counts : sentCounts level c ≡ countsOf row (c .notes) F
     send-counts = ap (λ (r : Multiplexed). r .counts) send-answer
 
+    pub send-digits : (j : ℕ) → j < 4 → sentDigits level c j ≡ digitsSent row F (c .notes) tributary j
+    send-digits j hj = rw (send-counts, count-at row (c .notes) F j hj)
+
   -- an accepted reading
   module _ (c : Lent) (ok : ReadAccepted level c) where
     abbrev frames : ℕ
@@ -226,7 +246,7 @@ module _ (level : ℕ) (row : Row) (e : levelOf level ≡ Of row) where
     abbrev size : ℕ
     size = sizeRefusal row (length (c .line)) frames (length (c .buffer))
 
-    accepted-size : size ≡ 0
+    pub accepted-size : size ≡ 0
     accepted-size = zero-refusal (λ (r : Demultiplexed). r .refusal) size (read.received row notes ds frames) (read.refusedWith size) refl (rw e at ok)
 
     pub read-sizes : Accepted row (length (c .line)) frames (length (c .buffer))
@@ -241,11 +261,14 @@ module _ (level : ℕ) (row : Row) (e : levelOf level ≡ Of row) where
     pub read-notes : readNotes level c ≡ notes
     read-notes = rw (e, eq-eqb size 0 accepted-size)
 
+    pub read-buffer : bufferAfter level (c .line) frames (c .buffer) ≡ quartersFrom row notes (c .line) (length (c .buffer) / 4)
+    read-buffer = rw (e, eq-eqb size 0 accepted-size)
+
     pub read-digits : (j : ℕ) → j < 4 → readDigits level c j ≡ digitsRead row frames ds j
     unfolding countOf
     read-digits j hj =
         rw (ap (λ (r : Demultiplexed). r .counts) read-answer, count-at row notes frames j hj)
-        (ap (λ (l : List ℕ). take count (digitsOf l)) part
+        (ap (λ (l : List ℕ). take count (digitsOf l)) (rw read-buffer (quarter-is row notes (c .line) q j hj))
         ∙ ap (λ (l : List ℕ). take count l) (quarter-digits row notes (c .line) taken q j whole (omega (arith, long, room)))
         ∙ take-at taken (replicate (8 * q - length taken) 0) count long)
       where
@@ -268,6 +291,3 @@ module _ (level : ℕ) (row : Row) (e : levelOf level ≡ Of row) where
         whole =
             let all : 2 * length (c .line) ≡ frames * columns row = omega (arith, read-places, frame-start row shared j hj frames) in
             rw all
-
-        part : quarterOf (bufferAfter level (c .line) frames (c .buffer)) j ≡ quarterFrom row notes (c .line) q j
-        part = rw (e, eq-eqb size 0 accepted-size) (quarter-is row notes (c .line) q j hj)

@@ -30,7 +30,7 @@ use Rattle.promises.specs.Plain.{SameOutside}
 use Rattle.promises.proofs.Recovered.{damage-recovered}
 use Rattle.promises.proofs.Others.{others-untouched}
 use Rattle.promises.proofs.RoundTrip.{round-trip}
-use Rattle.promises.proofs.Accepted.{send-level, read-level, shared, count-at, tributary, send-sizes, send-places, send-sound, send-line, send-counts, read-accepted, read-sizes, read-places, read-answer, read-notes, read-digits}
+use Rattle.promises.proofs.Accepted.{send-level, read-level, shared, count-at, tributary, send-sizes, send-places, send-sound, send-line, send-counts, send-digits, read-accepted, read-sizes, read-places, read-answer, read-notes, read-digits}
 
 -- the four counts are the same where each is
 counts-same : (row : Row) (a b : List ℕ) (F : ℕ) → ((j : ℕ) → j < 4 → countOf row (decisions a j) F ≡ countOf row (decisions b j) F) → countsOf row a F ≡ countsOf row b F
@@ -55,15 +55,17 @@ module _ (level : ℕ) (row : Row) (e : levelOf level ≡ Of row) where
 
   as-read : (c : Lent) (ok : SendAccepted level c) (ds : List ℕ) → Returned row (length (c .notes)) (c .notes) (given c ok) ds → AsRead c (length (c .notes)) ds
   as-read c ok ds back =
-      let counts = send-counts level row e c ok in
       record {
         decided = λ j f hj hf. sym (back .decided j f hj hf);
-        counted = counts ∙ counts-same row (c .notes) (notesOf row ds (length (c .notes))) (length (c .notes)) (λ j hj. sym (back .counted j hj));
-        digits = λ j hj. rw (counts, count-at row (c .notes) (length (c .notes)) j hj) (sym (back .digits j hj));
+        counted = send-counts level row e c ok ∙ counts-same row (c .notes) (notesOf row ds (length (c .notes))) (length (c .notes)) (λ j hj. sym (back .counted j hj));
+        digits = λ j hj. send-digits level row e c ok j hj ∙ sym (back .digits j hj);
       }
 
   damage-on : (notes sent received : List ℕ) → DamageAt level notes sent received → Damage row notes (length notes) (digitsOf sent) (digitsOf received)
   damage-on notes sent received d = rw e at d
+
+  pub on-damage : (notes sent received : List ℕ) → Damage row notes (length notes) (digitsOf sent) (digitsOf received) → DamageAt level notes sent received
+  on-damage notes sent received d = rw e d
 
   damaged : (c : Lent) → SendAccepted level c → (received : List ℕ) → DamageAt level (c .notes) (sentLine level c) received → AsRead c (length (c .notes)) (digitsOf received)
   damaged c ok received d =

@@ -1,6 +1,6 @@
 -- The worked cases hold: one theorem over the whole table. A frame without digits is computed; zeros, however many, make the same line, and so
 -- multiplexing leaves it.
-use mathlib.Core.Path.{_≡_, refl, sym, _∙_, ap}
+use mathlib.Core.Path.{_≡_, refl, _∙_, ap}
 use mathlib.Core.Bool.{false}
 use mathlib.Core.List.{List, [], _∷_}
 use Prim.Native.Nat.{ℕ, _+_, _*_, _-_, _/_, _%_, _^_, _≤_}

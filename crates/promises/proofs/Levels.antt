@@ -1,7 +1,6 @@
 -- Demand 3 at 8448, 34368 and 139264 kbit/s, with the level's numbers in the statement. Proved once over the row: what the plain words
 -- allow is damage as the row defines it, and the places that they give to a tributary are its own.
 use mathlib.Core.Path.{_≡_, refl, sym, _∙_, ap}
-use mathlib.Core.Logic.{_≢_}
 use mathlib.Core.Bool.{Bool, true, false, true≢false, _&&_}
 use mathlib.Core.List.{List, [], _∷_, map}
 use Prim.Native.Nat.{ℕ, zero, suc, _+_, _*_, _-_, _/_, _%_, _≤_, _<_}
@@ -19,7 +18,7 @@ use Rattle.levels.specs.declared.table.Level.the-variants.{Of}
 use Rattle.levels.specs.declared.places.Kind.{Kind}
 use Rattle.levels.specs.declared.places.Kind.the-variants.{Word, Service, Control, Justification, Tributary}
 use Rattle.levels.specs.Table.{Shared, levelOf, row2, row3, row4}
-use Rattle.levels.specs.Places.{isOwn, kindOf, posOf}
+use Rattle.levels.specs.Places.{isOwn, kindOf, kindAt, posOf}
 use Rattle.levels.specs.Order.{decisions}
 use Rattle.levels.specs.Vote.{groupOf}
 use Rattle.levels.proofs.Positions.{stands, pos-of-sum, in-frame}
@@ -32,7 +31,7 @@ use Rattle.promises.specs.Plain.{OutOfFours, digitsAfter, Changed, Deman
 use Rattle.promises.proofs.Lists.{tab-more}
 use Rattle.promises.proofs.Sent.{whose}
 use Rattle.promises.proofs.Accepted.{shared}
-use Rattle.promises.proofs.Calls.{sends-same, send-returned, others-outside}
+use Rattle.promises.proofs.Calls.{on-damage, sends-same, send-returned, others-outside}
 
 -- what is kept is an own place, and no control digit, and no stuffing digit
 kept-own : (k : Kind) (st : Bool) → liberty k st ≡ kept → isOwn k ≡ true
@@ -183,8 +182,10 @@ module _ (row : Row) (sh : Shared row) where
       let p = f * row .digits + r in
       let mine : p % 4 ≡ r % 4 = omega (arith, frame-start row sh 0 (omega arith) f) in
       elim (decLe (row .first) r) [
-        | yes lo ↦ rw (mine, own-past row sh f r p refl lo hr, le-leb (row .first) r lo)
-        | no lo ↦ rw (mine, head-pos row sh f r p refl (omega arith), head-not-own row sh r (omega arith), lt-leb (row .first) r (omega arith))
+        | yes lo ↦ ap (λ (own : Bool). eqb (p % 4) j && own) (own-past row sh f r p refl lo hr) ∙ rw (mine, le-leb (row .first) r lo)
+        | no lo ↦
+            let head : isOwn (kindAt row p) ≡ false = rw (head-pos row sh f r p refl (omega arith)) (head-not-own row sh r (omega arith)) in
+            ap (λ (own : Bool). eqb (p % 4) j && own) head ∙ rw (mine, lt-leb (row .first) r (omega arith))
       ]
 
 -- demand 3 at a level, by the numbers of its row
@@ -194,10 +195,7 @@ module _ (level : ℕ) (row : Row) (e : levelOf level ≡ Of row) where
 
   damage-at : (send : Lent) (received : List ℕ) → Changed level (row .digits) (row .first) (controls row sh) (justification row sh) (allowed row) send received
       → DamageAt level (send .notes) (sentLine level send) received
-  damage-at send received c = on-row (sentLine level send) (changed-damage row sh level send received c)
-    where
-      on-row : (sent : List ℕ) → Damage row (send .notes) (length (send .notes)) (digitsOf sent) (digitsOf received) → DamageAt level (send .notes) sent received
-      on-row sent d = rw e d
+  damage-at send received c = on-damage level row e (send .notes) (sentLine level send) received (changed-damage row sh level send received c)
 
   pub demand-three : DemandThree level (row .digits) (row .n) (row .first) (controls row sh) (justification row sh) (allowed row)
   demand-three =

@@ -9,4 +9,5 @@ pub mod RoundTrip
 pub mod Accepted
 pub mod Calls
 pub mod Levels
+pub mod Exact
 pub mod Border

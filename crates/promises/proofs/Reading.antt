@@ -1,15 +1,49 @@
--- The decisions of the notes that are read from any line are the votes of its groups.
+-- The notes that are read from any line: their decisions are the votes of its groups, and they have no bit that the level has not.
 use mathlib.Core.Path.{_≡_}
+use mathlib.Core.Bool.{Bool, cond, true, false}
 use mathlib.Core.List.{List}
-use Prim.Native.Nat.{ℕ, _<_}
+use Prim.Native.Nat.{ℕ, _+_, _*_, _^_, _≤_, _<_}
+use native.Mathlib.Omega.{arith}
 use native.Mathlib.Nat.{zero-add}
+use lib.Dec.{leb}
+use lib.ListN.{getD}
 use Rattle.digits.specs.Digits.{Binary}
 use Rattle.digits.proofs.Laws.{tab-at}
 use Rattle.levels.specs.declared.table.Row.{Row}
+use Rattle.levels.specs.Table.{Shared}
 use Rattle.levels.specs.Order.{decisions}
-use Rattle.demultiplex.specs.Notes.{voteAt, noteOf, notesOf}
+use Rattle.levels.proofs.Choice.{cond-by}
+use Rattle.demultiplex.specs.Notes.{voteAt, serviceAt, bitOf, noteOf, notesOf}
 use Rattle.demultiplex.proofs.NoteBits.{note-decision}
+use Rattle.promises.proofs.Lists.{of-four}
 
 pub decisions-read : (row : Row) (ds : List ℕ) → Binary ds → (F f j : ℕ) → f < F → j < 4 → decisions (notesOf row ds F) j f ≡ voteAt row ds f j .stuffed
 decisions-read row ds bin F f j hf hj =
     rw (tab-at F 0 (noteOf row ds) f hf, zero-add f) (note-decision row ds bin f j hj)
+
+-- a note whose service bits end with the level's national digits
+bits-fit : (s : ℕ → ℕ) (n : ℕ) → n < 4 → ((k : ℕ) → s k ≤ cond (leb k n) 1 0) → 15 + 16 * s 0 + 32 * s 1 + 64 * s 2 + 128 * s 3 < 2 ^ (5 + n)
+bits-fit s =
+    of-four (λ (n : ℕ). ((k : ℕ) → s k ≤ cond (leb k n) 1 0) → 15 + 16 * s 0 + 32 * s 1 + 64 * s 2 + 128 * s 3 < 2 ^ (5 + n))
+    (λ h. omega (arith, h 0, h 1, h 2, h 3))
+    (λ h. omega (arith, h 0, h 1, h 2, h 3))
+    (λ h. omega (arith, h 0, h 1, h 2, h 3))
+    (λ h. omega (arith, h 0, h 1, h 2, h 3))
+
+module _ (row : Row) (ds : List ℕ) (bin : Binary ds) (f : ℕ) where
+  service-most : (k : ℕ) → serviceAt row ds f k ≤ cond (leb k (row .nationals)) 1 0
+  unfolding serviceAt
+  service-most k = go (leb k (row .nationals))
+    where
+      go : (t : Bool) → cond t (getD ds (f * row .digits + (row .alarm + k)) 0) 0 ≤ cond t 1 0
+      go true = omega (arith, bin (f * row .digits + (row .alarm + k)))
+      go false = omega arith
+
+  bit-most : (j : ℕ) → bitOf (voteAt row ds f j .stuffed) ≤ 1
+  bit-most j = cond-by (λ (b : ℕ). b ≤ 1) (voteAt row ds f j .stuffed) (omega arith) (omega arith)
+
+  pub note-fits : Shared row → (F : ℕ) → f < F → getD (notesOf row ds F) f 0 < 2 ^ (5 + row .nationals)
+  unfolding noteOf
+  note-fits sh F hf =
+      rw (tab-at F 0 (noteOf row ds) f hf, zero-add f)
+      (omega (arith, bits-fit (serviceAt row ds f) (row .nationals) (omega (arith, sh .few-national)) service-most, bit-most 0, bit-most 1, bit-most 2, bit-most 3))

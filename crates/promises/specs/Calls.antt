@@ -48,6 +48,10 @@ abbrev pub readDigits : ℕ → Lent → ℕ → List ℕ
 readDigits level c j =
     take (getD (readCounts level c) j 0) (digitsOf (quarterOf (bufferAfter level (c .line) (length (c .notes)) (c .buffer)) j))
 
+-- what a reading leaves, sent on: multiplexing is lent the notes and the buffer as demultiplexing leaves them, and a line of that length
+abbrev pub sentOn : ℕ → Lent → Lent
+sentOn level c = record { line = c .line; notes = readNotes level c; buffer = bufferAfter level (c .line) (length (c .notes)) (c .buffer) }
+
 -- a call for as many frames as another: it is lent as many notes, and four equal quarters, each with room for n digits of every frame; what
 -- notes and buffer hold is no matter
 pub record LentFor (n : ℕ) (one other : Lent) : Type 0 where
