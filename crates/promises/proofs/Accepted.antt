@@ -24,7 +24,7 @@ use Rattle.levels.proofs.Columns.{columns, frame-start}
 use Rattle.levels.proofs.Inverse.{places-length}
 use Rattle.levels.proofs.Judged.{accepted}
 use Rattle.multiplex.specs.declared.Multiplexed.{Multiplexed}
-use Rattle.multiplex.specs.Line.{lineDigit}
+use Rattle.multiplex.specs.Line.{lineDigit, lineOf}
 use Rattle.multiplex.specs.Multiplex.{firstOver, firstFaulty, refusalOn, multiplexed}
 use Rattle.multiplex.specs.Multiplex as send
 use Rattle.multiplex.proofs.Passes.{quarter-length, line-few}
@@ -157,11 +157,19 @@ no-test row line notes buffer sizes =
     let fours : buffer % 4 ≡ 0 = omega (arith, sizes .quarters) in
     rw (whole, le-ltb 64 (framesOf row line) (sizes .few), eq-eqb notes (framesOf row line) (sizes .noted), fours, le-ltb (8 * (buffer / 4)) (framesOf row line * row .n) (sizes .room))
 
--- the digits of a line of accepted length are those of its frames
+-- a line of accepted length is its frames, in bytes and in digits
+line-bytes : (row : Row) (line notes buffer : ℕ) → Accepted row line notes buffer → line ≡ notes * row .bytes
+line-bytes row line notes buffer sizes = sizes .frames ∙ ap (λ (F : ℕ). F * row .bytes) (sym (sizes .noted))
+
 line-places : (row : Row) → Shared row → (line notes buffer : ℕ) → Accepted row line notes buffer → 8 * line ≡ notes * row .digits
 line-places row sh line notes buffer sizes =
-    let whole : line ≡ notes * row .bytes = sizes .frames ∙ ap (λ (F : ℕ). F * row .bytes) (sym (sizes .noted)) in
-    ap (λ (n : ℕ). 8 * n) whole ∙ mul-left-comm 8 notes (row .bytes) ∙ ap (λ (n : ℕ). notes * n) (sym (sh .packed))
+    ap (λ (n : ℕ). 8 * n) (line-bytes row line notes buffer sizes) ∙ mul-left-comm 8 notes (row .bytes) ∙ ap (λ (n : ℕ). notes * n) (sym (sh .packed))
+
+pub line-digits : (row : Row) (notes : List ℕ) (tributary : ℕ → List ℕ) → ((j : ℕ) → j < 4 → Binary (tributary j)) → (bytes F : ℕ) → 8 * bytes ≡ F * row .digits
+    → digitsOf (lineOf row notes tributary bytes) ≡ lineDigits row notes tributary F
+line-digits row notes tributary bin bytes F places =
+    rw places
+    (digits-of-bytes bytes (lineDigits row notes tributary F) (line-binary row notes tributary bin F) (tab-length (F * row .digits) 0 (lineDigit row notes tributary) ∙ sym places))
 
 module _ (level : ℕ) (row : Row) (e : levelOf level ≡ Of row) where
   pub shared : Shared row
@@ -181,7 +189,8 @@ module _ (level : ℕ) (row : Row) (e : levelOf level ≡ Of row) where
       → ((f : ℕ) → f < length (c .notes) → getD (c .notes) f 0 < 2 ^ (5 + row .nationals)) → SendAccepted level c
   unfolding refusalOn
   send-accepted c size fit =
-      let none : ltb (firstFaulty row (c .notes)) (length (c .notes)) ≡ false = rw (none-found (2 ^ (5 + row .nationals)) (c .notes) fit) (le-ltb (length (c .notes)) (length (c .notes)) (omega arith)) in
+      let F = length (c .notes) in
+      let none : ltb (firstFaulty row (c .notes)) F ≡ false = rw (none-found (2 ^ (5 + row .nationals)) (c .notes) fit) (le-ltb F F (omega arith)) in
       rw (e, size, none)
 
   -- an accepted send
@@ -205,6 +214,9 @@ module _ (level : ℕ) (row : Row) (e : levelOf level ≡ Of row) where
     pub send-sizes : Accepted row (length (c .line)) F (length (c .buffer))
     send-sizes = accepted row (length (c .line)) F (length (c .buffer)) (tests .0)
 
+    pub send-whole : length (c .line) ≡ F * row .bytes
+    send-whole = line-bytes row (length (c .line)) F (length (c .buffer)) send-sizes
+
     pub send-places : 8 * length (c .line) ≡ F * row .digits
     send-places = line-places row shared (length (c .line)) F (length (c .buffer)) send-sizes
 
@@ -217,11 +229,11 @@ module _ (level : ℕ) (row : Row) (e : levelOf level ≡ Of row) where
           room = λ j hj. rw (digits-length, quarter-length (c .buffer) j hj) (line-few row (c .notes) (c .buffer) (c .line) send-sizes .1);
         }
 
+    pub send-bytes : sentLine level c ≡ lineOf row (c .notes) tributary (length (c .line))
+    send-bytes = rw (e, eq-eqb refusal 0 unrefused)
+
     pub send-line : digitsOf (sentLine level c) ≡ lineDigits row (c .notes) tributary F
-    send-line =
-        rw (e, eq-eqb refusal 0 unrefused, send-places)
-        (digits-of-bytes (length (c .line)) (lineDigits row (c .notes) tributary F) (line-binary row (c .notes) tributary (send-sound .digits) F)
-        (tab-length (F * row .digits) 0 (lineDigit row (c .notes) tributary) ∙ sym send-places))
+    send-line = ap digitsOf send-bytes ∙ line-digits row (c .notes) tributary (send-sound .digits) (length (c .line)) F send-places
 
     send-answer : multiplexed level (length (c .line)) (c .notes) (length (c .buffer)) ≡ send.sent row (c .notes)
     send-answer = rw (e, eq-eqb refusal 0 unrefused)
@@ -229,8 +241,11 @@ module _ (level : ℕ) (row : Row) (e : levelOf level ≡ Of row) where
     pub send-counts : sentCounts level c ≡ countsOf row (c .notes) F
     send-counts = ap (λ (r : Multiplexed). r .counts) send-answer
 
+    pub send-count : (j : ℕ) → j < 4 → getD (sentCounts level c) j 0 ≡ countOf row (decisions (c .notes) j) F
+    send-count j hj = ap (λ (counts : List ℕ). getD counts j 0) send-counts ∙ count-at row (c .notes) F j hj
+
     pub send-digits : (j : ℕ) → j < 4 → sentDigits level c j ≡ digitsSent row F (c .notes) tributary j
-    send-digits j hj = rw (send-counts, count-at row (c .notes) F j hj)
+    send-digits j hj = ap (λ (n : ℕ). take n (tributary j)) (send-count j hj)
 
   -- an accepted reading
   module _ (c : Lent) (ok : ReadAccepted level c) where

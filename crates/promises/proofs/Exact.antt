@@ -1,64 +1,42 @@
--- The statements on the calls say no less than they may. What two sends carried is all that their lines tell apart from damage: sends that carried
--- the same leave lines of which the one comes from the other by damage. And what demultiplexing is said to return is what it leaves in notes
--- and buffer: multiplexed again, it carries the same.
-use mathlib.Core.Path.{_≡_, refl, sym, _∙_, ap}
-use mathlib.Core.Bool.{Bool, cond, true, false}
+-- The statements on the calls say no less than they may. Sends that carried the same leave lines of which the one comes from the other by
+-- damage: what they carried is all that a line tells. And what demultiplexing is said to return is what it leaves in notes and buffer:
+-- multiplexed again, it is accepted and carries the same, and an undamaged line comes again byte for byte.
+use mathlib.Core.Path.{_≡_, sym, _∙_, ap}
+use mathlib.Core.Bool.{cond, true}
 use mathlib.Core.List.{List}
-use Prim.Native.Nat.{ℕ, suc, _+_, _*_, _/_, _%_, _<_}
+use Prim.Native.Nat.{ℕ, _+_, _*_, _/_, _%_, _<_}
 use native.Mathlib.Omega.{arith}
 use lib.Dec.{lit<}
 use lib.ListN.{length, getD, take, replicate}
 use lib.Seq.{getD-take, ext-getD}
 use Rattle.digits.specs.Digits.{digitsOf, Binary}
-use Rattle.digits.proofs.Laws.{digits-binary, tab-length}
+use Rattle.digits.proofs.Laws.{digits-binary, bytes-length, tab-length}
 use Rattle.levels.specs.declared.table.Row.{Row}
 use Rattle.levels.specs.declared.table.Level.the-variants.{Of}
-use Rattle.levels.specs.declared.places.Kind.{Kind}
-use Rattle.levels.specs.declared.places.Kind.the-variants.{Word, Service, Control, Justification, Tributary}
 use Rattle.levels.specs.Table.{Shared, levelOf}
 use Rattle.levels.specs.Places.{kindAt, posOf}
 use Rattle.levels.specs.Sizes.{quarterOf}
-use Rattle.levels.specs.Order.{decisions, carried, carries, before, countOf}
+use Rattle.levels.specs.Order.{decisions, carries}
 use Rattle.levels.proofs.Columns.{columns, frame-start}
-use Rattle.levels.proofs.Counts.{line-count}
-use Rattle.levels.proofs.Inverse.{before-rises}
-use Rattle.multiplex.specs.Line.{lineDigit}
+use Rattle.multiplex.specs.Line.{lineDigit, lineOf}
+use Rattle.multiplex.proofs.Unread.{Agree, same-line}
 use Rattle.demultiplex.specs.declared.Demultiplexed.{Demultiplexed}
 use Rattle.demultiplex.specs.Notes.{noteOf, notesOf}
-use Rattle.promises.specs.Damage.{kept, liberty, libertyAt, Damage, lineDigits}
-use Rattle.promises.specs.Carried.{countSent, digitsSent}
-use Rattle.promises.specs.Calls.{Lent, SendAccepted, sentLine, sentCounts, sentDigits, ReadAccepted, readNotes, readCounts, readDigits, sentOn, LentFor, LentAt, DamageAt, SendsSame, SendReturned, ReadsSame}
+use Rattle.promises.specs.Damage.{kept, libertyAt, Damage, lineDigits}
+use Rattle.promises.specs.Calls.{Lent, SendAccepted, sentLine, sentCounts, sentDigits, ReadAccepted, readNotes, readCounts, readDigits, sentOn, LentFor, LentAt, DamageAt, SendsSame, SendReturned, SendBack, ReadsSame}
 use Rattle.promises.proofs.Lists.{differing-self}
 use Rattle.promises.proofs.Sent.{sent-group, sent-carried}
 use Rattle.promises.proofs.Reading.{note-fits}
 use Rattle.promises.proofs.Order.{carries-same, before-same}
+use Rattle.promises.proofs.Recovered.{kept-carries}
 use Rattle.promises.proofs.RoundTrip.{line-binary}
-use Rattle.promises.proofs.Accepted.{send-level, read-level, shared, quarters-length, send-accepted, tributary, send-sound, send-line, send-counts, send-digits, accepted-size, read-sizes, read-answer, read-notes, read-buffer}
-use Rattle.promises.proofs.Calls.{on-damage, send-returned}
+use Rattle.promises.proofs.Accepted.{send-level, read-level, shared, quarters-length, line-digits, send-accepted, tributary, send-whole, send-places, send-sound, send-bytes, send-line, send-counts, send-count, accepted-size, read-sizes, read-answer, read-notes, read-buffer}
+use Rattle.promises.proofs.Calls.{on-damage, send-returned, send-back}
 
--- what is kept carries a digit
-kept-carries : (k : Kind) (st : Bool) → liberty k st ≡ kept → carried k st ≡ true
-kept-carries Word st e = cc
-kept-carries (Service s) st e = cc
-kept-carries Control st e = cc
-kept-carries Justification true e = cc
-kept-carries Justification false e = refl
-kept-carries Tributary st e = refl
-
--- two sends with the same decisions and the same digits
-module _ (row : Row) (sh : Shared row) (F : ℕ) (a b : List ℕ) (s t : ℕ → List ℕ)
-    (decided : (j f : ℕ) → j < 4 → f < F → decisions a j f ≡ decisions b j f) (digits : (j : ℕ) → j < 4 → digitsSent row F a s j ≡ digitsSent row F b t j) where
-  -- a digit that is carried is one of those counted
-  counted-digit : (notes : List ℕ) (j x : ℕ) → j < 4 → 4 * x + j < F * row .digits → carries row (decisions notes j) (4 * x + j) ≡ true
-      → before row (decisions notes j) j x < countSent row F notes j
-  unfolding before countOf
-  counted-digit notes j x hj h c =
-      let d = decisions notes j in
-      let more : before row d j (suc x) ≡ before row d j x + 1 = rw c in
-      omega (arith, more, before-rises row d j (suc x) (F * columns row) (omega (arith, frame-start row sh j hj F)), line-count row sh j hj d F)
-
+-- two sends with the same decisions and of the same tributaries: only service digits differ
+module _ (row : Row) (sh : Shared row) (F : ℕ) (a b : List ℕ) (tributary : ℕ → List ℕ) (decided : (j f : ℕ) → j < 4 → f < F → decisions a j f ≡ decisions b j f) where
   same-carried : (j x : ℕ) → j < 4 → 4 * x + j < F * row .digits → libertyAt row a (4 * x + j) ≡ kept
-      → getD (lineDigits row b t F) (4 * x + j) 0 ≡ getD (lineDigits row a s F) (4 * x + j) 0
+      → getD (lineDigits row b tributary F) (4 * x + j) 0 ≡ getD (lineDigits row a tributary F) (4 * x + j) 0
   unfolding carries
   same-carried j x hj h keep =
       let p = 4 * x + j in
@@ -66,48 +44,54 @@ module _ (row : Row) (sh : Shared row) (F : ℕ) (a b : List ℕ) (s t : ℕ →
       let w : p % 4 ≡ j = omega arith in
       let ca : carries row (decisions a j) p ≡ true = kept-carries (kindAt row p) (decisions a j (posOf row p .frame)) (rw w at keep) in
       let cb : carries row (decisions b j) p ≡ true = sym (carries-same row sh F j hj (decisions a j) (decisions b j) (λ f hf. decided j f hj hf) x within) ∙ ca in
-      let i = before row (decisions a j) j x in
-      let k = before row (decisions b j) j x in
-      let ik : k ≡ i = sym (before-same row sh F j hj (decisions a j) (decisions b j) (λ f hf. decided j f hj hf) x (omega arith)) in
-      sent-carried row sh b t F j x hj h cb
-      ∙ sym (getD-take (countSent row F b j) (t j) k 0 (counted-digit b j x hj h cb))
-      ∙ ap (λ (l : List ℕ). getD l k 0) (sym (digits j hj))
-      ∙ ap (λ (n : ℕ). getD (digitsSent row F a s j) n 0) ik
-      ∙ getD-take (countSent row F a j) (s j) i 0 (counted-digit a j x hj h ca)
-      ∙ sym (sent-carried row sh a s F j x hj h ca)
+      let index = before-same row sh F j hj (decisions a j) (decisions b j) (λ f hf. decided j f hj hf) x (omega arith) in
+      sent-carried row sh b tributary F j x hj h cb ∙ ap (λ (i : ℕ). getD (tributary j) i 0) (sym index) ∙ sym (sent-carried row sh a tributary F j x hj h ca)
 
-  pub same-damage : ((j : ℕ) → j < 4 → Binary (t j)) → Damage row a F (lineDigits row a s F) (lineDigits row b t F)
+  same-damage : ((j : ℕ) → j < 4 → Binary (tributary j)) → Damage row a F (lineDigits row a tributary F) (lineDigits row b tributary F)
   same-damage bin =
       record {
-        digits = line-binary row b t bin F;
-        size = tab-length (F * row .digits) 0 (lineDigit row b t);
+        digits = line-binary row b tributary bin F;
+        size = tab-length (F * row .digits) 0 (lineDigit row b tributary);
         others-kept = λ p h keep. let e : p ≡ 4 * (p / 4) + p % 4 = omega arith in rw e (same-carried (p % 4) (p / 4) (omega arith) (omega arith) (rw e at keep));
         few-controls = λ f j hf hj.
-            rw (sent-group row sh a s F f j hf hj, sent-group row sh b t F f j hf hj, decided j f hj hf)
+            rw (sent-group row sh a tributary F f j hf hj, sent-group row sh b tributary F f j hf hj, decided j f hj hf)
             (omega (arith, differing-self (replicate (row .control) (cond (decisions b j f) 1 0))));
       }
 
--- two accepted sends of one frame count that carried the same: the line of the one comes from that of the other by damage. So sends-same gives
--- all that it can: with less in SendsSame this fails
+-- two accepted sends that carried the same: the line of the second is made of its notes and of the first one's tributaries
+module _ (level : ℕ) (row : Row) (e : levelOf level ≡ Of row) (a b : Lent) (ok-a : SendAccepted level a) (ok-b : SendAccepted level b) (same : SendsSame level a b) where
+  abbrev first : ℕ → List ℕ
+  first = tributary level row e a ok-a
+
+  agree : Agree row (b .notes) (tributary level row e b ok-b) first
+  agree j i hj hi =
+      let nb = send-count level row e b ok-b j hj in
+      let na = ap (λ (counts : List ℕ). getD counts j 0) (same .counted) ∙ nb in
+      sym (getD-take (getD (sentCounts level b) j 0) (tributary level row e b ok-b j) i 0 (omega (arith, nb)))
+      ∙ ap (λ (ds : List ℕ). getD ds i 0) (sym (same .digits j hj))
+      ∙ getD-take (getD (sentCounts level a) j 0) (first j) i 0 (omega (arith, na))
+
+  one-line : sentLine level b ≡ lineOf row (b .notes) first (length (b .line))
+  one-line =
+      send-bytes level row e b ok-b
+      ∙ same-line row (shared level row e) (b .notes) (tributary level row e b ok-b) first agree (length (b .line)) (send-whole level row e b ok-b)
+
+  meet-on : length (a .notes) ≡ length (b .notes) → DamageAt level (a .notes) (sentLine level a) (sentLine level b)
+  meet-on len =
+      on-damage level row e (a .notes) (sentLine level a) (sentLine level b)
+      (rw (send-line level row e a ok-a, digits-b) (same-damage row (shared level row e) (length (a .notes)) (a .notes) (b .notes) first (same .decided) bin))
+    where
+      bin : (j : ℕ) → j < 4 → Binary (first j)
+      bin = send-sound level row e a ok-a .digits
+
+      digits-b : digitsOf (sentLine level b) ≡ lineDigits row (b .notes) first (length (a .notes))
+      digits-b = ap digitsOf one-line ∙ line-digits row (b .notes) first bin (length (b .line)) (length (a .notes)) (rw len (send-places level row e b ok-b))
+
+-- two accepted sends of one frame count that carried the same: the line of the one comes from that of the other by damage. So `sends-same` says
+-- all that can be said
 pub same-meet : (level : ℕ) (a b : Lent) → SendAccepted level a → SendAccepted level b → length (a .notes) ≡ length (b .notes) → SendsSame level a b
     → DamageAt level (a .notes) (sentLine level a) (sentLine level b)
-same-meet level a b ok-a ok-b len same = let on = send-level level a ok-a in go (on .0) (on .1)
-  where
-    go : (row : Row) → levelOf level ≡ Of row → DamageAt level (a .notes) (sentLine level a) (sentLine level b)
-    go row e = on-damage level row e (a .notes) (sentLine level a) (sentLine level b) (rw (send-line level row e a ok-a, send-line level row e b ok-b, ← len) damage)
-      where
-        one : ℕ → List ℕ
-        one = tributary level row e a ok-a
-
-        two : ℕ → List ℕ
-        two = tributary level row e b ok-b
-
-        digits : (j : ℕ) → j < 4 → digitsSent row (length (a .notes)) (a .notes) one j ≡ digitsSent row (length (a .notes)) (b .notes) two j
-        digits j hj =
-            sym (send-digits level row e a ok-a j hj) ∙ same .digits j hj ∙ send-digits level row e b ok-b j hj ∙ ap (λ (n : ℕ). digitsSent row n (b .notes) two j) (sym len)
-
-        damage : Damage row (a .notes) (length (a .notes)) (lineDigits row (a .notes) one (length (a .notes))) (lineDigits row (b .notes) two (length (a .notes)))
-        damage = same-damage row (shared level row e) (length (a .notes)) (a .notes) (b .notes) one two (same .decided) digits (send-sound level row e b ok-b .digits)
+same-meet level a b ok-a ok-b len same = let on = send-level level a ok-a in meet-on level (on .0) (on .1) a b ok-a ok-b same len
 
 -- what a reading leaves, sent on
 module _ (level : ℕ) (row : Row) (e : levelOf level ≡ Of row) (c : Lent) (ok : ReadAccepted level c) where
@@ -171,4 +155,22 @@ repeated level send read ok lent damage =
     let back = send-returned level send read ok lent damage in
     let on = read-level level read (back .accepted) in
     let lent-on : LentFor (on .0 .n) send read = rw (on .1) at lent in
-    same-meet level send (sentOn level read) ok (sent-on-accepted level read (back .accepted)) (sym (noted-on level (on .0) (on .1) read (back .accepted) ∙ lent-on .noted)) (sent-on level send read back)
+    let frames = noted-on level (on .0) (on .1) read (back .accepted) ∙ lent-on .noted in
+    same-meet level send (sentOn level read) ok (sent-on-accepted level read (back .accepted)) (sym frames) (sent-on level send read back)
+
+-- and one that is sent on undamaged comes again, byte for byte
+pub line-again : (level : ℕ) (send read : Lent) → SendAccepted level send → LentAt level send read → read .line ≡ sentLine level send
+    → sentLine level (sentOn level read) ≡ sentLine level send
+line-again level send read ok lent same = let on = send-level level send ok in go (on .0) (on .1)
+  where
+    back : SendBack level send read
+    back = send-back level send read ok lent same
+
+    onward : SendAccepted level (sentOn level read)
+    onward = sent-on-accepted level read (back .returned .accepted)
+
+    go : (row : Row) → levelOf level ≡ Of row → sentLine level (sentOn level read) ≡ sentLine level send
+    go row e =
+        let size : length (read .line) ≡ length (send .line) = ap length (same ∙ send-bytes level row e send ok) ∙ bytes-length (length (send .line)) _ in
+        one-line level row e send (sentOn level read) ok onward (sent-on level send read (back .returned))
+        ∙ rw (back .noted, size) (sym (send-bytes level row e send ok))

@@ -1,7 +1,7 @@
 -- Demand 3 at 8448, 34368 and 139264 kbit/s, with the level's numbers in the statement. Proved once over the row: what the plain words
 -- allow is damage as the row defines it, and the places that they give to a tributary are its own.
 use mathlib.Core.Path.{_≡_, refl, sym, _∙_, ap}
-use mathlib.Core.Bool.{Bool, true, false, true≢false, _&&_}
+use mathlib.Core.Bool.{Bool, true, false, true≢false, false≢true, _&&_}
 use mathlib.Core.List.{List, [], _∷_, map}
 use Prim.Native.Nat.{ℕ, zero, suc, _+_, _*_, _-_, _/_, _%_, _≤_, _<_}
 use native.Mathlib.Omega.{arith}
@@ -10,7 +10,7 @@ use native.Mathlib.Nat.{add-mul, zero-mul, div-add-mod', div-lt-iff-lt-mul, mod-
 use lib.Dec.{eqb, leb}
 use lib.ListN.{length, getD}
 use lib.Arith.{digits-lt}
-use borrow.Author.Tests.{le-leb, lt-leb}
+use borrow.Author.Tests.{le-leb, lt-leb, not-true}
 use Rattle.digits.specs.Digits.{digitsOf, tab}
 use Rattle.digits.proofs.Laws.{digits-binary, map-append, tab-at, tab-length}
 use Rattle.levels.specs.declared.table.Row.{Row}
@@ -25,28 +25,22 @@ use Rattle.levels.proofs.Positions.{stands, pos-of-sum, in-frame}
 use Rattle.levels.proofs.Columns.{frame-start}
 use Rattle.levels.proofs.Ways.{kind-first, kind-control, kind-justification, kind-between, kind-after}
 use Rattle.multiplex.proofs.Own.{head-not-own, head-pos, own-past}
-use Rattle.promises.specs.Damage.{counted, kept, liberty, libertyAt, allowed, Damage, ownPlace}
+use Rattle.promises.specs.Damage.{kept, liberty, libertyAt, allowed, Damage, ownPlace}
 use Rattle.promises.specs.Calls.{Lent, sentLine, DamageAt}
 use Rattle.promises.specs.Plain.{OutOfFours, digitsAfter, Changed, DemandThree}
 use Rattle.promises.proofs.Lists.{tab-more}
 use Rattle.promises.proofs.Sent.{whose}
+use Rattle.promises.proofs.Recovered.{kept-carries}
 use Rattle.promises.proofs.Accepted.{shared}
 use Rattle.promises.proofs.Calls.{on-damage, sends-same, send-returned, others-outside}
 
--- what is kept is an own place, and no control digit, and no stuffing digit
+-- what is kept is an own place
 kept-own : (k : Kind) (st : Bool) → liberty k st ≡ kept → isOwn k ≡ true
 kept-own Word st e = cc
 kept-own (Service s) st e = cc
 kept-own Control st e = cc
 kept-own Justification st e = refl
 kept-own Tributary st e = refl
-
-kept-carried : (st : Bool) → liberty Justification st ≡ kept → st ≡ false
-kept-carried true e = cc
-kept-carried false e = refl
-
-kept-counted : counted ≡ kept → ⊥
-kept-counted e = let z : _≡_ {A = ℕ} 0 1 = cc in omega arith
 
 module _ (row : Row) (sh : Shared row) where
   -- the numbers of the level: where its control digits and its justification digits begin
@@ -92,7 +86,7 @@ module _ (row : Row) (sh : Shared row) where
         let few : i < row .control = omega (arith, tab-length (row .control) 1 starts) in
         let start = control-start i few in
         let here = standing (1 + i) t (omega (arith, start)) (omega (arith, sh .group)) (omega (arith, start, sh .room)) in
-        kept-counted (rw (kind-control row sh (1 + i) (omega arith) t (omega (arith, start))) at here)
+        false≢true (kept-carries Control (decisions notes (p % 4) f) (rw (kind-control row sh (1 + i) (omega arith) t (omega (arith, start))) at here))
 
     kept-unstuffed : justification ≤ r → r < justification + 4 → decisions notes (r - justification) f ≡ false
     kept-unstuffed lo up =
@@ -102,7 +96,8 @@ module _ (row : Row) (sh : Shared row) where
         let ht : t < row .set = omega (arith, sh .room) in
         let here = standing s t (omega arith) hs ht in
         let mine : p % 4 ≡ r - justification = whose row sh f s t p (omega arith) hs ht ∙ omega arith in
-        rw mine at (kept-carried (decisions notes (p % 4) f) (rw (kind-justification row sh s (omega (arith, sh .later-set)) (omega (arith, sh .later-set)) t (omega arith) (omega arith)) at here))
+        let kind = kind-justification row sh s (omega (arith, sh .later-set)) (omega (arith, sh .later-set)) t (omega arith) (omega arith) in
+        not-true (decisions notes (r - justification) f) (kept-carries Justification (decisions notes (r - justification) f) (rw (kind, mine) at here))
 
   -- and every other place is kept: past the head, no control digit and no stuffing digit
   plain-kept : (notes : List ℕ) (p f r : ℕ) → p ≡ f * row .digits + r → row .first ≤ r → r < row .digits → OutOfFours r controls

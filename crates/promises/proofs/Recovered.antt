@@ -36,6 +36,15 @@ carried-kept Justification true c = absurd (false≢true c)
 carried-kept Justification false c = refl
 carried-kept Tributary st c = refl
 
+-- and no other
+pub kept-carries : (k : Kind) (st : Bool) → liberty k st ≡ kept → carried k st ≡ true
+kept-carries Word st e = cc
+kept-carries (Service s) st e = cc
+kept-carries Control st e = cc
+kept-carries Justification true e = cc
+kept-carries Justification false e = refl
+kept-carries Tributary st e = refl
+
 module _ (row : Row) (sh : Shared row) (F : ℕ) where
   module _ (notes : List ℕ) (tributary : ℕ → List ℕ) (ds : List ℕ) (damage : Damage row notes F (lineDigits row notes tributary F) ds) where
     abbrev sent : List ℕ
