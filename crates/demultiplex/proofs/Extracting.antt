@@ -15,12 +15,11 @@ use Rattle.levels.specs.declared.table.Row.{Row}
 use Rattle.levels.specs.declared.places.At.{At}
 use Rattle.levels.specs.Table.{Shared}
 use Rattle.levels.specs.Places.{kindOf, posOf}
+use Rattle.levels.specs.Sizes.{Fits}
 use Rattle.levels.specs.Order.{carried, carries, before, decisions, placesOf}
 use Rattle.levels.proofs.Inverse.{places-length}
-use Rattle.levels.proofs.Positions.{Stands}
-use Rattle.levels.proofs.Walk.{Walking, walk-start, walk-next, here, column-in, frame-in, index-small, index-room}
-use Rattle.demultiplex.specs.Extract.{takenTo, quarterFrom, Fits, Taken}
-use Rattle.demultiplex.proofs.Inside.{short-line}
+use Rattle.levels.proofs.Walk.{Walking, walk-start, walk-next, here, Column, column}
+use Rattle.demultiplex.specs.Extract.{takenTo, quarterFrom, Taken}
 
 -- a list with zeros behind it, and what one digit more, or none, makes of it
 grown : (t : Bool) (ts old new : List ℕ) (i m d : ℕ) → length ts ≡ i → old ≡ ts ++ replicate (m - i) 0 → (t ≡ true → i < m) → new ≡ cond t (set old i d) old
@@ -87,26 +86,17 @@ module _ {row : Row} {line notes : List ℕ} {j q x i : ℕ} {at : At} {old : Li
   abbrev ds : List ℕ
   ds = digitsOf line
 
-  pub line-short : length line ≤ 65536
-  line-short = short-line row sh (length notes) (length line) (so-far .fits .few) (so-far .fits .whole)
-
   -- what a column inside the line asks of it, of the notes and of the quarter
   module _ (h : x < 2 * length line) where
-    stands-in : Stands row sh (4 * x + j) at
-    stands-in = column-in row sh j jh decided (length notes) (length line) (so-far .fits .whole) (so-far .fits .few) x i at h (so-far .walk)
-
-    pub frame-noted : at .frame < length notes
-    frame-noted = frame-in row sh j jh decided (length notes) (length line) (so-far .fits .whole) (so-far .fits .few) x i at h (so-far .walk)
+    pub here-is : Column row (length line) (length notes) q j decided x i at
+    here-is = column (so-far .fits) jh (so-far .walk) h
 
     pub next-asks : Shared row × (at .frame ≤ 64) × (at .set < row .sets) × (at .place < row .set)
-    next-asks = (sh, omega (arith, frame-noted, so-far .fits .few), stands-in .set-in, stands-in .place-in)
+    next-asks = (sh, here-is .frame-few, here-is .set-in, here-is .place-in)
 
     module _ (st : Bool) (es : st ≡ decided (at .frame)) where
       pub take-asks : Shared row × (4 * x + j < 8 * length line) × (i < 65536) × (carried (kindOf row (at .set) (at .place)) st ≡ true → i < 8 * length old)
-      take-asks =
-          let few = index-small row sh j jh decided (length notes) (length line) (so-far .fits .whole) (so-far .fits .few) x i at h (so-far .walk) in
-          let inside = index-room row sh j jh decided (length notes) (length line) (so-far .fits .whole) (so-far .fits .few) x i at h (so-far .walk) in
-          (sh, omega (arith, jh), few, λ c. omega (arith, inside (rw es at c), so-far .fits .room, so-far .size))
+      take-asks = (sh, here-is .place-in-line, here-is .index-small, λ c. omega (arith, here-is .index-room (rw es at c), so-far .size))
 
       pub extracting-more : (i′ : ℕ) (new : List ℕ) → Taken row at ds (4 * x + j) i st i′ old new
           → (at′ : At) → ((p : ℕ) → at ≡ posOf row p → at′ ≡ posOf row (p + 4)) → Extracting row line notes j q (x + 1) i′ at′ new

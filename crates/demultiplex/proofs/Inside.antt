@@ -2,17 +2,12 @@
 use mathlib.Core.Path.{_≡_, _∙_, ap}
 use Prim.Native.Nat.{ℕ, _+_, _*_, _≤_, _<_}
 use native.Mathlib.Omega.{arith}
-use native.Mathlib.Nat.{add-mul, mul-left-comm, mul-le-mul, mul-le-mul-right}
+use native.Mathlib.Nat.{add-mul, mul-left-comm, mul-le-mul-right}
 use Rattle.levels.specs.declared.table.Row.{Row}
 use Rattle.levels.specs.Table.{Shared}
 use Rattle.levels.proofs.Positions.{in-frame}
 
 module _ (row : Row) (sh : Shared row) where
-  -- a line of at most 64 frames is short
-  pub short-line : (F bytes : ℕ) → F ≤ 64 → bytes ≡ F * row .bytes → bytes ≤ 65536
-  short-line F bytes h e =
-      omega (arith, mul-le-mul {n₁ = F} {m₁ = row .bytes} {n₂ = 64} {m₂ = 366} h (omega (arith, sh .packed, sh .short)))
-
   -- frame f of F is whole
   pub frame-whole : (f F bytes : ℕ) → f < F → bytes ≡ F * row .bytes → (f + 1) * row .bytes ≤ bytes
   frame-whole f F bytes h e = omega (arith, mul-le-mul-right {m = f + 1} {n = F} (row .bytes) (omega arith))

@@ -14,10 +14,11 @@ use Rattle.digits.specs.Digits.{tab}
 use Rattle.digits.proofs.Laws.{bytes-length, tab-of}
 use Rattle.levels.specs.declared.table.Row.{Row}
 use Rattle.levels.specs.Table.{Shared}
-use Rattle.levels.specs.Sizes.{Accepted}
+use Rattle.levels.specs.Sizes.{Accepted, Fits}
 use Rattle.levels.specs.Order.{before, decisions, countOf, countsOf}
 use Rattle.levels.proofs.Counts.{count-of}
-use Rattle.demultiplex.specs.Extract.{quarterFrom, quartersFrom, Fits}
+use Rattle.levels.proofs.Judged.{fits-quarter}
+use Rattle.demultiplex.specs.Extract.{quarterFrom, quartersFrom}
 
 quarter-length : (row : Row) (notes line : List ℕ) (q j : ℕ) → length (quarterFrom row notes line q j) ≡ q
 unfolding quarterFrom
@@ -40,7 +41,7 @@ pub quarters-none : (row : Row) (line notes counts buffer : List ℕ) → Shared
 unfolding quartersTo
 quarters-none row line notes counts buffer sh ok four =
     record {
-      fits = rw (ok .noted) (record { shared = sh; whole = ok .frames; few = ok .few; room = ok .room });
+      fits = fits-quarter sh ok;
       four = four;
       size = ok .quarters;
       counted = below-none (λ (k : ℕ). getD counts k 0 ≡ countOf row (decisions notes k) (length notes));

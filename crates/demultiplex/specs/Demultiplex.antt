@@ -1,5 +1,6 @@
 -- What the demultiplex call answers and what it leaves in the notes and in the buffer, refused or not, for any input. Document 01,
 -- "Multiplexing and demultiplexing from a known start" and "Refusal numbers".
+use mathlib.Core.Path.{_≡_}
 use mathlib.Core.Bool.{cond}
 use mathlib.Core.List.{List, [], _∷_}
 use Prim.Native.Nat.{ℕ, _/_}
@@ -49,3 +50,10 @@ bufferOn row line notes buffer =
 
 abbrev pub bufferAfter : ℕ → List ℕ → ℕ → List ℕ → List ℕ
 bufferAfter level line notes buffer = onLevel (levelOf level) (λ (row : Row). bufferOn row line notes buffer) buffer
+
+-- the whole statement of the call: its answer, and the notes and the buffer that it leaves
+abbrev pub Met : ℕ → List ℕ → List ℕ → List ℕ → Demultiplexed → List ℕ → List ℕ → Type 0
+Met level line notes buffer answer read left =
+    (answer ≡ demultiplexed level line (length notes) (length buffer))
+    × (read ≡ notesAfter level line notes (length buffer))
+    × (left ≡ bufferAfter level line (length notes) buffer)

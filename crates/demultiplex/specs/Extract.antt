@@ -2,12 +2,11 @@
 use mathlib.Core.Path.{_≡_}
 use mathlib.Core.Bool.{Bool, cond}
 use mathlib.Core.List.{List, _++_, map}
-use Prim.Native.Nat.{ℕ, _+_, _*_, _-_, _≤_}
+use Prim.Native.Nat.{ℕ, _+_, _*_, _-_}
 use lib.ListN.{length, getD, set, replicate}
 use Rattle.digits.specs.Digits.{digitsOf, bytesOf, Bytes}
 use Rattle.levels.specs.declared.table.Row.{Row}
 use Rattle.levels.specs.declared.places.At.{At}
-use Rattle.levels.specs.Table.{Shared}
 use Rattle.levels.specs.Places.{kindOf}
 use Rattle.levels.specs.Order.{carried, decisions, placesOf}
 
@@ -27,14 +26,6 @@ unfoldable pub quartersFrom : Row → List ℕ → List ℕ → ℕ → List ℕ
 quartersFrom row notes line q =
     quarterFrom row notes line q 0
     ++ (quarterFrom row notes line q 1 ++ (quarterFrom row notes line q 2 ++ quarterFrom row notes line q 3))
-
--- what an extraction asks of its lengths in bytes: the line is as many whole frames as there are notes, at most 64, and the quarter has
--- room for F·n digits
-pub record Fits (row : Row) (line notes quarter : ℕ) : Type 0 where
-  pub shared : Shared row
-  pub whole : line ≡ notes * row .bytes
-  pub few : notes ≤ 64
-  pub room : notes * row .n ≤ 8 * quarter
 
 -- what one place of a walk leaves in the quarter: a digit that the place carries is put at place i, and the next one goes one further on
 pub record Taken (row : Row) (at : At) (ds : List ℕ) (p i : ℕ) (st : Bool) (next : ℕ) (old new : List ℕ) : Type 0 where

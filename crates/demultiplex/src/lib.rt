@@ -1,8 +1,10 @@
 // Demultiplexing from a known start: a line becomes its notes and four tributaries. First the notes are read, then the tributaries are
 // extracted by these notes, so that each decision is used in its own frame. specs/Demultiplex.antt says what the call answers and leaves.
+use levels::lent;
 use levels::order;
 use levels::places;
 use levels::places::At;
+use levels::places::FramePlace;
 use levels::places::TributaryPlace;
 use levels::sizes;
 use levels::table;
@@ -17,12 +19,12 @@ ghost use Prim.Native.Nat.{_+_, _*_, _/_, _<_, _≤_};
 ghost use lib.ListN.{length, replicate};
 ghost use Rattle.digits.specs.Digits.{digitsOf};
 ghost use Rattle.levels.specs.Table.{Shared};
-ghost use Rattle.levels.specs.Sizes.{Accepted};
+ghost use Rattle.levels.specs.Sizes.{Accepted, Fits};
 ghost use Rattle.levels.specs.Places.{kindOf};
 ghost use Rattle.levels.specs.Order.{carried, before, decisions, countsOf};
 ghost use Rattle.demultiplex.specs.Notes.{bitOf, voteAt, serviceAt, noteOf, splitBy, splitIn, notesOf, alignmentTo, splitTo};
-ghost use Rattle.demultiplex.specs.Extract.{quarterFrom, quartersFrom, Fits, Taken};
-ghost use Rattle.demultiplex.specs.Demultiplex.{refusedWith, answerOn, notesOn, bufferOn, demultiplexed, notesAfter, bufferAfter};
+ghost use Rattle.demultiplex.specs.Extract.{quarterFrom, quartersFrom, Taken};
+ghost use Rattle.demultiplex.specs.Demultiplex.{refusedWith, answerOn, notesOn, bufferOn, Met};
 
 pub struct Demultiplexed {
     pub refusal: u64,
@@ -80,7 +82,8 @@ fn read_group(row: Row, line: &[u8], f: usize, j: usize) -> Noted
     requires { ⌜ Shared row × (j < 4) × (length (now line) ≤ 65536) × ((f + 1) * row .bytes ≤ length (now line)) ⌝ }
     ensures { λ r. ⌜ (r .note ≡ bitOf (voteAt row (digitsOf (now (line .entry))) f j .stuffed)) × (r .split ≡ splitBy (voteAt row (digitsOf (now (line .entry))) f j)) × (r .note < 2) × (r .split < 2) ⌝ }
 {
-    let v = vote::group_vote(line, f * row.digits + (row.set + j), row.set, row.control);
+    let first = FramePlace(f * row.digits + (row.set + j));
+    let v = vote::group_vote(line, first, row.set, row.control);
     Noted {
         note: bit_of(v),
         split: split_by(v),
@@ -93,7 +96,8 @@ fn service_at(row: Row, line: &[u8], f: usize, k: usize) -> u8
     ensures { λ r. ⌜ (r ≡ serviceAt row (digitsOf (now (line .entry))) f k) × (r < 2) ⌝ }
 {
     if k <= row.nationals {
-        return digits::digit_at(line, f * row.digits + (row.alarm + k));
+        let p = FramePlace(f * row.digits + (row.alarm + k));
+        return lent::line_digit(line, p);
     }
     0
 }
@@ -127,7 +131,8 @@ fn read_notes(row: Row, line: &[u8], notes: &mut [u8]) -> Errors
         let read = read_note(row, line, f);
         notes[f] = read.note;
         groups += read.split;
-        alignment += word::word_errors(row, line, f * row.digits) as usize;
+        let start = FramePlace(f * row.digits);
+        alignment += word::word_errors(row, line, start) as usize;
         f += 1;
     }
     Errors { alignment, groups }
@@ -149,26 +154,25 @@ fn take_one(
     row: Row,
     at: At,
     line: &[u8],
-    p: usize,
+    p: FramePlace,
     dst: &mut [u8],
     i: TributaryPlace,
     st: bool,
 ) -> TributaryPlace
-    requires { ⌜ Shared row × (p < 8 * length (now line)) × (i .0 < 65536) × (carried (kindOf row (at .set) (at .place)) st ≡ true → i .0 < 8 * length (now dst)) ⌝ }
-    ensures { λ r. ⌜ Taken row at (digitsOf (now (line .entry))) p (i .0) st (r .0) (now (dst .entry)) (now (dst .exit)) ⌝ }
+    requires { ⌜ Shared row × (p .0 < 8 * length (now line)) × (i .0 < 65536) × (carried (kindOf row (at .set) (at .place)) st ≡ true → i .0 < 8 * length (now dst)) ⌝ }
+    ensures { λ r. ⌜ Taken row at (digitsOf (now (line .entry))) (p .0) (i .0) st (r .0) (now (dst .entry)) (now (dst .exit)) ⌝ }
 {
-    let k = i.0;
-    if order::carries_at(row, at, st) {
-        let d = digits::digit_at(line, p);
-        digits::put_digit(dst, k, d);
-        let next = k + 1;
-        return TributaryPlace(next);
+    let kind = places::kind_of(row, at);
+    if order::carries_digit(kind, st) {
+        let d = lent::line_digit(line, p);
+        lent::put_tributary_digit(dst, i, d);
+        return TributaryPlace(i.0 + 1);
     }
     i
 }
 
 // Extracts tributary j (from 0) of a line by the notes: its digits, then zeros. Looks at no control digit. Answers how many digits came.
-pub fn extract(row: Row, line: &[u8], notes: &[u8], dst: &mut [u8], j: usize) -> usize
+fn extract(row: Row, line: &[u8], notes: &[u8], dst: &mut [u8], j: usize) -> usize
     requires { ⌜ (j < 4) × Fits row (length (now line)) (length (now notes)) (length (now dst)) ⌝ }
     ensures { λ r. ⌜ (r ≡ before row (decisions (now (notes .entry)) j) j (2 * length (now (line .entry)))) × (now (dst .exit) ≡ quarterFrom row (now (notes .entry)) (now (line .entry)) (length (now (dst .entry))) j) ⌝ }
 {
@@ -183,8 +187,10 @@ pub fn extract(row: Row, line: &[u8], notes: &[u8], dst: &mut [u8], j: usize) ->
     };
     while x < n {
         let f = at.frame;
-        let st = order::is_stuffed(notes[f], j);
-        i = take_one(row, at, line, 4 * x + j, dst, i, st);
+        let note = order::note_of(notes, f);
+        let st = order::is_stuffed(note, j);
+        let p = FramePlace(4 * x + j);
+        i = take_one(row, at, line, p, dst, i, st);
         at = places::next_column(row, at);
         x += 1;
     }
@@ -229,7 +235,7 @@ fn demultiplex_on(row: Row, line: &[u8], notes: &mut [u8], buffer: &mut [u8]) ->
 
 // Demultiplexes the line into the notes and the quarters of the buffer. Any level number, any lengths: see specs/Demultiplex.antt.
 pub fn demultiplex(level: u64, line: &[u8], notes: &mut [u8], buffer: &mut [u8]) -> Demultiplexed
-    ensures { λ r. ⌜ (r ≡ demultiplexed level (now (line .entry)) (length (now (notes .entry))) (length (now (buffer .entry)))) × (now (notes .exit) ≡ notesAfter level (now (line .entry)) (now (notes .entry)) (length (now (buffer .entry)))) × (now (buffer .exit) ≡ bufferAfter level (now (line .entry)) (length (now (notes .entry))) (now (buffer .entry))) ⌝ }
+    ensures { λ r. ⌜ Met level (now (line .entry)) (now (notes .entry)) (now (buffer .entry)) r (now (notes .exit)) (now (buffer .exit)) ⌝ }
 {
     let found = table::level_of(level);
     match found {

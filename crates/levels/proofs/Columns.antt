@@ -3,7 +3,7 @@
 use mathlib.Core.Path.{_≡_, refl, sym, _∙_, ap}
 use mathlib.Core.Logic.{_≢_}
 use mathlib.Core.Bool.{Bool, cond, true, false}
-use Prim.Native.Nat.{ℕ, _+_, _*_, _/_, _-_, _≤_, _<_}
+use Prim.Native.Nat.{ℕ, _+_, _*_, _/_, _%_, _-_, _≤_, _<_}
 use native.Mathlib.Omega.{arith}
 use native.Mathlib.Decide.{decLt, ℕ-discrete}
 use native.Mathlib.Nat.{mul-left-comm}
@@ -15,9 +15,10 @@ use Rattle.levels.specs.declared.places.Kind.the-variants.{Justification
 use Rattle.levels.specs.Table.{Shared}
 use Rattle.levels.specs.Places.{kindOf, posOf}
 use Rattle.levels.specs.Order.{carried, carries}
+use Rattle.levels.proofs.Choice.{cond-by}
 use Rattle.levels.proofs.Positions.{pos-of-sum}
 use Rattle.levels.proofs.Sentences.{set-start}
-use Rattle.levels.proofs.Ways.{kind-word, kind-alarm, kind-national, kind-first, kind-control, kind-justification, kind-between, kind-after}
+use Rattle.levels.proofs.Ways.{kind-word, kind-service, kind-first, kind-control, kind-justification, kind-after, kind-between}
 
 -- the columns of a set, and of a frame
 abbrev pub wide : Row → ℕ
@@ -26,32 +27,99 @@ wide row = row .set / 4
 abbrev pub columns : Row → ℕ
 columns row = row .digits / 4
 
--- how many columns the head of set s takes, where st is the frame's decision
-unfoldable pub headColumns : Row → ℕ → Bool → ℕ
-headColumns row s st = cond (eqb s 0) (row .first / 4) (cond (eqb s (row .sets - 1)) (1 + cond st 1 0) 1)
+-- how many places the head of the last set takes, where st is the frame's decision: a justification place that carries lies past the head
+abbrev pub lastHead : Row → Bool → ℕ
+lastHead row st = cond st (row .last) (row .last - 4)
+
+-- how many places the head of set s takes, and how many columns
+unfoldable pub headOf : Row → ℕ → Bool → ℕ
+headOf row s st = cond (eqb s 0) (row .first) (cond (eqb s (row .sets - 1)) (lastHead row st) (row .middle))
+
+abbrev pub headColumns : Row → ℕ → Bool → ℕ
+headColumns row s st = headOf row s st / 4
 
 module _ (row : Row) (sh : Shared row) where
-  -- no place of the first set's head carries a digit
-  pub head-none : (r : ℕ) (st : Bool) → r < row .first → carried (kindOf row 0 r) st ≡ false
-  head-none r st h =
-      elim (decLt r (row .len)) [
-        | yes a ↦ rw (kind-word row sh r a)
-        | no a ↦
-            elim (ℕ-discrete r (row .alarm)) [
-              | yes e ↦ rw (e, kind-alarm row sh)
-              | no n ↦
-                  let k = r - row .national in
-                  let e : r ≡ row .national + k = omega (arith, sh .alarm-next, sh .national-next) in
-                  rw (e, kind-national row sh k (omega (arith, sh .alarm-next, sh .national-next, sh .first-next)))
-            ]
-      ]
+  -- the heads, set by set
+  pub head-first : (st : Bool) → headOf row 0 st ≡ row .first
+  unfolding headOf
+  head-first st = refl
 
-  -- and each place past it does
-  pub first-carries : (r : ℕ) (st : Bool) → leb (row .first) r ≡ carried (kindOf row 0 r) st
+  pub head-last : (s : ℕ) (st : Bool) → s + 1 ≡ row .sets → headOf row s st ≡ lastHead row st
+  unfolding headOf
+  head-last s st end = rw (ne-eqb s 0 (λ e. omega (arith, sh .later-set)), eq-eqb s (row .sets - 1) (omega arith))
+
+  pub head-between : (s : ℕ) (st : Bool) → 0 < s → s + 1 ≢ row .sets → headOf row s st ≡ row .middle
+  unfolding headOf
+  head-between s st later other =
+      rw (ne-eqb s 0 (λ e. omega arith), ne-eqb s (row .sets - 1) (λ e. other (omega (arith, sh .later-set))))
+
+  -- a head is whole columns
+  pub head-fours : (s : ℕ) (st : Bool) → headOf row s st % 4 ≡ 0
+  unfolding headOf
+  head-fours s st =
+      let fours : ℕ → Type 0 = λ (n : ℕ). n % 4 ≡ 0 in
+      cond-by fours (eqb s 0) (sh .first-fours)
+      (cond-by fours (eqb s (row .sets - 1)) (cond-by fours st (sh .last-fours) (omega (arith, sh .last-fours))) (sh .middle-fours))
+
+  -- no place of the first set's head carries a digit, and each place past it does
+  first-carries : (r : ℕ) (st : Bool) → carried (kindOf row 0 r) st ≡ leb (row .first) r
   first-carries r st =
       elim (decLt r (row .first)) [
-        | yes h ↦ lt-leb (row .first) r h ∙ sym (head-none r st h)
-        | no h ↦ rw (kind-first row sh r (omega arith)) (le-leb (row .first) r (omega arith))
+        | yes h ↦ none h ∙ sym (lt-leb (row .first) r h)
+        | no h ↦ rw (kind-first row sh r (omega arith)) (sym (le-leb (row .first) r (omega arith)))
+      ]
+    where
+      none : r < row .first → carried (kindOf row 0 r) st ≡ false
+      none h =
+          elim (decLt r (row .len)) [
+            | yes a ↦ rw (kind-word row sh r a)
+            | no a ↦
+                let e : r ≡ row .len + (r - row .len) = omega arith in
+                rw (e, kind-service row sh (r - row .len) (omega arith))
+          ]
+
+  -- so of a set between
+  between-carries : (s r : ℕ) (st : Bool) → 0 < s → s + 1 ≢ row .sets → carried (kindOf row s r) st ≡ leb (row .middle) r
+  between-carries s r st later other =
+      elim (decLt r (row .middle)) [
+        | yes h ↦ rw (kind-control row sh s later r (omega (arith, sh .middle-four))) (sym (lt-leb (row .middle) r h))
+        | no h ↦ rw (kind-between row sh s later other r (omega arith)) (sym (le-leb (row .middle) r (omega arith)))
+      ]
+
+  -- and of the last: the decision says whether the justification places lie in the head
+  last-carries : (s r : ℕ) (st : Bool) → 0 < s → s + 1 ≡ row .sets → carried (kindOf row s r) st ≡ leb (lastHead row st) r
+  last-carries s r st later end =
+      elim (decLt r (row .last - 4)) [
+        | yes a ↦ rw (kind-control row sh s later r (omega (arith, sh .last-eight))) (sym (lt-leb (lastHead row st) r (least st a)))
+        | no a ↦
+            elim (decLt r (row .last)) [
+              | yes b ↦ rw (kind-justification row sh s later end r (omega arith) b) (justification st (omega arith) b)
+              | no b ↦ rw (kind-after row sh s later end r (omega arith)) (sym (le-leb (lastHead row st) r (most st (omega arith))))
+            ]
+      ]
+    where
+      least : (st : Bool) → r < row .last - 4 → r < lastHead row st
+      least true h = omega arith
+      least false h = h
+
+      justification : (st : Bool) → row .last - 4 ≤ r → r < row .last → carried Justification st ≡ leb (lastHead row st) r
+      justification true lo hi = sym (lt-leb (row .last) r hi)
+      justification false lo hi = sym (le-leb (row .last - 4) r lo)
+
+      most : (st : Bool) → row .last ≤ r → lastHead row st ≤ r
+      most true h = h
+      most false h = omega arith
+
+  -- a place carries a digit exactly if it lies past its set's head
+  pub place-carries : (s r : ℕ) (st : Bool) → carried (kindOf row s r) st ≡ leb (headOf row s st) r
+  place-carries s r st =
+      elim (ℕ-discrete s 0) [
+        | yes e ↦ rw (e, head-first st) (first-carries r st)
+        | no n ↦
+            elim (ℕ-discrete (s + 1) (row .sets)) [
+              | yes end ↦ rw (head-last s st end) (last-carries s r st (omega arith) end)
+              | no other ↦ rw (head-between s st (omega arith) other) (between-carries s r st (omega arith) other)
+            ]
       ]
 
 module _ (row : Row) (sh : Shared row) (j : ℕ) (jh : j < 4) where
@@ -66,53 +134,15 @@ module _ (row : Row) (sh : Shared row) (j : ℕ) (jh : j < 4) where
   column-pos f s c hs hc =
       pos-of-sum row sh (4 * (f * columns row + (s * wide row + c)) + j) f s (4 * c + j) (omega (arith, frame-start f, set-start row sh s)) hs (omega (arith, sh .set-fours))
 
-  column-first : (c : ℕ) (st : Bool) → carried (kindOf row 0 (4 * c + j)) st ≡ leb (row .first / 4) c
-  column-first c st =
-      elim (decLt c (row .first / 4)) [
-        | yes h ↦ head-none row sh (4 * c + j) st (omega (arith, sh .first-fours)) ∙ sym (lt-leb (row .first / 4) c h)
-        | no h ↦ rw (kind-first row sh (4 * c + j) (omega (arith, sh .first-fours)), le-leb (row .first / 4) c (omega arith))
-      ]
-
-  column-last : (s c : ℕ) (st : Bool) → 0 < s → s + 1 ≡ row .sets → carried (kindOf row s (4 * c + j)) st ≡ leb (1 + cond st 1 0) c
-  column-last s c st later last =
-      elim (decLt c 1) [
-        | yes h ↦ rw (kind-control row sh s later (4 * c + j) (omega arith)) (sym (lt-leb (1 + cond st 1 0) c (omega arith)))
-        | no h ↦
-            elim (decLt c 2) [
-              | yes h′ ↦
-                  let e : c ≡ 1 = omega arith in
-                  rw (kind-justification row sh s later last (4 * c + j) (omega arith) (omega arith), e) (second st)
-              | no h′ ↦ rw (kind-after row sh s later (4 * c + j) (omega arith)) (sym (le-leb (1 + cond st 1 0) c (few st (omega arith))))
-            ]
-      ]
-    where
-      second : (st : Bool) → carried Justification st ≡ leb (1 + cond st 1 0) 1
-      second true = refl
-      second false = refl
-
-      few : (st : Bool) → 2 ≤ c → 1 + cond st 1 0 ≤ c
-      few true h = omega arith
-      few false h = omega arith
-
-  column-between : (s c : ℕ) (st : Bool) → 0 < s → s + 1 ≢ row .sets → carried (kindOf row s (4 * c + j)) st ≡ leb 1 c
-  column-between s c st later other =
-      elim (decLt c 1) [
-        | yes h ↦ rw (kind-control row sh s later (4 * c + j) (omega arith)) (sym (lt-leb 1 c h))
-        | no h ↦ rw (kind-between row sh s later other (4 * c + j) (omega arith)) (sym (le-leb 1 c (omega arith)))
-      ]
-
   pub column-carries : (s c : ℕ) (st : Bool) → carried (kindOf row s (4 * c + j)) st ≡ leb (headColumns row s st) c
-  unfolding headColumns
-  column-carries s c st =
-      elim (ℕ-discrete s 0) [
-        | yes e ↦ rw e (column-first c st)
-        | no n ↦
-            elim (ℕ-discrete (s + 1) (row .sets)) [
-              | yes last ↦ rw (ne-eqb s 0 n, eq-eqb s (row .sets - 1) (omega arith)) (column-last s c st (omega arith) last)
-              | no other ↦
-                  rw (ne-eqb s 0 n, ne-eqb s (row .sets - 1) (λ e. other (omega (arith, sh .later-set)))) (column-between s c st (omega arith) other)
-            ]
-      ]
+  column-carries s c st = place-carries row sh s (4 * c + j) st ∙ whole-columns (headOf row s st) (head-fours row sh s st)
+    where
+      whole-columns : (h : ℕ) → h % 4 ≡ 0 → leb h (4 * c + j) ≡ leb (h / 4) c
+      whole-columns h e =
+          elim (decLt c (h / 4)) [
+            | yes a ↦ lt-leb h (4 * c + j) (omega arith) ∙ sym (lt-leb (h / 4) c a)
+            | no a ↦ le-leb h (4 * c + j) (omega arith) ∙ sym (le-leb (h / 4) c (omega arith))
+          ]
 
   -- the same of a column of a line
   pub line-carries : (decided : ℕ → Bool) (f s c : ℕ) → s < row .sets → c < wide row

@@ -7,14 +7,15 @@ use Prim.Native.Nat.{ℕ, zero, suc, _+_, _*_, _/_, _-_, _≤_, _<_}
 use native.Mathlib.Omega.{arith}
 use native.Mathlib.Decide.{decLe, decLt, ℕ-discrete}
 use native.Mathlib.Numerals.{add-one}
-use native.Mathlib.Nat.{add-zero, add-suc, suc-mul, zero-mul, mul-left-comm}
+use native.Mathlib.Nat.{add-zero, suc-mul, zero-mul, mul-left-comm, mul-le-mul}
 use lib.Dec.{eqb, leb}
 use borrow.Author.Tests.{le-leb, lt-leb, eq-eqb, ne-eqb}
 use Rattle.levels.specs.declared.table.Row.{Row}
 use Rattle.levels.specs.Table.{Shared}
 use Rattle.levels.specs.Order.{carries, before, stuffedTo, countOf}
+use Rattle.levels.proofs.Choice.{cond-by}
 use Rattle.levels.proofs.Sentences.{set-start}
-use Rattle.levels.proofs.Columns.{wide, columns, headColumns, line-carries}
+use Rattle.levels.proofs.Columns.{wide, columns, headOf, lastHead, headColumns, head-first, head-last, head-between, line-carries}
 
 -- the columns of the heads of the first s sets
 unfoldable pub headsTo : Row → Bool → ℕ → ℕ
@@ -24,35 +25,39 @@ headsTo row st (suc s) = headsTo row st s + headColumns row s st
 module _ (row : Row) (sh : Shared row) where
   -- a set is wider than its head
   pub head-fits : (s : ℕ) (st : Bool) → headColumns row s st ≤ wide row
-  unfolding headColumns
-  head-fits s st =
-      elim (ℕ-discrete s 0) [
-        | yes e ↦ rw (eq-eqb s 0 e) (omega (arith, sh .room, sh .set-fours, sh .first-fours))
-        | no n ↦ rw (ne-eqb s 0 n) (later (eqb s (row .sets - 1)) st)
-      ]
+  unfolding headOf
+  head-fits s st = omega (arith, fits, sh .set-fours)
     where
-      later : (last st : Bool) → cond last (1 + cond st 1 0) 1 ≤ wide row
-      later true true = omega (arith, sh .room)
-      later true false = omega (arith, sh .room)
-      later false st = omega (arith, sh .room)
+      within : ℕ → Type 0
+      within n = n ≤ row .set
+
+      fits : headOf row s st ≤ row .set
+      fits =
+          cond-by within (eqb s 0) (omega (arith, sh .room))
+          (cond-by within (eqb s (row .sets - 1)) (cond-by within st (sh .last-room) (omega (arith, sh .last-room))) (omega (arith, sh .room, sh .middle-four)))
 
   -- the heads of the first set and of the later ones but the last
-  pub heads-between : (st : Bool) (s : ℕ) → s + 1 < row .sets → headsTo row st (suc s) ≡ row .first / 4 + s
-  unfolding headsTo headColumns
-  heads-between st zero h = omega arith
+  pub heads-between : (st : Bool) (s : ℕ) → s + 1 < row .sets → headsTo row st (suc s) ≡ row .first / 4 + s * (row .middle / 4)
+  unfolding headsTo
+  heads-between st zero h = rw (head-first row sh st, zero-mul (row .middle / 4)) (omega arith)
   heads-between st (suc s) h =
-      let own : headColumns row (suc s) st ≡ 1 = rw (ne-eqb (suc s) 0 (λ e. omega arith), ne-eqb (suc s) (row .sets - 1) (λ e. omega arith)) in
-      omega (arith, heads-between st s (omega arith), own)
+      let own : headOf row (suc s) st ≡ row .middle = head-between row sh (suc s) st (omega arith) (λ e. omega arith) in
+      omega (arith, heads-between st s (omega arith), own, suc-mul s (row .middle / 4))
 
   -- the heads of a whole frame
-  pub heads-whole : (st : Bool) → headsTo row st (row .sets) + 1 ≡ row .first / 4 + row .sets + cond st 1 0
-  unfolding headsTo headColumns
+  pub heads-whole : (st : Bool) → headsTo row st (row .sets) ≡ row .first / 4 + (row .sets - 2) * (row .middle / 4) + lastHead row st / 4
+  unfolding headsTo
   heads-whole st =
       let s = row .sets - 2 in
       let e : row .sets ≡ suc (suc s) = omega (arith, sh .later-set) in
-      let own : headColumns row (suc s) st ≡ 1 + cond st 1 0 = rw (ne-eqb (suc s) 0 (λ e. omega arith), eq-eqb (suc s) (row .sets - 1) (omega (arith, sh .later-set))) in
+      let own : headOf row (suc s) st ≡ lastHead row st = head-last row sh (suc s) st (omega (arith, sh .later-set)) in
       let all : headsTo row st (row .sets) ≡ headsTo row st (suc s) + headColumns row (suc s) st = ap (λ (k : ℕ). headsTo row st k) e in
       omega (arith, all, own, heads-between st s (omega (arith, sh .later-set)))
+
+  -- what a stuffed frame has less than n, against the last set's head
+  acting : (st : Bool) → lastHead row st / 4 + 1 ≡ row .last / 4 + cond st 1 0
+  acting true = omega arith
+  acting false = omega (arith, sh .last-eight)
 
   module _ (j : ℕ) (jh : j < 4) (decided : ℕ → Bool) where
     -- column c of set s of frame f
@@ -91,7 +96,7 @@ module _ (row : Row) (sh : Shared row) where
     frame-count f =
         let all : row .sets * wide row ≡ columns row = omega (arith, sh .whole, sh .packed, set-start row sh (row .sets)) in
         let e : suc f * columns row ≡ f * columns row + row .sets * wide row = omega (arith, suc-mul f (columns row)) in
-        rw e (omega (arith, sets-count f (row .sets) (omega arith), heads-whole (decided f), sh .counted))
+        rw e (omega (arith, sets-count f (row .sets) (omega arith), heads-whole (decided f), acting (decided f), sh .counted))
 
     -- F frames of which s are stuffed carry F * n - s digits
     pub line-count : (F : ℕ) → count (F * columns row) + stuffedTo decided F ≡ F * row .n
@@ -106,3 +111,8 @@ module _ (row : Row) (sh : Shared row) where
         let half : columns row ≡ 2 * row .bytes = omega (arith, sh .packed) in
         let all : 2 * bytes ≡ F * columns row = ap (λ (k : ℕ). 2 * k) e ∙ mul-left-comm 2 F (row .bytes) ∙ ap (λ (k : ℕ). F * k) (sym half) in
         rw all (omega (arith, line-count F))
+
+    -- and there is room for them
+    pub count-room : (F : ℕ) → countOf row decided F ≤ F * row .room
+    unfolding countOf
+    count-room F = omega (arith, mul-le-mul {n₁ = F} {m₁ = row .n} {n₂ = F} {m₂ = row .room} (omega arith) (sh .room-least))

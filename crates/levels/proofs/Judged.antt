@@ -1,5 +1,5 @@
 -- What a call may rely on where its lengths are accepted: the line is F whole frames, F at most 64; there are F notes; the
--- buffer is four quarters, and each has room for F·n digits.
+-- buffer is four quarters, and each has room for F frames.
 use mathlib.Core.Path.{_≡_, refl, sym, _∙_}
 use mathlib.Core.Bool.{Bool, cond, true, false, not, _||_, true≢false}
 use Prim.Native.Nat.{ℕ, _+_, _*_, _/_, _%_, _≤_, _<_}
@@ -9,10 +9,10 @@ use lib.Dec.{eqb, ltb}
 use borrow.Author.Tests.{eqb-true, ltb-false, not-false}
 use Rattle.levels.specs.declared.table.Row.{Row}
 use Rattle.levels.specs.Table.{Shared}
-use Rattle.levels.specs.Sizes.{framesOf, badLine, badNotes, badBuffer, sizeRefusal, Accepted}
+use Rattle.levels.specs.Sizes.{framesOf, badLine, badNotes, badBuffer, sizeRefusal, Accepted, Fits}
 
-pub room-small : (row : Row) → Shared row → (f : ℕ) → f ≤ 64 → f * row .n ≤ 47360
-room-small row sh f h = omega (arith, mul-le-mul {n₁ = f} {m₁ = row .n} {n₂ = 64} {m₂ = 740} h (omega (arith, sh .counted, sh .short)))
+pub room-small : (row : Row) → Shared row → (f : ℕ) → f ≤ 64 → f * row .room ≤ 47360
+room-small row sh f h = omega (arith, mul-le-mul {n₁ = f} {m₁ = row .room} {n₂ = 64} {m₂ = 740} h (omega (arith, sh .counted, sh .room-most, sh .short)))
 
 -- where neither of two faults is there
 neither : (a b : Bool) → not a || b ≡ false → (a ≡ true) × (b ≡ false)
@@ -36,12 +36,21 @@ accepted row line notes buffer e =
     let three = unrefused (badNotes row line notes) 3 _ (λ z. omega arith) (two .1) in
     let four = unrefused (badBuffer row line buffer) 4 0 (λ z. omega arith) (three .1) in
     let whole = line-frames row line (two .0) in
-    let room = neither (eqb (buffer % 4) 0) (ltb (8 * (buffer / 4)) (framesOf row line * row .n)) (four .0) in
+    let room = neither (eqb (buffer % 4) 0) (ltb (8 * (buffer / 4)) (framesOf row line * row .room)) (four .0) in
     let fours = eqb-true (buffer % 4) 0 (room .0) in
     record {
       frames = omega (arith, div-add-mod' line (row .bytes), whole .0);
       few = whole .1;
       noted = eqb-true notes (framesOf row line) (not-false (eqb notes (framesOf row line)) (three .0));
       quarters = omega arith;
-      room = ltb-false (8 * (buffer / 4)) (framesOf row line * row .n) (room .1);
+      room = ltb-false (8 * (buffer / 4)) (framesOf row line * row .room) (room .1);
     }
+
+-- so a quarter fits its tributary
+pub fits-quarter : {row : Row} {line notes buffer : ℕ} → Shared row → Accepted row line notes buffer → Fits row line notes (buffer / 4)
+fits-quarter sh ok = rw (ok .noted) (record { shared = sh; whole = ok .frames; few = ok .few; room = ok .room })
+
+-- a line of at most 64 frames is short
+pub short-line : (row : Row) → Shared row → (F bytes : ℕ) → F ≤ 64 → bytes ≡ F * row .bytes → bytes ≤ 65536
+short-line row sh F bytes h e =
+    omega (arith, mul-le-mul {n₁ = F} {m₁ = row .bytes} {n₂ = 64} {m₂ = 366} h (omega (arith, sh .packed, sh .short)))

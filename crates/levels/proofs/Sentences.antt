@@ -48,13 +48,13 @@ module _ (row : Row) (sh : Shared row) where
                 elim (decLt r 4) [
                   | yes h ↦ absurd (nc (e ∙ kind-control row sh s later r h))
                   | no h ↦
-                      elim (decLt r 8) [
-                        | yes h′ ↦
-                            elim (ℕ-discrete (s + 1) (row .sets)) [
-                              | yes last ↦ absurd (nj (e ∙ kind-justification row sh s later last r (omega arith) h′))
-                              | no other ↦ e ∙ kind-between row sh s later other r (omega arith)
+                      elim (ℕ-discrete (s + 1) (row .sets)) [
+                        | yes end ↦
+                            elim (decLt r (row .last)) [
+                              | yes h′ ↦ absurd (nj (e ∙ kind-justification row sh s later end r (omega (arith, sh .last-eight)) h′))
+                              | no h′ ↦ e ∙ kind-after row sh s later end r (omega arith)
                             ]
-                        | no h′ ↦ e ∙ kind-after row sh s later r (omega arith)
+                        | no other ↦ e ∙ kind-between row sh s later other r (omega (arith, sh .middle-four))
                       ]
                 ]
           ]
@@ -69,9 +69,9 @@ module _ (row : Row) (sh : Shared row) where
             (kind-of-sum (s * row .set + t) 0 s t (omega arith) hi (omega (arith, sh .room)) ∙ kind-control row sh s lo t h, omega (arith, set-start s));
         the-justifications = λ s t last h. (
           kind-of-sum (s * row .set + (4 + t)) 0 s (4 + t) (omega arith) (omega arith) (omega (arith, sh .room))
-              ∙ kind-justification row sh s (omega (arith, sh .later-set)) last (4 + t) (omega arith) (omega arith),
+              ∙ kind-justification row sh s (omega (arith, sh .later-set)) last (4 + t) (omega (arith, sh .last-eight)) (omega (arith, sh .last-eight)),
           omega (arith, set-start s),
         );
         the-others = others;
-        anew = λ s. (sh .first-fours, omega (arith, set-start s), omega (arith, set-start s));
+        anew = λ s. (sh .first-fours, omega (arith, set-start s, sh .middle-fours), omega (arith, set-start s, sh .last-fours));
       }

@@ -10,11 +10,12 @@ use Rattle.levels.specs.declared.table.Row.{Row}
 use Rattle.levels.specs.declared.places.At.{At}
 use Rattle.levels.specs.Table.{Shared}
 use Rattle.levels.specs.Places.{kindOf, posOf}
-use Rattle.levels.specs.Order.{carried, carries, before, countOf}
+use Rattle.levels.specs.Sizes.{Fits}
+use Rattle.levels.specs.Order.{carried, carries, before}
 use Rattle.levels.proofs.Positions.{Stands, stands-at, pos-of-sum}
-use Rattle.levels.proofs.Counts.{count-of}
+use Rattle.levels.proofs.Counts.{count-of, count-room}
 use Rattle.levels.proofs.Inverse.{before-rises}
-use Rattle.levels.proofs.Judged.{room-small}
+use Rattle.levels.proofs.Judged.{room-small, short-line}
 
 module _ (row : Row) (sh : Shared row) (j : ℕ) (jh : j < 4) (decided : ℕ → Bool) where
   -- at column x: the number of the tributary's next digit, and where the column stands
@@ -48,26 +49,50 @@ module _ (row : Row) (sh : Shared row) (j : ℕ) (jh : j < 4) (decided : ℕ →
         place = ea (4 * x + j) (w .place) ∙ ap (λ (p : ℕ). posOf row p) four;
       }
 
-  -- a column inside a line of F frames
-  module _ (F bytes : ℕ) (whole : bytes ≡ F * row .bytes) (few : F ≤ 64) (x i : ℕ) (at : At) (h : x < 2 * bytes) (w : Walking x i at) where
-    pub column-in : Stands row sh (4 * x + j) at
-    column-in = stands-at row sh (4 * x + j) at (w .place)
+-- what a walk may rely on at a column inside a line that fits its notes and its quarter
+pub record Column (row : Row) (line notes quarter j : ℕ) (decided : ℕ → Bool) (x i : ℕ) (at : At) : Type 0 where
+  pub line-short : line ≤ 65536
+  pub place-in-line : 4 * x + j < 8 * line
+  pub frame-noted : at .frame < notes
+  pub frame-few : at .frame ≤ 64
+  pub set-in : at .set < row .sets
+  pub place-in : at .place < row .set
+  pub index-small : i < 65536
+  pub index-room : carried (kindOf row (at .set) (at .place)) (decided (at .frame)) ≡ true → i < 8 * quarter
 
-    line-digits : 8 * bytes ≡ F * row .digits
-    line-digits = ap (λ (k : ℕ). 8 * k) whole ∙ mul-left-comm 8 F (row .bytes) ∙ ap (λ (k : ℕ). F * k) (sym (sh .packed))
+module _ {row : Row} {line notes quarter j : ℕ} (fits : Fits row line notes quarter) (jh : j < 4) {decided : ℕ → Bool} {x i : ℕ} {at : At}
+    (w : Walking row (fits .shared) j jh decided x i at) (h : x < 2 * line) where
+  abbrev sh : Shared row
+  sh = fits .shared
 
-    pub frame-in : at .frame < F
-    frame-in = lt-of-mul-lt-mul-right (row .digits) (omega (arith, column-in .sum, line-digits))
+  stands : Stands row sh (4 * x + j) at
+  stands = stands-at row sh (4 * x + j) at (w .place)
 
-    most : before row decided j (2 * bytes) ≤ F * row .n
-    unfolding countOf
-    most = omega (arith, count-of row sh j jh decided F bytes whole)
+  line-digits : 8 * line ≡ notes * row .digits
+  line-digits = ap (λ (k : ℕ). 8 * k) (fits .whole) ∙ mul-left-comm 8 notes (row .bytes) ∙ ap (λ (k : ℕ). notes * k) (sym (sh .packed))
 
-    pub index-small : i < 65536
-    index-small = omega (arith, w .index, before-rises row decided j x (2 * bytes) (omega arith), most, room-small row sh F few)
+  frame-in : at .frame < notes
+  frame-in = lt-of-mul-lt-mul-right (row .digits) (omega (arith, stands .sum, line-digits))
 
-    pub index-room : carried (kindOf row (at .set) (at .place)) (decided (at .frame)) ≡ true → i < F * row .n
-    unfolding before
-    index-room c =
-        let one : cond {A = ℕ} (carries row decided (4 * x + j)) 1 0 ≡ 1 = rw (sym (here x i at w) ∙ c) in
-        omega (arith, w .index, one, before-rises row decided j (suc x) (2 * bytes) (omega arith), most)
+  most : before row decided j (2 * line) ≤ notes * row .room
+  most = omega (arith, count-of row sh j jh decided notes line (fits .whole), count-room row sh j jh decided notes)
+
+  -- a column that carries a digit has one of those that there is room for
+  has-room : carried (kindOf row (at .set) (at .place)) (decided (at .frame)) ≡ true → i < 8 * quarter
+  unfolding before
+  has-room c =
+      let one : cond {A = ℕ} (carries row decided (4 * x + j)) 1 0 ≡ 1 = rw (sym (here row sh j jh decided x i at w) ∙ c) in
+      omega (arith, w .index, one, before-rises row decided j (suc x) (2 * line) (omega arith), most, fits .room)
+
+  pub column : Column row line notes quarter j decided x i at
+  column =
+      record {
+        line-short = short-line row sh notes line (fits .few) (fits .whole);
+        place-in-line = omega arith;
+        frame-noted = frame-in;
+        frame-few = omega (arith, frame-in, fits .few);
+        set-in = stands .set-in;
+        place-in = stands .place-in;
+        index-small = omega (arith, w .index, before-rises row decided j x (2 * line) (omega arith), most, room-small row sh notes (fits .few));
+        index-room = has-room;
+      }

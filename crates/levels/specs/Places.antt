@@ -17,20 +17,26 @@ nationalDigit zero = FirstNational
 nationalDigit (suc zero) = SecondNational
 nationalDigit (suc (suc k)) = ThirdNational
 
--- place r of the first set: the word, the remote alarm digit, the national digits, then tributary digits
-unfoldable pub firstSet : Row → ℕ → Kind
-firstSet row r =
-    cond (ltb r (row .len)) Word
-    (cond (eqb r (row .alarm)) (Service RemoteAlarm)
-    (cond (ltb r (row .first)) (Service (nationalDigit (r - row .national))) Tributary))
+-- the service digits in the order of their places: the remote alarm digit, then the national digits
+abbrev pub serviceDigit : ℕ → ServiceDigit
+serviceDigit zero = RemoteAlarm
+serviceDigit (suc k) = nationalDigit k
 
--- place r of a later set: four control digits, in the last set four justification digits, then tributary digits
-unfoldable pub laterSet : Bool → ℕ → Kind
-laterSet last r = cond (ltb r 4) Control (cond (ltb r 8) (cond last Justification Tributary) Tributary)
+-- place r of the first set: the word, the service digits, then tributary digits
+unfoldable pub firstSet : Row → ℕ → Kind
+firstSet row r = cond (ltb r (row .len)) Word (cond (ltb r (row .first)) (Service (serviceDigit (r - row .len))) Tributary)
+
+-- place r of a set between the first and the last: its head is four control digits, then tributary digits
+unfoldable pub middleSet : Row → ℕ → Kind
+middleSet row r = cond (ltb r (row .middle)) Control Tributary
+
+-- place r of the last set: the last four digits of its head are the justification digits, those before them control digits
+unfoldable pub lastSet : Row → ℕ → Kind
+lastSet row r = cond (ltb r (row .last - 4)) Control (cond (ltb r (row .last)) Justification Tributary)
 
 -- place r of set s
 unfoldable pub kindOf : Row → ℕ → ℕ → Kind
-kindOf row s r = cond (eqb s 0) (firstSet row r) (laterSet (eqb s (row .sets - 1)) r)
+kindOf row s r = cond (eqb s 0) (firstSet row r) (cond (eqb s (row .sets - 1)) (lastSet row r) (middleSet row r))
 
 -- where place p of a line stands: its frame, the set in the frame, the place in the set. A place in a frame is a place in a line of one frame
 unfoldable pub posOf : Row → ℕ → At

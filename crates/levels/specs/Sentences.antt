@@ -23,5 +23,5 @@ pub record Sentences (row : Row) : Type 0 where
       → (kindAt row (s * row .set + (4 + t)) ≡ Justification) × ((s * row .set + (4 + t)) % 4 ≡ t)
   -- "All other digits from the first tributary place on are tributary digits, in turn 1, 2, 3, 4,"
   pub the-others : (p : ℕ) → row .first ≤ p → p < row .digits → kindAt row p ≢ Control → kindAt row p ≢ Justification → kindAt row p ≡ Tributary
-  -- "starting anew with 1 after each set's head": after the first set's, after a later set's four, after the last set's eight
-  pub anew : (s : ℕ) → (row .first % 4 ≡ 0) × ((s * row .set + 4) % 4 ≡ 0) × ((s * row .set + 8) % 4 ≡ 0)
+  -- "starting anew with 1 after each set's head": after the first set's, after that of a set between, after the last set's
+  pub anew : (s : ℕ) → (row .first % 4 ≡ 0) × ((s * row .set + row .middle) % 4 ≡ 0) × ((s * row .set + row .last) % 4 ≡ 0)

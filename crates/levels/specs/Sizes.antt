@@ -9,6 +9,7 @@ use lib.ListN.{length, take, drop}
 use Rattle.levels.specs.declared.table.Row.{Row}
 use Rattle.levels.specs.declared.table.Level.{Level}
 use Rattle.levels.specs.declared.table.Level.the-variants.{Of, NoSuchLevel}
+use Rattle.levels.specs.Table.{Shared}
 
 -- go on with a level's row, or answer that there is no such level
 abbrev pub onLevel {ℓ} : {A : Type ℓ} → Level → (Row → A) → A → A
@@ -27,9 +28,10 @@ badLine row line = not (eqb (line % row .bytes) 0) || ltb 64 (framesOf row line)
 abbrev pub badNotes : Row → ℕ → ℕ → Bool
 badNotes row line notes = not (eqb notes (framesOf row line))
 
--- 4: "the buffer's length is not a multiple of 4, or eight times a quarter's bytes is less than F·n"
+-- 4: "the buffer's length is not a multiple of 4, or eight times a quarter's bytes is less than F·n": a quarter has room for what F frames
+-- may carry
 abbrev pub badBuffer : Row → ℕ → ℕ → Bool
-badBuffer row line buffer = not (eqb (buffer % 4) 0) || ltb (8 * (buffer / 4)) (framesOf row line * row .n)
+badBuffer row line buffer = not (eqb (buffer % 4) 0) || ltb (8 * (buffer / 4)) (framesOf row line * row .room)
 
 -- the first of them that applies, or 0, by the lengths of line, notes and buffer in bytes
 unfoldable pub sizeRefusal : Row → ℕ → ℕ → ℕ → ℕ
@@ -40,10 +42,17 @@ sizeRefusal row line notes buffer =
 abbrev pub quarterOf : List ℕ → ℕ → List ℕ
 quarterOf buffer j = take (length buffer / 4) (drop (j * (length buffer / 4)) buffer)
 
--- what accepted lengths say: the line is F whole frames, at most 64; there are F notes; the buffer is four quarters with room for F·n digits each
+-- what accepted lengths say: the line is F whole frames, at most 64; there are F notes; the buffer is four quarters with room for F frames each
 pub record Accepted (row : Row) (line notes buffer : ℕ) : Type 0 where
   pub frames : line ≡ framesOf row line * row .bytes
   pub few : framesOf row line ≤ 64
   pub noted : notes ≡ framesOf row line
   pub quarters : buffer ≡ 4 * (buffer / 4)
-  pub room : framesOf row line * row .n ≤ 8 * (buffer / 4)
+  pub room : framesOf row line * row .room ≤ 8 * (buffer / 4)
+
+-- the same of one tributary: the line is as many whole frames as there are notes, at most 64, and its quarter has room for them
+pub record Fits (row : Row) (line notes quarter : ℕ) : Type 0 where
+  pub shared : Shared row
+  pub whole : line ≡ notes * row .bytes
+  pub few : notes ≤ 64
+  pub room : notes * row .room ≤ 8 * quarter

@@ -2,7 +2,7 @@
 use mathlib.Core.Path.{_≡_}
 use mathlib.Core.Logic.{_≢_}
 use mathlib.Core.Bool.{cond}
-use Prim.Native.Nat.{ℕ, _+_, _*_, _/_, _%_, _^_, _≤_, _<_}
+use Prim.Native.Nat.{ℕ, _+_, _*_, _-_, _/_, _%_, _^_, _≤_, _<_}
 use lib.Dec.{eqb}
 use Rattle.levels.specs.declared.table.Row.{Row}
 use Rattle.levels.specs.declared.table.Level.{Level}
@@ -16,22 +16,24 @@ use Rattle.levels.specs.declared.table.Level.the-variants.{Of, NoSuchLev
 -- | remote alarm place                   | 10         | 10         | 12           |
 -- | national places                      | 11         | 11         | 13, 14, 15   |
 -- | first tributary place                | 12         | 12         | 16           |
+-- |   of a set between, of the last set  | 4, 8       | 4, 8       | 4, 8         |
 -- | control digits in a group            | 3          | 3          | 5            |
 -- | digits per tributary n, none stuffed | 206        | 378        | 723          |
+-- | room per tributary, in digits        | 206        | 378        | 723          |
 abbrev pub row2 : Row
 row2 =
     record
-    { digits = 848; bytes = 106; sets = 4; set = 212; word = 0b1111010000; len = 10; alarm = 10; national = 11; nationals = 1; first = 12; control = 3; n = 206 }
+    { digits = 848; bytes = 106; sets = 4; set = 212; word = 0b1111010000; len = 10; alarm = 10; national = 11; nationals = 1; first = 12; middle = 4; last = 8; control = 3; n = 206; room = 206 }
 
 abbrev pub row3 : Row
 row3 =
     record
-    { digits = 1536; bytes = 192; sets = 4; set = 384; word = 0b1111010000; len = 10; alarm = 10; national = 11; nationals = 1; first = 12; control = 3; n = 378 }
+    { digits = 1536; bytes = 192; sets = 4; set = 384; word = 0b1111010000; len = 10; alarm = 10; national = 11; nationals = 1; first = 12; middle = 4; last = 8; control = 3; n = 378; room = 378 }
 
 abbrev pub row4 : Row
 row4 =
     record
-    { digits = 2928; bytes = 366; sets = 6; set = 488; word = 0b111110100000; len = 12; alarm = 12; national = 13; nationals = 3; first = 16; control = 5; n = 723 }
+    { digits = 2928; bytes = 366; sets = 6; set = 488; word = 0b111110100000; len = 12; alarm = 12; national = 13; nationals = 3; first = 16; middle = 4; last = 8; control = 5; n = 723; room = 723 }
 
 -- the row of a level; every number but 2, 3 and 4 is no level
 unfoldable pub levelOf : ℕ → Level
@@ -50,20 +52,29 @@ pub record Shared (row : Row) : Type 0 where
   -- each set, and each set's tributary digits, begin anew with tributary 1; a set has room for every head
   pub set-fours : row .set % 4 ≡ 0
   pub first-fours : row .first % 4 ≡ 0
+  pub middle-fours : row .middle % 4 ≡ 0
+  pub last-fours : row .last % 4 ≡ 0
   pub room : row .first + 8 ≤ row .set
-  -- the head of the first set is the word, the remote alarm digit, one to three national digits
+  pub last-room : row .last ≤ row .set
+  -- the head of the first set is the word, the remote alarm digit, up to three national digits
   pub alarm-next : row .alarm ≡ row .len
   pub national-next : row .national ≡ row .alarm + 1
-  pub some-national : 1 ≤ row .nationals
   pub few-national : row .nationals ≤ 3
   pub first-next : row .first ≡ row .national + row .nationals
   -- a word of ten digits has tributary digits from place 12 on; the only other word has twelve, and 16
   pub ten : row .len ≡ 10 → row .first ≡ 12
   pub twelve : row .len ≢ 10 → (row .len ≡ 12) × (row .first ≡ 16)
-  -- the word has L digits
+  -- the head of a set between is four control digits, that of the last set four control and four justification digits
+  pub middle-four : row .middle ≡ 4
+  pub last-eight : row .last ≡ 8
+  -- the word has L digits, more than one
+  pub word-some : 2 ≤ row .len
   pub word-fits : row .word < 2 ^ row .len
-  -- the digits per tributary: a column of four places for each, less the first set's head and the control digits
-  pub counted : row .n + row .first / 4 + row .sets ≡ row .digits / 4 + 1
+  -- the digits per tributary: a column of four places for each, less the heads; the justification place carries
+  pub counted : row .n + row .first / 4 + (row .sets - 2) * (row .middle / 4) + row .last / 4 ≡ row .digits / 4 + 1
+  -- there is room for them, and for at most one more
+  pub room-least : row .n ≤ row .room
+  pub room-most : row .room ≤ row .n + 1
   -- the largest row
   pub short : row .digits ≤ 2928
   pub few-sets : row .sets ≤ 6

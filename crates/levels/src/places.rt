@@ -1,4 +1,7 @@
 // What a place of a frame is, and the walk along a tributary's own places, a column of four places at a time.
+use crate::table::CONTROL_END;
+use crate::table::JUSTIFICATION;
+use crate::table::JUSTIFICATION_END;
 use crate::table::Row;
 use crate::table::TEN_ALARM;
 use crate::table::TEN_END;
@@ -11,10 +14,10 @@ use crate::table::TWELVE_THIRD;
 ghost use mathlib.Core.Path.{_≡_};
 ghost use Prim.Native.Nat.{ℕ, _+_, _%_, _<_, _≤_};
 ghost use Rattle.levels.specs.Table.{Shared, row2, row4};
-ghost use Rattle.levels.specs.Places.{firstSet, laterSet, kindOf, kindAt, posOf, isOwn};
+ghost use Rattle.levels.specs.Places.{firstSet, middleSet, lastSet, kindOf, kindAt, posOf, isOwn};
 
-// A place in a frame, 0 to N - 1, and a place in a tributary: the number of a digit in the tributary's quarter.
-// Two kinds of numbers: order.rt has the functions that turn one into the other.
+// A place in a frame, 0 to N - 1, counted on from frame to frame in a line, and a place in a tributary: the number of a digit in
+// its quarter. Two kinds of numbers: lent.rt reads and writes a line by the one and a quarter by the other.
 pub struct FramePlace(pub usize);
 
 pub struct TributaryPlace(pub usize);
@@ -78,19 +81,23 @@ fn first_set(row: Row, r: usize) -> Kind
     head_of_twelve(r)
 }
 
-// Place r of a later set.
-fn later_set(last: bool, r: usize) -> Kind
-    ensures { λ k. ⌜ k ≡ laterSet last r ⌝ }
+// Place r of a set between the first and the last.
+fn middle_set(r: usize) -> Kind
+    ensures { λ k. ⌜ k ≡ middleSet row2 r ⌝ }
 {
     match r {
-        0..=3 => Kind::Control,
-        4..=7 => {
-            if last {
-                Kind::Justification
-            } else {
-                Kind::Tributary
-            }
-        }
+        0..=CONTROL_END => Kind::Control,
+        _ => Kind::Tributary,
+    }
+}
+
+// Place r of the last set.
+fn last_set(r: usize) -> Kind
+    ensures { λ k. ⌜ k ≡ lastSet row2 r ⌝ }
+{
+    match r {
+        0..=CONTROL_END => Kind::Control,
+        JUSTIFICATION..=JUSTIFICATION_END => Kind::Justification,
         _ => Kind::Tributary,
     }
 }
@@ -104,7 +111,10 @@ pub fn kind_of(row: Row, at: At) -> Kind
     if at.set == 0 {
         return first_set(row, r);
     }
-    later_set(at.set == row.sets - 1, r)
+    if at.set == row.sets - 1 {
+        return last_set(r);
+    }
+    middle_set(r)
 }
 
 // Where a place of a frame stands, in a line of this one frame.

@@ -19,12 +19,16 @@ pub struct Row {
     // first national place, how many
     pub national: usize,
     pub nationals: usize,
-    // first tributary place
+    // first tributary place of the first set, of a set between, of the last set: where each head ends
     pub first: usize,
+    pub middle: usize,
+    pub last: usize,
     // control digits in a group
     pub control: usize,
     // digits per tributary n, none stuffed
     pub n: usize,
+    // room per tributary, in digits
+    pub room: usize,
 }
 
 pub enum Level {
@@ -50,6 +54,13 @@ pub const TWELVE_SECOND: usize = 14;
 
 pub const TWELVE_THIRD: usize = 15;
 
+// The head of a later set: the control digits, and in the last set the justification digits after them.
+pub const CONTROL_END: usize = 3;
+
+pub const JUSTIFICATION: usize = 4;
+
+pub const JUSTIFICATION_END: usize = 7;
+
 const TABLE: [Row; 3] = [
     Row {
         digits: 848,
@@ -61,9 +72,12 @@ const TABLE: [Row; 3] = [
         alarm: TEN_ALARM,
         national: TEN_NATIONAL,
         nationals: 1,
-        first: 12,
+        first: TEN_NATIONAL + 1,
+        middle: CONTROL_END + 1,
+        last: JUSTIFICATION_END + 1,
         control: 3,
         n: 206,
+        room: 206,
     },
     Row {
         digits: 1536,
@@ -75,9 +89,12 @@ const TABLE: [Row; 3] = [
         alarm: TEN_ALARM,
         national: TEN_NATIONAL,
         nationals: 1,
-        first: 12,
+        first: TEN_NATIONAL + 1,
+        middle: CONTROL_END + 1,
+        last: JUSTIFICATION_END + 1,
         control: 3,
         n: 378,
+        room: 378,
     },
     Row {
         digits: 2928,
@@ -89,9 +106,12 @@ const TABLE: [Row; 3] = [
         alarm: TWELVE_ALARM,
         national: TWELVE_NATIONAL,
         nationals: 3,
-        first: 16,
+        first: TWELVE_THIRD + 1,
+        middle: CONTROL_END + 1,
+        last: JUSTIFICATION_END + 1,
         control: 5,
         n: 723,
+        room: 723,
     },
 ];
 

@@ -8,6 +8,10 @@ use Prim.Native.Nat.{ℕ, _+_, _*_, _≤_, _<_}
 use native.Mathlib.Omega.{arith}
 use lib.Dec.{eqb, ltb, lit≤}
 use lib.ListN.{length, getD}
+use contract.Lifetimes.{Lfts}
+use denote.Ref.{now}
+use denote.Triple.Clauses.{AtExit}
+use borrow.Fn.World.{ArgsD, ResD}
 use borrow.Author.Tests.{lt-ltb, le-ltb, eq-eqb, ne-eqb}
 use Rattle.digits.specs.Digits.{digitsOf, bytesOf, tab, Bytes}
 use Rattle.digits.proofs.Laws.{bytes-by-place}
@@ -19,7 +23,9 @@ use Rattle.levels.proofs.Choice.{cond-by}
 use Rattle.multiplex.specs.declared.Multiplexed.{Multiplexed}
 use Rattle.multiplex.specs.Line.{lineDigit, lineOf}
 use Rattle.multiplex.specs.Passes.{AllHeads, AllFilled}
-use Rattle.multiplex.specs.Multiplex.{firstFaulty, refusalOn, refusedWith, answerOn, lineOn, multiplexed, lineAfter}
+use Rattle.multiplex.specs.Multiplex.{firstFaulty, refusalOn, refusedWith, answerOn, lineOn, Met}
+use Rattle.multiplex.proofs.multiplex.{signature, ended}
+use Rattle.multiplex.proofs.multiplex.Reads.{Learnt}
 
 -- no length is refused with 5
 size-small : (row : Row) (line notes buffer : ℕ) → sizeRefusal row line notes buffer ≤ 4
@@ -73,10 +79,11 @@ module _ (row : Row) (line notes buffer : List ℕ) where
         rw e (ap (λ (n : List ℕ). record { refusal = 0; frame = 0; counts = n }) (b .counted), bytes ∙ ap (λ (n : ℕ). lineOf row notes (λ (j : ℕ). digitsOf (quarterOf buffer j)) n) len′)
 
 -- what two runs of the call may answer and leave, on the same input, is the same
-pub record Met (level : ℕ) (line notes buffer : List ℕ) (answer : Multiplexed) (left : List ℕ) : Type 0 where
-  pub answers : answer ≡ multiplexed level (length line) notes (length buffer)
-  pub leaves : left ≡ lineAfter level line notes buffer
+pub no-second-answer : (level : ℕ) (line notes buffer : List ℕ) (a b : Multiplexed) (l m : List ℕ) → Met level line notes buffer a l → Met level line notes buffer b m
+    → (a ≡ b) × (l ≡ m)
+no-second-answer level line notes buffer a b l m x y = (x .0 ∙ sym (y .0), x .1 ∙ sym (y .1))
 
-pub no-second-answer : (level : ℕ) (line notes buffer : List ℕ) (a b : Multiplexed) (l m : List ℕ)
-    → Met level line notes buffer a l → Met level line notes buffer b m → (a ≡ b) × (l ≡ m)
-no-second-answer level line notes buffer a b l m x y = (x .answers ∙ sym (y .answers), x .leaves ∙ sym (y .leaves))
+-- and what the call ensures is that statement
+pub call-met : (κs : Lfts 3) (a : ArgsD signature κs) (r : ResD signature κs) (e : AtExit ended κs) → Learnt κs a r e
+    → Met (a .0) (now (a .1 .0)) (now (a .1 .1 .0)) (now (a .1 .1 .1 .0)) r (now (e .1 .0))
+call-met κs a r e met = met

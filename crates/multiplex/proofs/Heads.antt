@@ -144,7 +144,7 @@ module _ (row : Row) (sh : Shared row) (notes old : List ℕ) where
           here = omega (arith, w .here, next-start);
           kept = kept ∙ w .kept;
           digits = more-at;
-          bytes = λ h. one .bytes (omega (arith, sh .some-national, sh .first-next));
+          bytes = λ h. one .bytes (omega (arith, sh .alarm-next, sh .national-next, sh .first-next));
         }
 
   -- after the last frame every place of the line is done; a line of no frames has no bytes

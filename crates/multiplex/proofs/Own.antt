@@ -13,12 +13,13 @@ use Rattle.levels.specs.declared.places.At.{At}
 use Rattle.levels.specs.declared.places.Kind.{Kind}
 use Rattle.levels.specs.declared.places.Kind.the-variants.{Word, Service, Control, Justification, Tributary}
 use Rattle.levels.specs.Table.{Shared}
-use Rattle.levels.specs.Places.{nationalDigit, isOwn, firstSet, laterSet, kindOf, kindAt, posOf}
+use Rattle.levels.specs.Places.{serviceDigit, isOwn, firstSet, middleSet, lastSet, kindOf, kindAt, posOf}
 use Rattle.levels.specs.Order.{stuffed, carried}
 use Rattle.levels.proofs.Choice.{cond-by}
 use Rattle.levels.proofs.Positions.{Stands, stands, pos-of-sum}
-use Rattle.levels.proofs.Ways.{kind-alarm, kind-national, kind-first}
+use Rattle.levels.proofs.Ways.{kind-service, kind-first}
 use Rattle.multiplex.specs.Line.{noteBit, digitBy}
+use Rattle.multiplex.specs.Passes.{idleDigit}
 
 module _ (row : Row) (note j r next : ℕ) where
   -- a place that carries a digit has the tributary's next digit
@@ -26,24 +27,16 @@ module _ (row : Row) (note j r next : ℕ) where
   digit-carried Word c = absurd (false≢true c)
   digit-carried (Service s) c = absurd (false≢true c)
   digit-carried Control c = absurd (false≢true c)
-  digit-carried Justification c = go (stuffed note j) c
-    where
-      go : (st : Bool) → not st ≡ true → cond st 1 next ≡ next
-      go true c = absurd (false≢true c)
-      go false c = refl
+  digit-carried Justification c = rw c
   digit-carried Tributary c = refl
 
-  -- an own place that carries none has the decision
-  pub digit-decided : (k : Kind) → isOwn k ≡ true → carried k (stuffed note j) ≡ false → digitBy row note j r next k ≡ cond (stuffed note j) 1 0
-  digit-decided Word o c = absurd (false≢true o)
-  digit-decided (Service s) o c = absurd (false≢true o)
-  digit-decided Control o c = refl
-  digit-decided Justification o c = go (stuffed note j) c
-    where
-      go : (st : Bool) → not st ≡ false → cond st 1 next ≡ cond st 1 0
-      go true c = refl
-      go false c = absurd (true≢false c)
-  digit-decided Tributary o c = absurd (true≢false c)
+  -- an own place that carries none has the decision, or 1
+  pub digit-idle : (k : Kind) → isOwn k ≡ true → carried k (stuffed note j) ≡ false → digitBy row note j r next k ≡ idleDigit k (stuffed note j)
+  digit-idle Word o c = absurd (false≢true o)
+  digit-idle (Service s) o c = absurd (false≢true o)
+  digit-idle Control o c = refl
+  digit-idle Justification o c = rw c
+  digit-idle Tributary o c = absurd (true≢false c)
 
 -- a head's digit has nothing to do with a tributary
 pub digit-of-head : (row : Row) (note j j′ r next next′ : ℕ) (k : Kind) → isOwn k ≡ false → digitBy row note j r next k ≡ digitBy row note j′ r next′ k
@@ -57,18 +50,17 @@ module _ (row : Row) (sh : Shared row) where
   pub head-not-own : (r : ℕ) → r < row .first → isOwn (kindOf row 0 r) ≡ false
   unfolding kindOf firstSet
   head-not-own r h =
-      rw (lt-ltb r (row .first) h)
-      (cond-by (λ (k : Kind). isOwn k ≡ false) (ltb r (row .len)) refl (cond-by (λ (k : Kind). isOwn k ≡ false) (eqb r (row .alarm)) refl refl))
+      rw (lt-ltb r (row .first) h) (cond-by (λ (k : Kind). isOwn k ≡ false) (ltb r (row .len)) refl refl)
 
   pub own-past-head : (r : ℕ) → row .first ≤ r → isOwn (kindOf row 0 r) ≡ true
   own-past-head r h = rw (kind-first row sh r h)
 
   pub own-later : (s r : ℕ) → 0 < s → isOwn (kindOf row s r) ≡ true
-  unfolding kindOf laterSet
+  unfolding kindOf middleSet lastSet
   own-later s r h =
       let own : Kind → Type 0 = λ (k : Kind). isOwn k ≡ true in
       rw (ne-eqb s 0 (λ e. omega arith))
-      (cond-by own (ltb r 4) refl (cond-by own (ltb r 8) (cond-by own (eqb s (row .sets - 1)) refl refl) refl))
+      (cond-by own (eqb s (row .sets - 1)) (cond-by own (ltb r (row .last - 4)) refl (cond-by own (ltb r (row .last)) refl refl)) (cond-by own (ltb r (row .middle)) refl refl))
 
   -- place r of frame f is own exactly past the first set's head
   module _ (f r p : ℕ) (e : p ≡ f * row .digits + r) where
@@ -96,24 +88,18 @@ module _ (row : Row) (sh : Shared row) where
   -- past the word, the service bits of the note stand in the order of their places
   pub service-bit : (note j r next : ℕ) → row .len ≤ r → r < row .first → digitBy row note j r next (kindOf row 0 r) ≡ note / 2 ^ (4 + (r - row .len)) % 2
   service-bit note j r next lo hi =
-      elim (ℕ-discrete r (row .alarm)) [
-        | yes e ↦
-            let bit : 4 + (r - row .len) ≡ 4 = omega (arith, sh .alarm-next) in
-            rw (bit, e, kind-alarm row sh)
-        | no n ↦
-            let k = r - row .national in
-            let at : r ≡ row .national + k = omega (arith, sh .alarm-next, sh .national-next) in
-            let bit : 4 + (r - row .len) ≡ 5 + k = omega (arith, sh .alarm-next, sh .national-next) in
-            let few : k < 3 = omega (arith, sh .alarm-next, sh .national-next, sh .first-next, sh .few-national) in
-            let kind : kindOf row 0 r ≡ Service (nationalDigit k) = ap (λ (p : ℕ). kindOf row 0 p) at ∙ kind-national row sh k (omega (arith, sh .alarm-next, sh .national-next, sh .first-next)) in
-            rw (bit, kind, national-bit k few)
-      ]
+      let k = r - row .len in
+      let at : r ≡ row .len + k = omega arith in
+      let few : k < 4 = omega (arith, sh .alarm-next, sh .national-next, sh .first-next, sh .few-national) in
+      let kind : kindOf row 0 r ≡ Service (serviceDigit k) = ap (λ (p : ℕ). kindOf row 0 p) at ∙ kind-service row sh k (omega arith) in
+      rw (kind, bit k few)
     where
-      national-bit : (k : ℕ) → k < 3 → noteBit (nationalDigit k) ≡ 5 + k
-      national-bit zero h = refl
-      national-bit (suc zero) h = refl
-      national-bit (suc (suc zero)) h = refl
-      national-bit (suc (suc (suc k))) h = absurd (over k h)
+      bit : (k : ℕ) → k < 4 → noteBit (serviceDigit k) ≡ 4 + k
+      bit zero h = refl
+      bit (suc zero) h = refl
+      bit (suc (suc zero)) h = refl
+      bit (suc (suc (suc zero))) h = refl
+      bit (suc (suc (suc (suc k)))) h = absurd (over k h)
         where
-          over : (k : ℕ) → suc (suc (suc k)) < 3 → ⊥
+          over : (k : ℕ) → suc (suc (suc (suc k))) < 4 → ⊥
           over k h = omega arith

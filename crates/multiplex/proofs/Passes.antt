@@ -17,8 +17,9 @@ use Rattle.levels.specs.declared.table.Row.{Row}
 use Rattle.levels.specs.Table.{Shared}
 use Rattle.levels.specs.Places.{isOwn, kindAt}
 use Rattle.levels.specs.Order.{decisions, countOf, countsOf}
-use Rattle.levels.specs.Sizes.{quarterOf, framesOf, Accepted}
+use Rattle.levels.specs.Sizes.{quarterOf, Accepted, Fits}
 use Rattle.levels.proofs.Counts.{count-of}
+use Rattle.levels.proofs.Judged.{fits-quarter}
 use Rattle.multiplex.specs.Line.{lineDigit}
 use Rattle.multiplex.specs.Passes.{Filled, AllFilled}
 use Rattle.multiplex.proofs.Heads.{same-test}
@@ -59,11 +60,15 @@ module _ (row : Row) (notes buffer old : List ℕ) where
       over k h = omega arith
 
   -- the line is as many frames as there are notes
-  pub line-whole : Accepted row (length old) (length notes) (length buffer) → (j : ℕ) (counts mid : List ℕ) → Passed j counts mid → length mid ≡ length notes * row .bytes
+  line-whole : Accepted row (length old) (length notes) (length buffer) → (j : ℕ) (counts mid : List ℕ) → Passed j counts mid → length mid ≡ length notes * row .bytes
   line-whole acc j counts mid w = w .kept ∙ acc .frames ∙ ap (λ (F : ℕ). F * row .bytes) (sym (acc .noted))
 
-  pub line-few : Accepted row (length old) (length notes) (length buffer) → (length notes ≤ 64) × (length notes * row .n ≤ 8 * (length buffer / 4))
-  line-few acc = rw (acc .noted) (acc .few, acc .room)
+  -- what the next pass asks of the line and of the quarter that it is lent
+  pub pass-asks : Shared row → Accepted row (length old) (length notes) (length buffer) → (j : ℕ) → j < 4 → (counts mid part : List ℕ) → Passed j counts mid
+      → part ≡ quarterOf buffer j → (j < 4) × Fits row (length mid) (length notes) (length part)
+  pass-asks sh acc j jh counts mid part w e =
+      let size : length part ≡ length buffer / 4 = ap length e ∙ quarter-length buffer j jh in
+      (jh, rw (size, w .kept) (fits-quarter sh acc))
 
   -- a line's digit looks only at its own tributary's quarter
   own-quarter : (j : ℕ) (ds : List ℕ) → ds ≡ tributary j → (p : ℕ) → p % 4 ≡ j → lineDigit row notes (λ (k : ℕ). ds) p ≡ lineDigit row notes tributary p

@@ -12,8 +12,8 @@ use Rattle.levels.specs.declared.places.Kind.{Kind}
 use Rattle.levels.specs.declared.places.Kind.the-variants.{Word, Service, Control, Justification, Tributary}
 use Rattle.levels.specs.Places.{isOwn, kindOf}
 use Rattle.levels.specs.Order.{stuffed, carried}
-use Rattle.multiplex.specs.Passes.{Put}
-use Rattle.multiplex.proofs.Own.{digit-carried, digit-decided}
+use Rattle.multiplex.specs.Passes.{idleDigit, Put}
+use Rattle.multiplex.proofs.Own.{digit-carried, digit-idle}
 
 -- a place that is no own place carries nothing, and one that carries is an own place
 none-carried : (k : Kind) (st : Bool) → isOwn k ≡ false → carried k st ≡ false
@@ -44,10 +44,10 @@ module _ (row : Row) (at : At) (old : List ℕ) (p : ℕ) (ds : List ℕ) (i not
           bytes = λ b. bytes;
         }
 
-    pub put-decided : carried kind (stuffed note j) ≡ false → digitsOf new ≡ set (digitsOf old) p (cond (stuffed note j) 1 0) → Put row at old p ds i note j i new
-    put-decided c e =
+    pub put-idle : carried kind (stuffed note j) ≡ false → digitsOf new ≡ set (digitsOf old) p (idleDigit kind (stuffed note j)) → Put row at old p ds i note j i new
+    put-idle c e =
         record {
           index = rw c (omega arith);
-          digits = rw (own, digit-decided row note j (at .place) (getD ds i 0) kind own c) e;
+          digits = rw (own, digit-idle row note j (at .place) (getD ds i 0) kind own c) e;
           bytes = λ b. bytes;
         }

@@ -1,5 +1,5 @@
--- "Further input digits are not looked at": two buffers of one length that agree on the first F·n − s digits of each quarter give the
--- same line and the same answer.
+-- "Further input digits are not looked at": two buffers of any lengths that agree on the first F·n − s digits of each quarter, and of which both
+-- have room or neither has, give the same line and the same answer.
 use mathlib.Core.Path.{_≡_, refl, sym, _∙_, ap}
 use mathlib.Core.Bool.{Bool, cond, true, false, not, true≢false}
 use mathlib.Core.List.{List}
@@ -20,24 +20,20 @@ use Rattle.levels.specs.declared.table.Level.the-variants.{Of, NoSuchLevel}
 use Rattle.levels.specs.Table.{Shared, levelOf}
 use Rattle.levels.specs.Places.{kindAt, posOf}
 use Rattle.levels.specs.Order.{stuffed, decisions, carried, carries, before, countOf}
-use Rattle.levels.specs.Sizes.{onLevel, quarterOf, sizeRefusal}
+use Rattle.levels.specs.Sizes.{onLevel, badBuffer, quarterOf, sizeRefusal}
 use Rattle.levels.proofs.Rows.{shared-row}
 use Rattle.levels.proofs.Counts.{count-of}
 use Rattle.levels.proofs.Inverse.{before-rises}
 use Rattle.levels.proofs.Judged.{accepted}
 use Rattle.multiplex.specs.Line.{digitBy, lineDigit, lineOf}
-use Rattle.multiplex.specs.Multiplex.{refusalOn, lineOn, multiplexed, lineAfter}
+use Rattle.multiplex.specs.Multiplex.{refusalOn, refusedWith, answerOn, lineOn, multiplexed, lineAfter}
 
 -- a place that carries no digit does not look at one
 idle : (row : Row) (note j r a b : ℕ) (k : Kind) → carried k (stuffed note j) ≡ false → digitBy row note j r a k ≡ digitBy row note j r b k
 idle row note j r a b Word c = refl
 idle row note j r a b (Service s) c = refl
 idle row note j r a b Control c = refl
-idle row note j r a b Justification c = go (stuffed note j) c
-  where
-    go : (st : Bool) → not st ≡ false → cond st 1 a ≡ cond st 1 b
-    go true c = refl
-    go false c = absurd (true≢false c)
+idle row note j r a b Justification c = rw c
 idle row note j r a b Tributary c = absurd (true≢false c)
 
 -- the tributaries t and u agree on the digits that F frames with these notes take
@@ -80,23 +76,32 @@ size-accepted row line notes buffer e =
       | no n ↦ let is : refusalOn row line notes buffer ≡ size = rw (ne-eqb size 0 n) in sym is ∙ e
     ]
 
--- the same of the call: its answer looks only at the buffer's length
-pub not-looked-at : (level : ℕ) (line notes b b′ : List ℕ) → length b ≡ length b′
+-- of the buffer's length a call asks only whether there is room
+same-refusal : (row : Row) (line : ℕ) (notes : List ℕ) (b b′ : ℕ) → badBuffer row line b ≡ badBuffer row line b′ → refusalOn row line notes b ≡ refusalOn row line notes b′
+unfolding refusalOn sizeRefusal
+same-refusal row line notes b b′ e = rw e
+
+-- the same of the call
+pub not-looked-at : (level : ℕ) (line notes b b′ : List ℕ)
+    → ((row : Row) → levelOf level ≡ Of row → badBuffer row (length line) (length b) ≡ badBuffer row (length line) (length b′))
     → ((row : Row) → levelOf level ≡ Of row → Agree row notes (λ (j : ℕ). digitsOf (quarterOf b j)) (λ (j : ℕ). digitsOf (quarterOf b′ j)))
     → (multiplexed level (length line) notes (length b) ≡ multiplexed level (length line) notes (length b′)) × (lineAfter level line notes b ≡ lineAfter level line notes b′)
-not-looked-at level line notes b b′ len same =
-    (ap (λ (n : ℕ). multiplexed level (length line) notes n) len, go (levelOf level) refl)
+not-looked-at level line notes b b′ room same = go (levelOf level) refl
   where
-    on-row : (row : Row) → levelOf level ≡ Of row → (r : Bool) → eqb (refusalOn row (length line) notes (length b′)) 0 ≡ r → lineOn row line notes b ≡ lineOn row line notes b′
+    on-row : (row : Row) → levelOf level ≡ Of row → (r : Bool) → eqb (refusalOn row (length line) notes (length b′)) 0 ≡ r
+        → lineOn row line notes b ≡ lineOn row line notes b′
     on-row row e true er =
-        let er′ : eqb (refusalOn row (length line) notes (length b)) 0 ≡ true = rw len er in
+        let er′ : eqb (refusalOn row (length line) notes (length b)) 0 ≡ true = rw (same-refusal row (length line) notes (length b) (length b′) (room row e)) er in
         let ok = accepted row (length line) (length notes) (length b′) (size-accepted row (length line) notes (length b′) (eqb-true (refusalOn row (length line) notes (length b′)) 0 er)) in
         rw (er′, er)
         (same-line row (shared-row level row e) notes _ _ (same row e) (length line) (ok .frames ∙ ap (λ (F : ℕ). F * row .bytes) (sym (ok .noted))))
     on-row row e false er =
-        let er′ : eqb (refusalOn row (length line) notes (length b)) 0 ≡ false = rw len er in
+        let er′ : eqb (refusalOn row (length line) notes (length b)) 0 ≡ false = rw (same-refusal row (length line) notes (length b) (length b′) (room row e)) er in
         rw (er′, er)
 
-    go : (l : Level) → levelOf level ≡ l → onLevel l (λ (row : Row). lineOn row line notes b) line ≡ onLevel l (λ (row : Row). lineOn row line notes b′) line
-    go (Of row) e = on-row row e (eqb (refusalOn row (length line) notes (length b′)) 0) refl
-    go NoSuchLevel e = refl
+    go : (l : Level) → levelOf level ≡ l
+        → (onLevel l (λ (row : Row). answerOn row (length line) notes (length b)) (refusedWith 1 0) ≡ onLevel l (λ (row : Row). answerOn row (length line) notes (length b′)) (refusedWith 1 0))
+        × (onLevel l (λ (row : Row). lineOn row line notes b) line ≡ onLevel l (λ (row : Row). lineOn row line notes b′) line)
+    go (Of row) e =
+        (rw (same-refusal row (length line) notes (length b) (length b′) (room row e)), on-row row e (eqb (refusalOn row (length line) notes (length b′)) 0) refl)
+    go NoSuchLevel e = (refl, refl)

@@ -11,7 +11,7 @@ use Rattle.levels.specs.declared.places.ServiceDigit.the-variants.{RemoteAlarm,
 use Rattle.levels.specs.declared.places.Kind.{Kind}
 use Rattle.levels.specs.declared.places.Kind.the-variants.{Word, Service, Control, Justification, Tributary}
 use Rattle.levels.specs.Places.{posOf, kindAt}
-use Rattle.levels.specs.Order.{stuffed, decisions, before}
+use Rattle.levels.specs.Order.{stuffed, decisions, carried, before}
 use Rattle.levels.specs.Word.{wordDigit}
 
 -- "Bit 4: remote alarm digit. Bit 5: first national digit. Bits 6 and 7: second and third national digit"
@@ -27,7 +27,7 @@ abbrev pub digitBy : Row → ℕ → ℕ → ℕ → ℕ → Kind → ℕ
 digitBy row note j r next Word = wordDigit row r
 digitBy row note j r next (Service s) = note / 2 ^ noteBit s % 2
 digitBy row note j r next Control = cond (stuffed note j) 1 0
-digitBy row note j r next Justification = cond (stuffed note j) 1 next
+digitBy row note j r next Justification = cond (carried Justification (stuffed note j)) next 1
 digitBy row note j r next Tributary = next
 
 -- place p of the line: the frame's own note decides, and the tributary's next digit is the one that this place carries

@@ -1,7 +1,7 @@
 -- What the inner functions leave in the line, place by place: the heads, and one tributary's pass. The public call's definitions are in
 -- specs/Line.antt and specs/Multiplex.antt; these lie between them and the loops.
 use mathlib.Core.Path.{_≡_}
-use mathlib.Core.Bool.{cond, _&&_}
+use mathlib.Core.Bool.{Bool, cond, _&&_}
 use mathlib.Core.List.{List}
 use Prim.Native.Nat.{ℕ, _+_, _*_, _-_, _%_, _<_}
 use lib.Dec.{eqb, ltb, leb}
@@ -9,6 +9,8 @@ use lib.ListN.{length, getD, set}
 use Rattle.digits.specs.Digits.{digitsOf, Bytes}
 use Rattle.levels.specs.declared.table.Row.{Row}
 use Rattle.levels.specs.declared.places.At.{At}
+use Rattle.levels.specs.declared.places.Kind.{Kind}
+use Rattle.levels.specs.declared.places.Kind.the-variants.{Word, Service, Control, Justification, Tributary}
 use Rattle.levels.specs.Places.{isOwn, kindOf, kindAt}
 use Rattle.levels.specs.Order.{stuffed, decisions, carried, before, countsOf}
 use Rattle.levels.specs.Sizes.{quarterOf}
@@ -27,6 +29,14 @@ pub record Headed (row : Row) (note start n : ℕ) (old new : List ℕ) : Type 0
 pub record AllHeads (row : Row) (notes old new : List ℕ) : Type 0 where
   pub digits : (tributary : ℕ → List ℕ) (p : ℕ) → p < 8 * length old → getD (digitsOf new) p 0 ≡ cond (isOwn (kindAt row p)) (getD (digitsOf old) p 0) (lineDigit row notes tributary p)
   pub bytes : Bytes new
+
+-- an own place that carries no digit: a control digit is the decision, "A stuffing digit is sent as 1"
+abbrev pub idleDigit : Kind → Bool → ℕ
+idleDigit Word st = 1
+idleDigit (Service s) st = 1
+idleDigit Control st = cond st 1 0
+idleDigit Justification st = 1
+idleDigit Tributary st = 1
 
 -- one place of a walk: an own place gets its digit, and the next digit is one further on where the place carries one
 pub record Put (row : Row) (at : At) (old : List ℕ) (p : ℕ) (ds : List ℕ) (i note j next : ℕ) (new : List ℕ) : Type 0 where

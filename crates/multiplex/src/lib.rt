@@ -1,8 +1,10 @@
 // Multiplexing from a known start: four tributaries and the notes of the frames become a line. specs/Multiplex.antt says what the call
 // answers and leaves, specs/Line.antt what each digit of the line is.
+use levels::lent;
 use levels::order;
 use levels::places;
 use levels::places::At;
+use levels::places::FramePlace;
 use levels::places::Kind;
 use levels::places::TributaryPlace;
 use levels::sizes;
@@ -15,12 +17,12 @@ ghost use Prim.Native.Nat.{ℕ, _+_, _*_, _<_, _≤_};
 ghost use lib.ListN.{length};
 ghost use Rattle.digits.specs.Digits.{digitsOf};
 ghost use Rattle.levels.specs.Table.{Shared};
-ghost use Rattle.levels.specs.Sizes.{Accepted};
+ghost use Rattle.levels.specs.Sizes.{Accepted, Fits};
 ghost use Rattle.levels.specs.Places.{kindOf};
 ghost use Rattle.levels.specs.Order.{stuffed, carried};
 ghost use Rattle.multiplex.specs.Line.{digitBy};
-ghost use Rattle.multiplex.specs.Passes.{Headed, AllHeads, Put, Filled, AllFilled};
-ghost use Rattle.multiplex.specs.Multiplex.{firstFaulty, refusedWith, answerOn, lineOn, multiplexed, lineAfter};
+ghost use Rattle.multiplex.specs.Passes.{Headed, AllHeads, idleDigit, Put, Filled, AllFilled};
+ghost use Rattle.multiplex.specs.Multiplex.{firstFaulty, refusedWith, answerOn, lineOn, Met};
 
 pub struct Multiplexed {
     pub refusal: u64,
@@ -55,24 +57,26 @@ fn first_faulty(row: Row, notes: &[u8]) -> usize
 }
 
 // The digit at place r of a frame's head: the word's, then the note's service bits in the order of their places.
-fn head_digit(row: Row, note: u8, r: usize) -> u8
-    requires { ⌜ Shared row × (r < row .first) ⌝ }
-    ensures { λ d. ⌜ ((j next : ℕ) → d ≡ digitBy row note j r next (kindOf row 0 r)) × (d < 2) ⌝ }
+fn head_digit(row: Row, note: u8, r: FramePlace) -> u8
+    requires { ⌜ Shared row × (r .0 < row .first) ⌝ }
+    ensures { λ d. ⌜ ((j next : ℕ) → d ≡ digitBy row note j (r .0) next (kindOf row 0 (r .0))) × (d < 2) ⌝ }
 {
-    if r < row.len {
-        return ((row.word >> (row.len - 1 - r)) % 2) as u8;
+    let k = r.0;
+    if k < row.len {
+        return ((row.word >> (row.len - 1 - k)) % 2) as u8;
     }
-    (note >> (4 + (r - row.len))) % 2
+    (note >> (4 + (k - row.len))) % 2
 }
 
 // The head of one frame, which begins at place start of the line: word and service digits.
-fn write_head(row: Row, line: &mut [u8], start: usize, note: u8)
-    requires { ⌜ Shared row × (start + row .first ≤ 8 * length (now line)) × (start < 1000000) ⌝ }
-    ensures { λ _. ⌜ Headed row note start (row .first) (now (line .entry)) (now (line .exit)) ⌝ }
+fn write_head(row: Row, line: &mut [u8], start: FramePlace, note: u8)
+    requires { ⌜ Shared row × (start .0 + row .first ≤ 8 * length (now line)) × (start .0 < 1000000) ⌝ }
+    ensures { λ _. ⌜ Headed row note (start .0) (row .first) (now (line .entry)) (now (line .exit)) ⌝ }
 {
     let mut r: usize = 0;
     while r < row.first {
-        digits::put_digit(line, start + r, head_digit(row, note, r));
+        let d = head_digit(row, note, FramePlace(r));
+        lent::put_line_digit(line, FramePlace(start.0 + r), d);
         r += 1;
     }
 }
@@ -82,11 +86,11 @@ fn write_heads(row: Row, line: &mut [u8], notes: &[u8])
     requires { ⌜ Shared row × (length (now line) ≡ length (now notes) * row .bytes) × (length (now notes) ≤ 64) ⌝ }
     ensures { λ _. ⌜ AllHeads row (now (notes .entry)) (now (line .entry)) (now (line .exit)) ⌝ }
 {
-    let mut start: usize = 0;
+    let mut start = FramePlace(0);
     let mut f: usize = 0;
     while f < notes.len() {
         write_head(row, line, start, notes[f]);
-        start += row.digits;
+        start = FramePlace(start.0 + row.digits);
         f += 1;
     }
 }
@@ -96,30 +100,41 @@ fn put_one(
     row: Row,
     at: At,
     line: &mut [u8],
-    p: usize,
+    p: FramePlace,
     src: &[u8],
     i: TributaryPlace,
     note: u8,
     j: usize,
 ) -> TributaryPlace
-    requires { ⌜ Shared row × (p < 8 * length (now line)) × (j < 4) × (i .0 < 65536) × (carried (kindOf row (at .set) (at .place)) (stuffed note j) ≡ true → i .0 < 8 * length (now src)) ⌝ }
-    ensures { λ r. ⌜ Put row at (now (line .entry)) p (digitsOf (now (src .entry))) (i .0) note j (r .0) (now (line .exit)) ⌝ }
+    requires { ⌜ Shared row × (p .0 < 8 * length (now line)) × (j < 4) × (i .0 < 65536) × (carried (kindOf row (at .set) (at .place)) (stuffed note j) ≡ true → i .0 < 8 * length (now src)) ⌝ }
+    ensures { λ r. ⌜ Put row at (now (line .entry)) (p .0) (digitsOf (now (src .entry))) (i .0) note j (r .0) (now (line .exit)) ⌝ }
 {
-    let k = i.0;
     let kind = places::kind_of(row, at);
     let st = order::is_stuffed(note, j);
     if !places::is_own(kind) {
         return i;
     }
     if order::carries_digit(kind, st) {
-        digits::put_digit(line, p, digits::digit_at(src, k));
-        return TributaryPlace(k + 1);
+        lent::put_line_digit(line, p, lent::tributary_digit(src, i));
+        return TributaryPlace(i.0 + 1);
     }
-    digits::put_digit(line, p, as_digit(st));
+    lent::put_line_digit(line, p, idle_digit(kind, st));
     i
 }
 
-// An own place that carries no digit is sent as the decision: a control digit, or a stuffing digit of a stuffed frame.
+// What an own place that carries no digit is sent as: a control digit is the decision, a stuffing digit is 1.
+fn idle_digit(kind: Kind, st: bool) -> u8
+    ensures { λ d. ⌜ (d ≡ idleDigit kind st) × (d < 2) ⌝ }
+{
+    match kind {
+        Kind::Word => 1,
+        Kind::Service(_) => 1,
+        Kind::Control => as_digit(st),
+        Kind::Justification => 1,
+        Kind::Tributary => 1,
+    }
+}
+
 fn as_digit(t: bool) -> u8
     ensures { λ d. ⌜ (d ≡ cond t 1 0) × (d < 2) ⌝ }
 {
@@ -130,8 +145,8 @@ fn as_digit(t: bool) -> u8
 }
 
 // One tributary's pass over a line: every own place of tributary j (from 0) gets its digit. Answers how many digits it took.
-pub fn fill(row: Row, line: &mut [u8], notes: &[u8], src: &[u8], j: usize) -> usize
-    requires { ⌜ Shared row × (j < 4) × (length (now line) ≡ length (now notes) * row .bytes) × (length (now notes) ≤ 64) × (length (now notes) * row .n ≤ 8 * length (now src)) ⌝ }
+fn fill(row: Row, line: &mut [u8], notes: &[u8], src: &[u8], j: usize) -> usize
+    requires { ⌜ (j < 4) × Fits row (length (now line)) (length (now notes)) (length (now src)) ⌝ }
     ensures { λ r. ⌜ Filled row (now (notes .entry)) (digitsOf (now (src .entry))) j r (now (line .entry)) (now (line .exit)) ⌝ }
 {
     let n = 2 * line.len();
@@ -144,7 +159,9 @@ pub fn fill(row: Row, line: &mut [u8], notes: &[u8], src: &[u8], j: usize) -> us
     };
     while x < n {
         let f = at.frame;
-        i = put_one(row, at, line, 4 * x + j, src, i, notes[f], j);
+        let p = FramePlace(4 * x + j);
+        let note = order::note_of(notes, f);
+        i = put_one(row, at, line, p, src, i, note, j);
         at = places::next_column(row, at);
         x += 1;
     }
@@ -192,7 +209,7 @@ fn multiplex_on(row: Row, line: &mut [u8], notes: &[u8], buffer: &[u8]) -> Multi
 
 // Multiplexes the notes and the quarters of the buffer into the line. Any level number, any lengths: see specs/Multiplex.antt.
 pub fn multiplex(level: u64, line: &mut [u8], notes: &[u8], buffer: &[u8]) -> Multiplexed
-    ensures { λ r. ⌜ (r ≡ multiplexed level (length (now (line .entry))) (now (notes .entry)) (length (now (buffer .entry)))) × (now (line .exit) ≡ lineAfter level (now (line .entry)) (now (notes .entry)) (now (buffer .entry))) ⌝ }
+    ensures { λ r. ⌜ Met level (now (line .entry)) (now (notes .entry)) (now (buffer .entry)) r (now (line .exit)) ⌝ }
 {
     let found = table::level_of(level);
     match found {

@@ -19,15 +19,15 @@ use Rattle.levels.specs.Table.{Shared, levelOf}
 use Rattle.levels.specs.Sizes.{onLevel, framesOf, sizeRefusal, quarterOf, Accepted}
 use Rattle.levels.specs.Order.{decisions, countOf, countsOf, placesOf}
 use Rattle.levels.proofs.Rows.{shared-row}
-use Rattle.levels.proofs.Counts.{line-count}
+use Rattle.levels.proofs.Counts.{line-count, count-room}
 use Rattle.levels.proofs.Columns.{columns, frame-start}
 use Rattle.levels.proofs.Inverse.{places-length}
-use Rattle.levels.proofs.Judged.{accepted}
+use Rattle.levels.proofs.Judged.{accepted, fits-quarter}
 use Rattle.multiplex.specs.declared.Multiplexed.{Multiplexed}
 use Rattle.multiplex.specs.Line.{lineDigit, lineOf}
 use Rattle.multiplex.specs.Multiplex.{firstOver, firstFaulty, refusalOn, multiplexed}
 use Rattle.multiplex.specs.Multiplex as send
-use Rattle.multiplex.proofs.Passes.{quarter-length, line-few}
+use Rattle.multiplex.proofs.Passes.{quarter-length}
 use Rattle.demultiplex.specs.declared.Demultiplexed.{Demultiplexed}
 use Rattle.demultiplex.specs.Notes.{notesOf}
 use Rattle.demultiplex.specs.Extract.{takenTo, quarterFrom, quartersFrom}
@@ -155,7 +155,7 @@ unfolding sizeRefusal
 no-test row line notes buffer sizes =
     let whole : line % row .bytes ≡ 0 = omega (arith, sizes .frames, div-add-mod' line (row .bytes)) in
     let fours : buffer % 4 ≡ 0 = omega (arith, sizes .quarters) in
-    rw (whole, le-ltb 64 (framesOf row line) (sizes .few), eq-eqb notes (framesOf row line) (sizes .noted), fours, le-ltb (8 * (buffer / 4)) (framesOf row line * row .n) (sizes .room))
+    rw (whole, le-ltb 64 (framesOf row line) (sizes .few), eq-eqb notes (framesOf row line) (sizes .noted), fours, le-ltb (8 * (buffer / 4)) (framesOf row line * row .room) (sizes .room))
 
 -- a line of accepted length is its frames, in bytes and in digits
 line-bytes : (row : Row) (line notes buffer : ℕ) → Accepted row line notes buffer → line ≡ notes * row .bytes
@@ -177,7 +177,7 @@ module _ (level : ℕ) (row : Row) (e : levelOf level ≡ Of row) where
 
   -- a reading of a line as long as that of an accepted call, lent enough for as many frames, is accepted, whatever it is lent
   pub read-accepted : (one other : Lent) → Accepted row (length (one .line)) (length (one .notes)) (length (one .buffer))
-      → length (other .line) ≡ length (one .line) → LentFor (row .n) one other → ReadAccepted level other
+      → length (other .line) ≡ length (one .line) → LentFor (row .room) one other → ReadAccepted level other
   read-accepted one other sizes same lent =
       let F : framesOf row (length (other .line)) ≡ length (one .notes) = ap (λ (n : ℕ). framesOf row n) same ∙ sym (sizes .noted) in
       let found : Accepted row (length (other .line)) (length (other .notes)) (length (other .buffer)) =
@@ -226,7 +226,7 @@ module _ (level : ℕ) (row : Row) (e : levelOf level ≡ Of row) where
           all-noted = refl;
           notes-fit = none-over (2 ^ (5 + row .nationals)) (c .notes) (ltb-false (firstFaulty row (c .notes)) F (tests .1));
           digits = λ j hj. digits-binary (quarterOf (c .buffer) j);
-          room = λ j hj. rw (digits-length, quarter-length (c .buffer) j hj) (line-few row (c .notes) (c .buffer) (c .line) send-sizes .1);
+          room = λ j hj. rw (digits-length, quarter-length (c .buffer) j hj) (fits-quarter shared send-sizes .room);
         }
 
     pub send-bytes : sentLine level c ≡ lineOf row (c .notes) tributary (length (c .line))
@@ -284,7 +284,7 @@ module _ (level : ℕ) (row : Row) (e : levelOf level ≡ Of row) where
     read-digits j hj =
         rw (ap (λ (r : Demultiplexed). r .counts) read-answer, count-at row notes frames j hj)
         (ap (λ (l : List ℕ). take count (digitsOf l)) (rw read-buffer (quarter-is row notes (c .line) q j hj))
-        ∙ ap (λ (l : List ℕ). take count l) (quarter-digits row notes (c .line) taken q j whole (omega (arith, long, room)))
+        ∙ ap (λ (l : List ℕ). take count l) (quarter-digits row notes (c .line) taken q j whole (omega (arith, long, count-room row shared j hj (decisions notes j) frames, room)))
         ∙ take-at taken (replicate (8 * q - length taken) 0) count long)
       where
         q : ℕ
@@ -299,8 +299,8 @@ module _ (level : ℕ) (row : Row) (e : levelOf level ≡ Of row) where
         long : length taken ≡ count
         long = taken-length row shared notes ds frames j hj
 
-        room : frames * row .n ≤ 8 * q
-        room = line-few row (c .notes) (c .buffer) (c .line) read-sizes .1
+        room : frames * row .room ≤ 8 * q
+        room = fits-quarter shared read-sizes .room
 
         whole : takenTo row notes ds j (2 * length (c .line)) ≡ taken
         whole =

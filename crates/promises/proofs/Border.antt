@@ -20,7 +20,7 @@ use Rattle.levels.specs.declared.places.Kind.{Kind}
 use Rattle.levels.specs.declared.places.Kind.the-variants.{Word, Service, Control, Justification, Tributary}
 use Rattle.levels.specs.Table.{Shared, row2, row3, row4, levelOf}
 use Rattle.levels.specs.Sizes.{sizeRefusal}
-use Rattle.levels.specs.Places.{firstSet, laterSet, kindOf, kindAt, posOf}
+use Rattle.levels.specs.Places.{firstSet, middleSet, lastSet, kindOf, kindAt, posOf}
 use Rattle.levels.specs.Order.{stuffed, decisions, carries, before, placesOf, stuffedTo, countOf}
 use Rattle.levels.specs.Vote.{groupOf, votesFor, voteBy}
 use Rattle.levels.specs.Word.{wrongTo}
@@ -158,18 +158,18 @@ module _ (row : Row) (sh : Shared row) where
     abbrev lineOf : List ℕ → List ℕ
     lineOf notes = lineDigits row notes (idle row F) F
 
-    -- the same note in every frame, none of bits 6 and 7
-    sound : (note : ℕ) → note < 64 → Sound row F (replicate F note) (idle row F)
+    -- the same note in every frame, with decisions only
+    sound : (note : ℕ) → note < 16 → Sound row F (replicate F note) (idle row F)
     sound note h =
         record {
           all-noted = length-replicate F note;
-          notes-fit = λ f hf. rw (getD-replicate F f note 0 hf) (omega (arith, pow-mono {i = 6} {j = 5 + row .nationals} (omega (arith, sh .some-national))));
-          digits = λ j hj. zeros-binary (F * row .n);
-          room = λ j hj. rw (length-replicate {A = ℕ} (F * row .n) 0) (omega arith);
+          notes-fit = λ f hf. rw (getD-replicate F f note 0 hf) (omega (arith, pow-mono {i = 5} {j = 5 + row .nationals} (omega arith)));
+          digits = λ j hj. zeros-binary (F * row .room);
+          room = λ j hj. rw (length-replicate {A = ℕ} (F * row .room) 0) (omega arith);
         }
 
     binary : (notes : List ℕ) → Binary (lineOf notes)
-    binary notes = line-binary row notes (idle row F) (λ j hj. zeros-binary (F * row .n)) F
+    binary notes = line-binary row notes (idle row F) (λ j hj. zeros-binary (F * row .room)) F
 
     long : (note : ℕ) (change : ℕ → Bool) → length (spoilt row (replicate F note) change F (lineOf (replicate F note))) ≡ F * row .digits
     long note change = spoilt-damage row sh (replicate F note) change F (lineOf (replicate F note)) (binary (replicate F note)) .size
@@ -182,7 +182,7 @@ module _ (row : Row) (sh : Shared row) where
         let f = posOf row p .frame in
         let hf : f < F = lt-of-mul-lt-mul-right (row .digits) (omega (arith, stands row sh p .sum)) in
         new-at row sh notes change F (lineOf notes) (binary notes) p h
-        ∙ rw (sent-at row sh notes (idle row F) F p h, getD-replicate F f note 0 hf, zeros-at (F * row .n) (before row (decisions notes (p % 4)) (p % 4) (p / 4)))
+        ∙ rw (sent-at row sh notes (idle row F) F p h, getD-replicate F f note 0 hf, zeros-at (F * row .room) (before row (decisions notes (p % 4)) (p % 4) (p / 4)))
 
     meet : spoilt row (noneStuffed F) (early row) F (lineOf (noneStuffed F)) ≡ spoilt row (allStuffed F) (late row) F (lineOf (allStuffed F))
     meet =
@@ -217,11 +217,11 @@ three-of-five = border row4 shared4 1
 
 -- the example, by computation
 example-leaves : sentLine 2 exampleSend ≡ exampleLine
-unfolding levelOf refusalOn sizeRefusal firstOver bytesOf tab lineDigit before carries posOf kindOf firstSet laterSet digitsOf exampleLine
+unfolding levelOf refusalOn sizeRefusal firstOver bytesOf tab lineDigit before carries posOf kindOf firstSet middleSet lastSet digitsOf exampleLine
 example-leaves = refl
 
 example-spoilt : spoilt row2 (1 ∷ []) (early row2) 1 (digitsOf exampleLine) ≡ digitsOf exampleDamaged
-unfolding tab posOf kindOf firstSet laterSet digitsOf exampleLine exampleDamaged
+unfolding tab posOf kindOf firstSet middleSet lastSet digitsOf exampleLine exampleDamaged
 example-spoilt = refl
 
 example-accepted : SendAccepted 2 exampleSend
@@ -239,7 +239,7 @@ example-damaged = rw (example-leaves, ← example-spoilt) (all-allowed row2 shar
 example-read : (demultiplexed 2 exampleDamaged 1 104 ≡ record { refusal = 0; counts = 205 ∷ 206 ∷ 206 ∷ 206 ∷ []; alignment = 10; groups = 4 })
     × (readNotes 2 exampleRead ≡ 0x31 ∷ [])
     × (bufferAfter 2 exampleDamaged 1 (exampleRead .buffer) ≡ exampleSend .buffer)
-unfolding levelOf sizeRefusal noteOf voteAt serviceAt voteBy votesFor groupOf countOf stuffedTo alignmentTo wrongTo splitTo splitIn quartersFrom quarterFrom takenTo placesOf carries posOf kindOf firstSet laterSet tab bytesOf digitsOf exampleDamaged
+unfolding levelOf sizeRefusal noteOf voteAt serviceAt voteBy votesFor groupOf countOf stuffedTo alignmentTo wrongTo splitTo splitIn quartersFrom quarterFrom takenTo placesOf carries posOf kindOf firstSet middleSet lastSet tab bytesOf digitsOf exampleDamaged
 example-read = (refl, refl, refl)
 
 example-lent : LentAt 2 exampleSend exampleRead

@@ -106,7 +106,7 @@ module _ (level : ℕ) (row : Row) (e : levelOf level ≡ Of row) where
       }
 
   -- a reading of a line of the send's frames
-  reading : (send read : Lent) → SendAccepted level send → LentFor (row .n) send read → length (digitsOf (read .line)) ≡ length (send .notes) * row .digits
+  reading : (send read : Lent) → SendAccepted level send → LentFor (row .room) send read → length (digitsOf (read .line)) ≡ length (send .notes) * row .digits
       → Reads read (length (send .notes)) (digitsOf (read .line))
   reading send read ok lent size =
       let same : length (read .line) ≡ length (send .line) = omega (arith, digits-length (read .line), send-places level row e send ok, size) in
@@ -121,13 +121,13 @@ module _ (level : ℕ) (row : Row) (e : levelOf level ≡ Of row) where
         digits = λ j hj. got .digits j hj ∙ sym (sent .digits j hj);
       }
 
-  returned-on : (send read : Lent) → SendAccepted level send → LentFor (row .n) send read → DamageAt level (send .notes) (sentLine level send) (read .line)
+  returned-on : (send read : Lent) → SendAccepted level send → LentFor (row .room) send read → DamageAt level (send .notes) (sentLine level send) (read .line)
       → SendReturned level send read
   returned-on send read ok lent d =
       returns send read (digitsOf (read .line)) (damaged send ok (read .line) d)
       (reading send read ok lent (damage-on (send .notes) (sentLine level send) (read .line) d .size))
 
-  back-on : (send read : Lent) → SendAccepted level send → LentFor (row .n) send read → read .line ≡ sentLine level send → SendBack level send read
+  back-on : (send read : Lent) → SendAccepted level send → LentFor (row .room) send read → read .line ≡ sentLine level send → SendBack level send read
   back-on send read ok lent same =
       let F = length (send .notes) in
       let line = lineDigits row (send .notes) (given send ok) F in
@@ -141,7 +141,7 @@ module _ (level : ℕ) (row : Row) (e : levelOf level ≡ Of row) where
         unanimous = ap (λ (r : Demultiplexed). r .groups) (got .answered) ∙ trip .unanimous;
       }
 
-  others-on : (j k : ℕ) (a b : Lent) → ReadAccepted level a → LentFor (row .n) a b → length (a .line) ≡ length (b .line) → SameOutside j (a .line) (b .line)
+  others-on : (j k : ℕ) (a b : Lent) → ReadAccepted level a → LentFor (row .room) a b → length (a .line) ≡ length (b .line) → SameOutside j (a .line) (b .line)
       → k < 4 → k ≢ j → ReadsSame level k a b
   others-on j k a b ok lent len same hk other =
       let F = length (a .notes) in

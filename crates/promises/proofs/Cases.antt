@@ -16,7 +16,7 @@ use Rattle.digits.proofs.Laws.{digit-at, tab-of, tab-at, tab-length, zeros-at}
 use Rattle.levels.specs.declared.table.Row.{Row}
 use Rattle.levels.specs.declared.table.Level.the-variants.{Of}
 use Rattle.levels.specs.Table.{levelOf, row2, row3, row4}
-use Rattle.levels.specs.Places.{firstSet, laterSet, kindOf, posOf}
+use Rattle.levels.specs.Places.{firstSet, middleSet, lastSet, kindOf, posOf}
 use Rattle.levels.specs.Order.{carries, decisions, before, placesOf, stuffedTo, countOf, countsOf}
 use Rattle.levels.specs.Sizes.{quarterOf, sizeRefusal}
 use Rattle.levels.specs.Vote.{votesFor, voteBy}
@@ -54,14 +54,14 @@ zero-quarters row notes tributary bytes zero-at =
 sent-frame : (level : ℕ) (row : Row) → levelOf level ≡ Of row → (note : ℕ) (bytes counts : List ℕ)
     → row .bytes % row .bytes ≡ 0 → row .bytes / row .bytes ≡ 1 → firstFaulty row (note ∷ []) ≡ 1
     → lineOf row (note ∷ []) (λ (j : ℕ). []) (row .bytes) ≡ bytes → countsOf row (note ∷ []) 1 ≡ counts
-    → (line : List ℕ) (q : ℕ) → length line ≡ row .bytes → row .n ≤ 8 * q
+    → (line : List ℕ) (q : ℕ) → length line ≡ row .bytes → row .room ≤ 8 * q
     → (multiplexed level (length line) (note ∷ []) (4 * q) ≡ record { refusal = 0; frame = 0; counts = counts })
     × (lineAfter level line (note ∷ []) (replicate (4 * q) 0) ≡ bytes)
 unfolding refusalOn sizeRefusal
 sent-frame level row e note bytes counts whole one fits is are line q len room =
     let zeros = length-replicate {A = ℕ} (4 * q) 0 in
     let quarters : 4 * q % 4 ≡ 0 = omega arith in
-    let enough : ltb (8 * (4 * q / 4)) (1 * row .n) ≡ false = le-ltb (8 * (4 * q / 4)) (1 * row .n) (omega arith) in
+    let enough : ltb (8 * (4 * q / 4)) (1 * row .room) ≡ false = le-ltb (8 * (4 * q / 4)) (1 * row .room) (omega arith) in
     let ok : refusalOn row (length line) (note ∷ []) (4 * q) ≡ 0 = rw (len, whole, one, quarters, enough, fits) in
     let made = rw zeros at (zero-quarters row (note ∷ []) (λ (j : ℕ). digitsOf (quarterOf (replicate (4 * q) 0) j)) (length line) (quarter-digit (4 * q))) in (
       rw (e, eq-eqb (refusalOn row (length line) (note ∷ []) (4 * q)) 0 ok) (ap (λ (c : List ℕ). record { refusal = 0; frame = 0; counts = c }) are),
@@ -69,7 +69,7 @@ sent-frame level row e note bytes counts whole one fits is are line q len room =
     )
 
 pub all-hold : Every cases
-unfolding cases levelOf firstSet laterSet kindOf posOf carries before placesOf stuffedTo countOf votesFor voteBy lineDigit tab bytesOf firstOver
+unfolding cases levelOf firstSet middleSet lastSet kindOf posOf carries before placesOf stuffedTo countOf votesFor voteBy lineDigit tab bytesOf firstOver
 all-hold = (
   sent-frame 2 row2 refl 0x00 _ _ refl refl refl refl refl,
   (

@@ -154,7 +154,7 @@ pub repeated : (level : ℕ) (send read : Lent) → SendAccepted level send → 
 repeated level send read ok lent damage =
     let back = send-returned level send read ok lent damage in
     let on = read-level level read (back .accepted) in
-    let lent-on : LentFor (on .0 .n) send read = rw (on .1) at lent in
+    let lent-on : LentFor (on .0 .room) send read = rw (on .1) at lent in
     let frames = noted-on level (on .0) (on .1) read (back .accepted) ∙ lent-on .noted in
     same-meet level send (sentOn level read) ok (sent-on-accepted level read (back .accepted)) (sym frames) (sent-on level send read back)
 

@@ -96,7 +96,7 @@ module _ (row : Row) (sh : Shared row) where
         let ht : t < row .set = omega (arith, sh .room) in
         let here = standing s t (omega arith) hs ht in
         let mine : p % 4 ≡ r - justification = whose row sh f s t p (omega arith) hs ht ∙ omega arith in
-        let kind = kind-justification row sh s (omega (arith, sh .later-set)) (omega (arith, sh .later-set)) t (omega arith) (omega arith) in
+        let kind = kind-justification row sh s (omega (arith, sh .later-set)) (omega (arith, sh .later-set)) t (omega (arith, sh .last-eight)) (omega (arith, sh .last-eight)) in
         not-true (decisions notes (r - justification) f) (kept-carries Justification (decisions notes (r - justification) f) (rw (kind, mine) at here))
 
   -- and every other place is kept: past the head, no control digit and no stuffing digit
@@ -122,15 +122,15 @@ module _ (row : Row) (sh : Shared row) where
                   | no past ↦
                       elim (ℕ-discrete (s + 1) (row .sets)) [
                         | yes last ↦
-                            elim (decLt t 8) [
+                            elim (decLt t (row .last)) [
                               | yes few ↦
                                   let k : row .sets - 1 ≡ s = omega arith in
                                   let at : justification ≡ s * row .set + 4 = rw k in
                                   let mine : p % 4 ≡ r - justification = whose row sh f s t p (omega arith) hs ht ∙ omega (arith, at) in
-                                  rw (kind-justification row sh s (omega arith) last t (omega arith) few, mine, carried (omega (arith, at)) (omega (arith, at)))
-                              | no after ↦ rw (kind-after row sh s (omega arith) t (omega arith))
+                                  rw (kind-justification row sh s (omega arith) last t (omega (arith, sh .last-eight)) few, mine, carried (omega (arith, at)) (omega (arith, at, sh .last-eight)))
+                              | no after ↦ rw (kind-after row sh s (omega arith) last t (omega arith))
                             ]
-                        | no between ↦ rw (kind-between row sh s (omega arith) between t (omega arith))
+                        | no between ↦ rw (kind-between row sh s (omega arith) between t (omega (arith, sh .middle-four)))
                       ]
                 ]
           ]
@@ -192,7 +192,7 @@ module _ (level : ℕ) (row : Row) (e : levelOf level ≡ Of row) where
       → DamageAt level (send .notes) (sentLine level send) received
   damage-at send received c = on-damage level row e (send .notes) (sentLine level send) received (changed-damage row sh level send received c)
 
-  pub demand-three : DemandThree level (row .digits) (row .n) (row .first) (controls row sh) (justification row sh) (allowed row)
+  pub demand-three : DemandThree level (row .digits) (row .room) (row .first) (controls row sh) (justification row sh) (allowed row)
   demand-three =
       record {
         same = λ a b received other ok-a ok-b ca cb. sends-same level a b ok-a ok-b received other (damage-at a received ca) (damage-at b other cb);

@@ -16,7 +16,7 @@ use Rattle.levels.specs.Places.{kindAt, posOf}
 use Rattle.levels.specs.Order.{decisions, carried, carries, before, countOf}
 use Rattle.levels.specs.Vote.{votesFor}
 use Rattle.levels.proofs.Columns.{columns}
-use Rattle.levels.proofs.Counts.{line-count}
+use Rattle.levels.proofs.Counts.{line-count, count-room}
 use Rattle.levels.proofs.Majority.{group-length, vote-stands}
 use Rattle.demultiplex.specs.Notes.{voteAt, notesOf}
 use Rattle.demultiplex.specs.Extract.{takenTo}
@@ -93,4 +93,4 @@ module _ (row : Row) (sh : Shared row) (F : ℕ) where
             let X = F * columns row in
             let all : before row d j X ≡ countSent row F notes j = omega (arith, line-count row sh j hj d F) in
             rw (places-same row sh F j hj (decisions (notesOf row ds F) j) d (λ f hf. decision-kept f j hf hj) X (omega arith))
-            (digits-back row d j ds (tributary j) X (digit-kept j hj) (omega (arith, line-count row sh j hj d F, room j hj)) ∙ ap (λ (n : ℕ). take n (tributary j)) all)
+            (digits-back row d j ds (tributary j) X (digit-kept j hj) (omega (arith, all, count-room row sh j hj d F, room j hj)) ∙ ap (λ (n : ℕ). take n (tributary j)) all)

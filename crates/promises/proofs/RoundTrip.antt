@@ -17,7 +17,7 @@ use Rattle.levels.specs.declared.places.Kind.{Kind}
 use Rattle.levels.specs.declared.places.Kind.the-variants.{Word, Service, Control, Justification, Tributary}
 use Rattle.levels.specs.Table.{Shared}
 use Rattle.levels.specs.Places.{kindAt, posOf}
-use Rattle.levels.specs.Order.{stuffed, decisions, before}
+use Rattle.levels.specs.Order.{stuffed, decisions, carried, before}
 use Rattle.levels.specs.Word.{wordDigit, wrongTo}
 use Rattle.levels.proofs.Choice.{cond-by}
 use Rattle.levels.proofs.Majority.{digit-counts}
@@ -34,7 +34,7 @@ digit-small : (row : Row) (note j r next : ℕ) → next < 2 → (k : Kind) → 
 digit-small row note j r next h Word = omega arith
 digit-small row note j r next h (Service s) = omega arith
 digit-small row note j r next h Control = cond-by (λ (n : ℕ). n < 2) (stuffed note j) (lit< tt) (lit< tt)
-digit-small row note j r next h Justification = cond-by (λ (n : ℕ). n < 2) (stuffed note j) (lit< tt) h
+digit-small row note j r next h Justification = cond-by (λ (n : ℕ). n < 2) (carried Justification (stuffed note j)) h (lit< tt)
 digit-small row note j r next h Tributary = h
 
 pub line-binary : (row : Row) (notes : List ℕ) (tributary : ℕ → List ℕ) → ((j : ℕ) → j < 4 → Binary (tributary j)) → (F : ℕ) → Binary (lineDigits row notes tributary F)

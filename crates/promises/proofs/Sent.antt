@@ -1,6 +1,6 @@
 -- The sent line, place by place: a law for each kind of place, and the control groups, which are all 1 or all 0.
 use mathlib.Core.Path.{_≡_, refl, _∙_}
-use mathlib.Core.Bool.{cond, true}
+use mathlib.Core.Bool.{Bool, cond, true, false, not}
 use mathlib.Core.List.{List}
 use Prim.Native.Nat.{ℕ, _+_, _*_, _-_, _/_, _%_, _^_, _≤_, _<_}
 use native.Mathlib.Omega.{arith}
@@ -86,8 +86,13 @@ module _ (row : Row) (sh : Shared row) where
         → getD line p 0 ≡ cond (decisions notes j f) 1 (next j p)
     sent-justification f j p hf hj e =
         let s = row .sets - 1 in
-        sent f s (4 + j) j p hf (omega (arith, sh .later-set)) (omega (arith, sh .room)) (omega arith) e
-        ∙ rw (kind-justification row sh s (omega (arith, sh .later-set)) (omega (arith, sh .later-set)) (4 + j) (omega arith) (omega arith))
+        let last : s + 1 ≡ row .sets = omega (arith, sh .later-set) in
+        let kind = kind-justification row sh s (omega (arith, sh .later-set)) last (4 + j) (omega (arith, sh .last-eight)) (omega (arith, sh .last-eight)) in
+        sent f s (4 + j) j p hf (omega (arith, sh .later-set)) (omega (arith, sh .room)) (omega arith) e ∙ rw kind (turned (decisions notes j f))
+      where
+        turned : (st : Bool) → cond (not st) (next j p) 1 ≡ cond st 1 (next j p)
+        turned true = refl
+        turned false = refl
 
     pub sent-tributary : (p : ℕ) → p < F * row .digits → kindAt row p ≡ Tributary → getD line p 0 ≡ next (p % 4) p
     sent-tributary p h k = sent-at p h ∙ rw k

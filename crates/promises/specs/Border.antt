@@ -45,7 +45,7 @@ abbrev pub allStuffed : ℕ → List ℕ
 allStuffed F = replicate F 15
 
 abbrev pub idle : Row → ℕ → ℕ → List ℕ
-idle row F j = replicate (F * row .n) 0
+idle row F j = replicate (F * row .room) 0
 
 -- the border: both are sound sends, they differ in every decision, and there is a line that comes from the one by damage and from the other by
 -- one control digit more of each group

@@ -60,7 +60,7 @@ pub record LentFor (n : ℕ) (one other : Lent) : Type 0 where
   pub room : length (one .notes) * n ≤ 8 * (length (other .buffer) / 4)
 
 abbrev pub LentAt : ℕ → Lent → Lent → Type 0
-LentAt level one other = onLevel (levelOf level) (λ (row : Row). LentFor (row .n) one other) ⊥
+LentAt level one other = onLevel (levelOf level) (λ (row : Row). LentFor (row .room) one other) ⊥
 
 -- received comes from sent, a line sent with these notes, by damage
 abbrev pub DamageAt : ℕ → List ℕ → List ℕ → List ℕ → Type 0

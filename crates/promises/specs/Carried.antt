@@ -32,7 +32,7 @@ digitsRead row F ds j = takenTo row (notesOf row ds F) ds j (F * (row .digits / 
 
 -- every tributary has as many digits as F frames may ask for
 abbrev pub Room : Row → ℕ → (ℕ → List ℕ) → Type 0
-Room row F tributary = (j : ℕ) → j < 4 → F * row .n ≤ length (tributary j)
+Room row F tributary = (j : ℕ) → j < 4 → F * row .room ≤ length (tributary j)
 
 -- what an accepted send of F frames is: F notes without a bit that the level has not, and four tributaries of digits with room
 pub record Sound (row : Row) (F : ℕ) (notes : List ℕ) (tributary : ℕ → List ℕ) : Type 0 where

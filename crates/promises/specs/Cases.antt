@@ -38,7 +38,7 @@ abbrev pub Claim : Case → Type 0
 Claim (frame level note bytes counts) =
     onLevel (levelOf level)
     (λ (row : Row).
-    (line : List ℕ) (q : ℕ) → length line ≡ row .bytes → row .n ≤ 8 * q
+    (line : List ℕ) (q : ℕ) → length line ≡ row .bytes → row .room ≤ 8 * q
     → (multiplexed level (length line) (note ∷ []) (4 * q) ≡ record { refusal = 0; frame = 0; counts = counts })
     × (lineAfter level line (note ∷ []) (replicate (4 * q) 0) ≡ bytesWith (row .bytes) bytes))
     ⊥

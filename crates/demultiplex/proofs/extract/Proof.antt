@@ -1,10 +1,11 @@
 -- `extract` leaves the tributary's quarter: the invariant is `Extracting`, of the columns walked so far.
-use borrow.Author.Needs.{needs}
-use mathlib.Core.Path.{_≡_}
-use Prim.Native.Nat.{_≤_, _-_}
+use mathlib.Core.Path.{_≡_, _∙_, ap}
+use Prim.Native.Nat.{ℕ, _≤_, _-_}
 use native.Mathlib.Omega.{arith}
 use lib.ListN.{length}
-use Rattle.demultiplex.proofs.Extracting.{Extracting, extracting-none, line-short, frame-noted, next-asks, take-asks, extracting-more, extracting-all}
+use Rattle.levels.specs.Order.{stuffed}
+use Rattle.demultiplex.proofs.Extracting.{Extracting, extracting-none, here-is, take-asks, next-asks, extracting-more, extracting-all}
+use borrow.Author.Needs.{needs}
 use Rattle.demultiplex.proofs.extract.Statement.{statement}
 use Rattle.demultiplex.proofs.extract.Tie as tie
 
@@ -22,25 +23,26 @@ mul-n c = search needs
 
 loop-holds : tie.Need-loop-holds Inv-loop μ-loop
 loop-holds c =
-    let b = c .before .before .before .before .before .before .before in
     let clear = c .before .before .clear in
-    let same : length (clear .last .0) ≡ length (b .args .dst .now) = omega arith in
-    (omega arith, rw same (extracting-none (b .args .row) (b .args .line .now) (b .args .notes .now) (b .args .j) (length (b .args .dst .now)) (clear .last .0) (b .pre .0) (b .pre .1) (clear .ensures)))
+    let same : length (clear .last .0) ≡ length (c .before .before .before .before .before .before .before .args .dst .now) = omega arith in
+    (omega arith, rw same (extracting-none _ _ _ _ (length (c .before .before .before .before .before .before .before .args .dst .now)) (clear .last .0) (c .before .before .before .before .before .before .before .pre .0) (c .before .before .before .before .before .before .before .pre .1) (clear .ensures)))
 
-shared-slice-read-is-stuffed : tie.Need-shared-slice-read-is-stuffed Inv-loop μ-loop
-shared-slice-read-is-stuffed c = frame-noted (c .before .before .loop .inv .1) (c .before .loop-test .taken)
+note-of-requires : tie.Need-note-of-requires Inv-loop μ-loop
+note-of-requires c κs = here-is (c .before .loop .inv .1) (c .loop-test .taken) .frame-noted
 
 is-stuffed-requires : tie.Need-is-stuffed-requires Inv-loop μ-loop
 is-stuffed-requires c κs = c .before .before .loop .inv .1 .tributary
 
-mul-take-one : tie.Need-mul-take-one Inv-loop μ-loop
-mul-take-one c = omega (arith, line-short (c .before .before .before .loop .inv .1))
+mul-t19 : tie.Need-mul-t19 Inv-loop μ-loop
+mul-t19 c = omega (arith, here-is (c .before .before .before .loop .inv .1) (c .before .before .loop-test .taken) .line-short)
 
-add-take-one : tie.Need-add-take-one Inv-loop μ-loop
-add-take-one c = omega (arith, line-short (c .before .before .before .loop .inv .1), c .before .before .before .loop .inv .1 .tributary)
+add-t20 : tie.Need-add-t20 Inv-loop μ-loop
+add-t20 c = omega (arith, here-is (c .before .before .before .loop .inv .1) (c .before .before .loop-test .taken) .line-short)
 
 take-one-requires : tie.Need-take-one-requires Inv-loop μ-loop
-take-one-requires c κs = take-asks (c .before .before .before .before .loop .inv .1) (c .before .before .before .loop-test .taken) (c .before .is-stuffed .result) (c .before .is-stuffed .ensures)
+take-one-requires c κs =
+    let own = c .before .is-stuffed .ensures ∙ ap (λ (note : ℕ). stuffed note (c .before .before .before .before .before .before .before .before .before .before .before .before .args .j)) (c .before .before .note-of .ensures) in
+    take-asks (c .before .before .before .before .loop .inv .1) (c .before .before .before .loop-test .taken) (c .before .is-stuffed .result) own
 
 next-column-requires : tie.Need-next-column-requires Inv-loop μ-loop
 next-column-requires c κs = next-asks (c .before .before .before .before .before .before .before .loop .inv .1) (c .before .before .before .before .before .before .loop-test .taken)
@@ -53,9 +55,9 @@ loop-less c = omega arith
 
 loop-again : tie.Need-loop-again Inv-loop μ-loop
 loop-again c =
-    let stuffed = c .before .before .before .before .before .is-stuffed in
+    let own = c .before .before .before .before .before .is-stuffed .ensures ∙ ap (λ (note : ℕ). stuffed note (c .before .before .before .before .before .before .before .before .before .before .before .before .before .before .before .before .args .j)) (c .before .before .before .before .before .before .note-of .ensures) in
     let one = c .before .before .before .take-one in
-    (omega arith, extracting-more (c .before .before .before .before .before .before .before .before .loop .inv .1) (c .before .before .before .before .before .before .before .loop-test .taken) (stuffed .result) (stuffed .ensures) (one .result .0) _ (one .ensures) (c .next-column .result) (c .next-column .ensures))
+    (omega arith, extracting-more (c .before .before .before .before .before .before .before .before .loop .inv .1) (c .before .before .before .before .before .before .before .loop-test .taken) (c .before .before .before .before .before .is-stuffed .result) own (one .result .0) _ (one .ensures) _ (c .next-column .ensures))
 
 same-length : tie.Need-same-length Inv-loop μ-loop
 same-length c = omega (arith, c .before .loop .inv .1 .size)
@@ -68,4 +70,20 @@ returns c =
 pub extract-spec : {M : Type 1} → statement M
 extract-spec =
     tie.close
-    (tie.spec Inv-loop μ-loop clear-requires mul-n loop-holds shared-slice-read-is-stuffed is-stuffed-requires mul-take-one add-take-one take-one-requires next-column-requires add-x loop-less loop-again same-length returns)
+    (tie.spec
+    Inv-loop
+    μ-loop
+    clear-requires
+    mul-n
+    loop-holds
+    note-of-requires
+    is-stuffed-requires
+    mul-t19
+    add-t20
+    take-one-requires
+    next-column-requires
+    add-x
+    loop-less
+    loop-again
+    same-length
+    returns)

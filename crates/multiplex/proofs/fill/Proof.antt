@@ -1,17 +1,15 @@
 -- `fill`: after x turns every own place of the tributary in the first x columns has its digit (Filling).
 use mathlib.Core.Path.{_≡_, refl}
-use Prim.Native.Nat.{_≤_, _<_, _-_, _*_}
+use Prim.Native.Nat.{_≤_, _-_, _*_}
 use native.Mathlib.Omega.{arith}
 use lib.ListN.{length}
 use Rattle.digits.specs.Digits.{digitsOf}
-use Rattle.levels.specs.Table.{Shared}
-use Rattle.multiplex.proofs.Filling.{Filling, filling-start, filling-more, filling-end, column}
+use Rattle.multiplex.proofs.Filling.{Filling, filling-start, here-is, put-asks, next-asks, filling-more, filling-end}
 use Rattle.multiplex.proofs.fill.Statement.{statement}
 use Rattle.multiplex.proofs.fill.Tie as tie
 
 abbrev Inv-loop : tie.InvT-loop
-Inv-loop row line₀ notes src j n x₀ i₀ at₀ line x i at =
-    (sh : Shared row) × (jh : j < 4) × (x ≤ n) × (n ≡ 2 * length line₀) × Filling row sh notes (digitsOf src) line₀ j jh x (i .0) at line
+Inv-loop row line₀ notes src j n x₀ i₀ at₀ line x i at = (x ≤ n) × (n ≡ 2 * length line₀) × Filling row notes (digitsOf src) line₀ j (length src) x (i .0) at line
 
 abbrev μ-loop : tie.MeasureT-loop
 μ-loop row line₀ notes src j n x₀ i₀ at₀ line x i at = n - x
@@ -20,42 +18,22 @@ mul-n : tie.Need-mul-n Inv-loop μ-loop
 mul-n c = omega arith
 
 loop-holds : tie.Need-loop-holds Inv-loop μ-loop
-loop-holds c = let b = c .before .before .before in (b .pre .0, b .pre .1, omega arith, refl, filling-start _ _ _ _ _ _ _)
+loop-holds c = (omega arith, refl, filling-start _ _ _ _ _ _ (c .before .before .before .pre .0) (c .before .before .before .pre .1))
 
-mul-put-one : tie.Need-mul-put-one Inv-loop μ-loop
-mul-put-one c =
-    let b = c .before .before .before .before .before .before in
-    let l = c .before .before .loop in
-    let col = column (b .args .row) (l .inv .0) (b .args .notes .now) _ (b .args .line .now) (b .args .j) (l .inv .1) (length (b .args .notes .now)) (length (b .args .src .now)) (b .pre .2) (b .pre .3) (b .pre .4) (l .x) (l .i .0) (l .at) (l .line) (l .inv .4) (omega arith) in
-    omega (arith, col .line-small)
+mul-t15 : tie.Need-mul-t15 Inv-loop μ-loop
+mul-t15 c = omega (arith, here-is (c .before .loop .inv .2) (omega arith) .line-short)
 
-add-put-one : tie.Need-add-put-one Inv-loop μ-loop
-add-put-one c =
-    let b = c .before .before .before .before .before .before in
-    let l = c .before .before .loop in
-    let col = column (b .args .row) (l .inv .0) (b .args .notes .now) _ (b .args .line .now) (b .args .j) (l .inv .1) (length (b .args .notes .now)) (length (b .args .src .now)) (b .pre .2) (b .pre .3) (b .pre .4) (l .x) (l .i .0) (l .at) (l .line) (l .inv .4) (omega arith) in
-    omega (arith, col .line-small)
+add-t16 : tie.Need-add-t16 Inv-loop μ-loop
+add-t16 c = omega (arith, here-is (c .before .loop .inv .2) (omega arith) .line-short)
 
-shared-slice-read-put-one : tie.Need-shared-slice-read-put-one Inv-loop μ-loop
-shared-slice-read-put-one c =
-    let b = c .before .before .before .before .before .before .before in
-    let l = c .before .before .before .loop in
-    let col = column (b .args .row) (l .inv .0) (b .args .notes .now) _ (b .args .line .now) (b .args .j) (l .inv .1) (length (b .args .notes .now)) (length (b .args .src .now)) (b .pre .2) (b .pre .3) (b .pre .4) (l .x) (l .i .0) (l .at) (l .line) (l .inv .4) (omega arith) in
-    col .frame-in
+note-of-requires : tie.Need-note-of-requires Inv-loop μ-loop
+note-of-requires c κs = here-is (c .before .loop .inv .2) (omega arith) .frame-noted
 
 put-one-requires : tie.Need-put-one-requires Inv-loop μ-loop
-put-one-requires c κs =
-    let b = c .before .before .before .before .before .before .before in
-    let l = c .before .before .before .loop in
-    let col = column (b .args .row) (l .inv .0) (b .args .notes .now) _ (b .args .line .now) (b .args .j) (l .inv .1) (length (b .args .notes .now)) (length (b .args .src .now)) (b .pre .2) (b .pre .3) (b .pre .4) (l .x) (l .i .0) (l .at) (l .line) (l .inv .4) (omega arith) in
-    (l .inv .0, col .place-small, l .inv .1, col .index-small, col .index-room)
+put-one-requires c κs = put-asks (c .before .before .before .loop .inv .2) (omega (arith, c .before .before .loop-test .taken)) (c .before .note-of .result) (c .before .note-of .ensures)
 
 next-column-requires : tie.Need-next-column-requires Inv-loop μ-loop
-next-column-requires c κs =
-    let b = c .before .before .before .before .before .before .before .before .before .before in
-    let l = c .before .before .before .before .before .before .loop in
-    let col = column (b .args .row) (l .inv .0) (b .args .notes .now) _ (b .args .line .now) (b .args .j) (l .inv .1) (length (b .args .notes .now)) (length (b .args .src .now)) (b .pre .2) (b .pre .3) (b .pre .4) (l .x) (l .i .0) (l .at) (l .line) (l .inv .4) (omega arith) in
-    (l .inv .0, omega (arith, col .frame-in, b .pre .3), col .set-in, col .place-in)
+next-column-requires c κs = next-asks (c .before .before .before .before .before .before .loop .inv .2) (omega (arith, c .before .before .before .before .before .loop-test .taken))
 
 add-x : tie.Need-add-x Inv-loop μ-loop
 add-x c = omega (arith, c .before .before .before .before .before .before .loop-test .taken)
@@ -65,25 +43,32 @@ loop-less c = omega (arith, c .before .before .before .before .before .before .l
 
 loop-again : tie.Need-loop-again Inv-loop μ-loop
 loop-again c =
-    let l = c .before .before .before .before .before .before .before .loop in
-    let put = c .before .before .before .put-one in (
-      l .inv .0,
-      l .inv .1,
-      omega (arith, c .before .before .before .before .before .before .loop-test .taken),
-      l .inv .3,
-      filling-more _ _ _ _ _ _ _ (l .x) (l .i .0) (l .at) (l .line) (l .inv .4) (omega (arith, c .before .before .before .before .before .before .loop-test .taken, l .inv .3)) _ _ _ (put .ensures) (put .kept .1 .1 .0) (c .next-column .ensures),
-    )
+    let note = c .before .before .before .before .before .note-of in
+    let put = c .before .before .before .put-one in
+    let more = filling-more (c .before .before .before .before .before .before .before .loop .inv .2) (omega (arith, c .before .before .before .before .before .before .loop-test .taken, c .before .before .before .before .before .before .before .loop .inv .1)) (note .result) (note .ensures) (put .result .0) _ (put .ensures) (put .kept .1 .1 .0) _ (c .next-column .ensures) in
+    (omega (arith, c .before .before .before .before .before .before .loop-test .taken), c .before .before .before .before .before .before .before .loop .inv .1, more)
 
 same-length : tie.Need-same-length Inv-loop μ-loop
-same-length c = c .before .loop .inv .4 .kept
+same-length c = c .before .loop .inv .2 .kept
 
 returns : tie.Need-returns Inv-loop μ-loop
-returns c =
-    let l = c .before .loop in
-    let end : l .x ≡ 2 * length (c .before .before .before .before .before .args .line .now) = omega (arith, l .inv .3) in
-    filling-end _ _ _ _ _ _ _ (l .i .0) (l .at) (l .line) (rw end at (l .inv .4))
+returns c = filling-end (c .before .loop .inv .2) (omega (arith, c .before .loop .inv .1))
 
 pub fill-spec : {M : Type 1} → statement M
 fill-spec =
     tie.close
-    (tie.spec Inv-loop μ-loop mul-n loop-holds mul-put-one add-put-one shared-slice-read-put-one put-one-requires next-column-requires add-x loop-less loop-again same-length returns)
+    (tie.spec
+    Inv-loop
+    μ-loop
+    mul-n
+    loop-holds
+    mul-t15
+    add-t16
+    note-of-requires
+    put-one-requires
+    next-column-requires
+    add-x
+    loop-less
+    loop-again
+    same-length
+    returns)

@@ -5,7 +5,7 @@ use Prim.Native.Nat.{ℕ, _≤_, _-_, _/_}
 use native.Mathlib.Omega.{arith}
 use lib.ListN.{length}
 use Rattle.digits.specs.Digits.{digitsOf}
-use Rattle.multiplex.proofs.Passes.{Passed, passed-start, passed-more, passed-end, quarter-in, quarter-part, quarter-length, line-whole, line-few}
+use Rattle.multiplex.proofs.Passes.{Passed, passed-start, passed-more, passed-end, quarter-in, quarter-part, pass-asks}
 use Rattle.multiplex.proofs.fill_all.Statement.{statement}
 use Rattle.multiplex.proofs.fill_all.Tie as tie
 
@@ -37,9 +37,7 @@ fill-requires : tie.Need-fill-requires Inv-loop μ-loop
 fill-requires c κs =
     let b = c .before .before .before .before .before .before .before in
     let l = c .before .before .before .loop in
-    let few = line-few (b .args .row) (b .args .notes .now) (b .args .buffer .now) (b .args .line .now) (b .pre .1) in
-    let size = ap (λ (s : List ℕ). length s) (quarter-part (b .args .buffer .now) (l .j)) ∙ quarter-length (b .args .buffer .now) (l .j) (c .before .before .loop-test .taken) in
-    (b .pre .0, c .before .before .loop-test .taken, line-whole _ _ _ _ (b .pre .1) (l .j) (l .counts) (l .line) (l .inv .2), few .0, omega (arith, few .1, size))
+    pass-asks _ _ _ _ (b .pre .0) (b .pre .1) (l .j) (c .before .before .loop-test .taken) (l .counts) (l .line) _ (l .inv .2) (quarter-part (b .args .buffer .now) (l .j))
 
 mul-counts : tie.Need-mul-counts Inv-loop μ-loop
 mul-counts c = omega (arith, c .before .before .before .before .before .loop-test .taken)

@@ -9,7 +9,7 @@ use Rattle.multiplex.proofs.write_head.Statement.{statement}
 use Rattle.multiplex.proofs.write_head.Tie as tie
 
 abbrev Inv-loop : tie.InvT-loop
-Inv-loop row line₀ start note r₀ line r = (r ≤ row .first) × (length line ≡ length line₀) × Headed row note start r line₀ line
+Inv-loop row line₀ start note r₀ line r = (r ≤ row .first) × (length line ≡ length line₀) × Headed row note (start .0) r line₀ line
 
 abbrev μ-loop : tie.MeasureT-loop
 μ-loop row line₀ start note r₀ line r = row .first - r
@@ -17,14 +17,14 @@ abbrev μ-loop : tie.MeasureT-loop
 loop-holds : tie.Need-loop-holds Inv-loop μ-loop
 loop-holds c = (omega arith, refl, headed-start _ _ _ _)
 
-add-put-digit : tie.Need-add-put-digit Inv-loop μ-loop
-add-put-digit c = omega arith
-
 head-digit-requires : tie.Need-head-digit-requires Inv-loop μ-loop
-head-digit-requires c κs = (c .before .before .before .before .before .pre .0, c .before .if1 .taken)
+head-digit-requires c κs = (c .before .before .before .before .pre .0, c .if1 .taken)
 
-put-digit-requires : tie.Need-put-digit-requires Inv-loop μ-loop
-put-digit-requires c κs = (omega arith, c .head-digit .ensures .1)
+add-t12 : tie.Need-add-t12 Inv-loop μ-loop
+add-t12 c = omega arith
+
+put-line-digit-requires : tie.Need-put-line-digit-requires Inv-loop μ-loop
+put-line-digit-requires c κs = (omega arith, c .before .before .head-digit .ensures .1)
 
 add-r : tie.Need-add-r Inv-loop μ-loop
 add-r c = omega arith
@@ -34,9 +34,9 @@ loop-less c = omega arith
 
 loop-again : tie.Need-loop-again Inv-loop μ-loop
 loop-again c =
-    let l = c .before .before .before .before .before .before .before .loop in
-    let d = c .before .before .before .head-digit in
-    let put = c .before .before .put-digit .ensures in
+    let l = c .before .before .before .before .before .before .before .before .loop in
+    let d = c .before .before .before .before .before .head-digit in
+    let put = c .before .before .put-line-digit .ensures in
     (omega arith, omega arith, headed-more _ _ _ _ (l .r) (l .line) _ (l .inv .2) (omega arith) (d .result) (d .ensures .0 0 0) (put .0) (put .1))
 
 same-length : tie.Need-same-length Inv-loop μ-loop
@@ -50,4 +50,16 @@ returns c =
 
 pub write-head-spec : {M : Type 1} → statement M
 write-head-spec =
-    tie.close (tie.spec Inv-loop μ-loop loop-holds add-put-digit head-digit-requires put-digit-requires add-r loop-less loop-again same-length returns)
+    tie.close
+    (tie.spec
+    Inv-loop
+    μ-loop
+    loop-holds
+    head-digit-requires
+    add-t12
+    put-line-digit-requires
+    add-r
+    loop-less
+    loop-again
+    same-length
+    returns)

@@ -1,61 +1,70 @@
 -- `write_heads`: after f turns the heads of the first f frames are written (Heads).
-use mathlib.Core.Path.{_≡_, refl, sym, _∙_, ap}
+use mathlib.Core.Path.{_≡_, sym, _∙_, ap}
 use Prim.Native.Nat.{ℕ, _≤_, _-_, _*_}
 use native.Mathlib.Omega.{arith}
 use lib.ListN.{length}
 use Rattle.levels.specs.Table.{Shared}
 use Rattle.multiplex.proofs.Heads.{Heading, heading-start, heading-more, heading-end, head-room}
+use borrow.Author.Needs.{needs}
 use Rattle.multiplex.proofs.write_heads.Statement.{statement}
 use Rattle.multiplex.proofs.write_heads.Tie as tie
 
 abbrev Inv-loop : tie.InvT-loop
-Inv-loop row line₀ notes start₀ f₀ line start f = (sh : Shared row) × (f ≤ length notes) × Heading row sh notes line₀ f start line
+Inv-loop row line₀ notes start₀ f₀ line start f = (sh : Shared row) × (f ≤ length notes) × Heading row sh notes line₀ f (start .0) line
 
 abbrev μ-loop : tie.MeasureT-loop
 μ-loop row line₀ notes start₀ f₀ line start f = length notes - f
 
 loop-holds : tie.Need-loop-holds Inv-loop μ-loop
-loop-holds c = let b = c .before .before in (b .pre .0, omega arith, heading-start _ _ _ _)
+loop-holds c = (c .before .before .pre .0, omega arith, heading-start _ _ _ _)
 
 shared-slice-read-write-head : tie.Need-shared-slice-read-write-head Inv-loop μ-loop
 shared-slice-read-write-head c = omega arith
 
 write-head-requires : tie.Need-write-head-requires Inv-loop μ-loop
 write-head-requires c κs =
-    let b = c .before .before .before .before .before .before in
     let l = c .before .before .before .loop in
-    let room = head-room (b .args .row) (l .inv .0) (b .args .notes .now) (b .args .line .now) (b .pre .1) (b .pre .2) (l .f) (l .start) (l .line) (c .before .before .loop-test .taken) (l .inv .2) in
-    (b .pre .0, room .0, room .1)
+    let room = head-room _ (l .inv .0) _ (c .before .before .before .before .before .before .args .line .now) (c .before .before .before .before .before .before .pre .1) (c .before .before .before .before .before .before .pre .2) (l .f) (l .start .0) (l .line) (c .before .before .loop-test .taken) (l .inv .2) in
+    (c .before .before .before .before .before .before .pre .0, room .0, room .1)
 
-add-start : tie.Need-add-start Inv-loop μ-loop
-add-start c =
-    let b = c .before .before .before .before .before .before .before .before .before .before in
-    let l = c .before .before .before .before .before .before .before .loop in
-    omega (arith, head-room (b .args .row) (l .inv .0) (b .args .notes .now) (b .args .line .now) (b .pre .1) (b .pre .2) (l .f) (l .start) (l .line) (c .before .before .before .before .before .before .loop-test .taken) (l .inv .2))
+add-t6 : tie.Need-add-t6 Inv-loop μ-loop
+add-t6 c =
+    let l = c .before .before .before .before .before .before .before .before .loop in
+    omega (arith, head-room _ (l .inv .0) _ (c .before .before .before .before .before .before .before .before .before .before .before .args .line .now) (c .before .before .before .before .before .before .before .before .before .before .before .pre .1) (c .before .before .before .before .before .before .before .before .before .before .before .pre .2) (l .f) (l .start .0) (l .line) (c .before .before .before .before .before .before .before .loop-test .taken) (l .inv .2))
 
 add-f : tie.Need-add-f Inv-loop μ-loop
-add-f c = omega (arith, c .before .before .before .before .before .before .loop-test .taken)
+add-f c = omega (arith, c .before .before .before .before .before .before .before .loop-test .taken)
 
 loop-less : tie.Need-loop-less Inv-loop μ-loop
-loop-less c = omega (arith, c .before .before .before .before .before .before .loop-test .taken)
+loop-less c = omega (arith, c .before .before .before .before .before .before .before .loop-test .taken)
 
 loop-again : tie.Need-loop-again Inv-loop μ-loop
 loop-again c =
-    let b = c .before .before .before .before .before .before .before .before .before .before in
-    let l = c .before .before .before .before .before .before .before .loop in
-    let head = c .before .before .before .write-head in
-    (l .inv .0, omega (arith, c .before .before .before .before .before .before .loop-test .taken), heading-more _ _ _ _ (l .f) (l .start) (l .line) _ (l .inv .2) (head .ensures) (head .kept .1 .0))
+    let l = c .before .before .before .before .before .before .before .before .loop in
+    let head = c .before .before .before .before .write-head in
+    (l .inv .0, omega (arith, c .before .before .before .before .before .before .before .loop-test .taken), heading-more _ _ _ _ (l .f) (l .start .0) (l .line) _ (l .inv .2) (head .ensures) (head .kept .1 .0))
 
 same-length : tie.Need-same-length Inv-loop μ-loop
 same-length c = omega (arith, c .before .loop .inv .2 .kept)
 
 returns : tie.Need-returns Inv-loop μ-loop
 returns c =
-    let b = c .before .before .before .before in
     let l = c .before .loop in
-    let end : l .f ≡ length (b .args .notes .now) = omega arith in
-    heading-end (b .args .row) (l .inv .0) _ _ (l .f) (l .start) (l .line) (b .pre .1 ∙ ap (λ (k : ℕ). k * b .args .row .bytes) (sym end)) (l .inv .2)
+    let end : l .f ≡ length (c .before .before .before .before .args .notes .now) = omega arith in
+    heading-end (c .before .before .before .before .args .row) (l .inv .0) _ _ (l .f) (l .start .0) (l .line) (c .before .before .before .before .pre .1 ∙ ap (λ (k : ℕ). k * c .before .before .before .before .args .row .bytes) (sym end)) (l .inv .2)
 
 pub write-heads-spec : {M : Type 1} → statement M
 write-heads-spec =
-    tie.close (tie.spec Inv-loop μ-loop loop-holds shared-slice-read-write-head write-head-requires add-start add-f loop-less loop-again same-length returns)
+    tie.close
+    (tie.spec
+    Inv-loop
+    μ-loop
+    loop-holds
+    shared-slice-read-write-head
+    write-head-requires
+    add-t6
+    add-f
+    loop-less
+    loop-again
+    same-length
+    returns)

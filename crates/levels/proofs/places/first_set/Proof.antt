@@ -17,7 +17,7 @@ returns : tie.Need-returns
 returns c =
     let sh = c .before .before .before .pre in
     let e : c .before .before .before .args .row .len ≡ 10 = c .before .if1 .taken in
-    c .head-of-ten .ensures ∙ sym (same-head _ row2 e (omega arith) (omega arith) (sh .ten e) _)
+    c .head-of-ten .ensures ∙ sym (same-head _ row2 e (sh .ten e) _)
 
 head-of-twelve-requires : tie.Need-head-of-twelve-requires
 head-of-twelve-requires c κs = search needs
@@ -25,7 +25,7 @@ head-of-twelve-requires c κs = search needs
 returns-2 : tie.Need-returns-2
 returns-2 c =
     let e = c .before .before .before .pre .twelve (c .before .if1 .left) in
-    c .head-of-twelve .ensures ∙ sym (same-head _ row4 (e .0) (omega arith) (omega arith) (e .1) _)
+    c .head-of-twelve .ensures ∙ sym (same-head _ row4 (e .0) (e .1) _)
 
 pub first-set-spec : {M : Type 1} → statement M
 first-set-spec = tie.close (tie.spec add-if1 head-of-ten-requires returns head-of-twelve-requires returns-2)

@@ -1,5 +1,5 @@
 -- `head_of_ten` is the head of level 2's first set: each arm rewrites with the tests that lead to it.
-use borrow.Author.Tests.{lt-ltb, le-ltb, ne-eqb}
+use borrow.Author.Tests.{lt-ltb, le-ltb}
 use native.Mathlib.Omega.{arith}
 use Rattle.levels.specs.Places.{firstSet}
 use Rattle.levels.proofs.places.head_of_ten.Statement.{statement}
@@ -21,7 +21,7 @@ returns-4 : tie.Need-returns-4
 unfolding firstSet
 returns-4 c =
     let r = c .before .before .args .r in
-    rw (le-ltb r 10 (omega arith), ne-eqb r 10 (λ e. omega arith), le-ltb r 12 (omega arith))
+    rw (le-ltb r 10 (omega arith), le-ltb r 12 (omega arith))
 
 pub head-of-ten-spec : {M : Type 1} → statement M
 head-of-ten-spec = tie.close (tie.spec returns returns-2 returns-3 returns-4)

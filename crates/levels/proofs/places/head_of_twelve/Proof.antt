@@ -1,5 +1,5 @@
 -- `head_of_twelve` is the head of level 4's first set: each arm rewrites with the tests that lead to it.
-use borrow.Author.Tests.{lt-ltb, le-ltb, ne-eqb}
+use borrow.Author.Tests.{lt-ltb, le-ltb}
 use native.Mathlib.Omega.{arith}
 use Rattle.levels.specs.Places.{firstSet}
 use Rattle.levels.proofs.places.head_of_twelve.Statement.{statement}
@@ -29,7 +29,7 @@ returns-6 : tie.Need-returns-6
 unfolding firstSet
 returns-6 c =
     let r = c .before .before .args .r in
-    rw (le-ltb r 12 (omega arith), ne-eqb r 12 (λ e. omega arith), le-ltb r 16 (omega arith))
+    rw (le-ltb r 12 (omega arith), le-ltb r 16 (omega arith))
 
 pub head-of-twelve-spec : {M : Type 1} → statement M
 head-of-twelve-spec = tie.close (tie.spec returns returns-2 returns-3 returns-4 returns-5 returns-6)
