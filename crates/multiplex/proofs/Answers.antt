@@ -25,7 +25,7 @@ use Rattle.multiplex.specs.Line.{lineDigit, lineOf}
 use Rattle.multiplex.specs.Passes.{AllHeads, AllFilled}
 use Rattle.multiplex.specs.Multiplex.{firstFaulty, refusalOn, refusedWith, answerOn, lineOn, Met}
 use Rattle.multiplex.proofs.multiplex.{signature, ended}
-use Rattle.multiplex.proofs.multiplex.Reads.{Learnt}
+use Rattle.multiplex.proofs.multiplex.Reads.{Asked, Learnt}
 
 -- no length is refused with 5
 size-small : (row : Row) (line notes buffer : ℕ) → sizeRefusal row line notes buffer ≤ 4
@@ -87,3 +87,7 @@ no-second-answer level line notes buffer a b l m x y = (x .0 ∙ sym (y .0), x .
 pub call-met : (κs : Lfts 3) (a : ArgsD signature κs) (r : ResD signature κs) (e : AtExit ended κs) → Learnt κs a r e
     → Met (a .0) (now (a .1 .0)) (now (a .1 .1 .0)) (now (a .1 .1 .1 .0)) r (now (e .1 .0))
 call-met κs a r e met = met
+
+-- and it asks nothing of its caller
+pub call-asks-nothing : (κs : Lfts 3) (a : ArgsD signature κs) → Asked κs a
+call-asks-nothing κs a = tt
