@@ -29,7 +29,7 @@ use Rattle.multiplex.specs.Multiplex.{firstOver, firstFaulty, refusalOn, multip
 use Rattle.multiplex.specs.Multiplex as send
 use Rattle.multiplex.proofs.Passes.{quarter-length}
 use Rattle.demultiplex.specs.declared.Demultiplexed.{Demultiplexed}
-use Rattle.demultiplex.specs.Notes.{notesOf}
+use Rattle.demultiplex.specs.Notes.{noteOf, notesOf}
 use Rattle.demultiplex.specs.Extract.{takenTo, quarterFrom, quartersFrom}
 use Rattle.demultiplex.specs.Demultiplex.{demultiplexed, bufferAfter}
 use Rattle.demultiplex.specs.Demultiplex as read
@@ -275,6 +275,9 @@ module _ (level : ℕ) (row : Row) (e : levelOf level ≡ Of row) where
 
     pub read-notes : readNotes level c ≡ notes
     read-notes = rw (e, eq-eqb size 0 accepted-size)
+
+    pub read-frames : length (readNotes level c) ≡ frames
+    read-frames = rw read-notes (tab-length frames 0 (noteOf row ds))
 
     pub read-buffer : bufferAfter level (c .line) frames (c .buffer) ≡ quartersFrom row notes (c .line) (length (c .buffer) / 4)
     read-buffer = rw (e, eq-eqb size 0 accepted-size)

@@ -30,7 +30,7 @@ use Rattle.promises.specs.Plain.{SameOutside}
 use Rattle.promises.proofs.Recovered.{damage-recovered}
 use Rattle.promises.proofs.Others.{others-untouched}
 use Rattle.promises.proofs.RoundTrip.{round-trip}
-use Rattle.promises.proofs.Accepted.{send-level, read-level, shared, count-at, tributary, send-sizes, send-places, send-sound, send-line, send-counts, send-digits, read-accepted, read-sizes, read-places, read-answer, read-notes, read-digits}
+use Rattle.promises.proofs.Accepted.{send-level, read-level, shared, count-at, tributary, send-sizes, send-places, send-sound, send-line, send-counts, send-digits, read-accepted, read-sizes, read-places, read-answer, read-notes, read-frames, read-digits}
 
 -- the four counts are the same where each is
 counts-same : (row : Row) (a b : List ℕ) (F : ℕ) → ((j : ℕ) → j < 4 → countOf row (decisions a j) F ≡ countOf row (decisions b j) F) → countsOf row a F ≡ countsOf row b F
@@ -83,6 +83,7 @@ module _ (level : ℕ) (row : Row) (e : levelOf level ≡ Of row) where
       let F = same-frames row sh (length (b .notes)) (length (a .notes)) (sym size-b ∙ ap (λ (l : List ℕ). length (digitsOf l)) (sym equal) ∙ size-a) in
       let two : AsRead b (length (a .notes)) (digitsOf received) = rw (← F, equal) (damaged b ok-b other db) in
       record {
+        frames = sym F;
         decided = λ j f hj hf. one .decided j f hj hf ∙ sym (two .decided j f hj hf);
         counted = one .counted ∙ sym (two .counted);
         digits = λ j hj. one .digits j hj ∙ sym (two .digits j hj);
@@ -92,6 +93,7 @@ module _ (level : ℕ) (row : Row) (e : levelOf level ≡ Of row) where
   record Reads (c : Lent) (F : ℕ) (ds : List ℕ) : Type 0 where
     accepted : ReadAccepted level c
     noted : readNotes level c ≡ notesOf row ds F
+    frames : length (readNotes level c) ≡ F
     answered : demultiplexed level (c .line) (length (c .notes)) (length (c .buffer)) ≡ received row (notesOf row ds F) ds F
     digits : (j : ℕ) → j < 4 → readDigits level c j ≡ digitsRead row F ds j
 
@@ -101,6 +103,7 @@ module _ (level : ℕ) (row : Row) (e : levelOf level ≡ Of row) where
       record {
         accepted = ok;
         noted = read-notes level row e c ok ∙ ap (λ (n : ℕ). notesOf row ds n) same;
+        frames = read-frames level row e c ok ∙ same;
         answered = read-answer level row e c ok ∙ ap (λ (n : ℕ). received row (notesOf row ds n) ds n) same;
         digits = λ j hj. read-digits level row e c ok j hj ∙ ap (λ (n : ℕ). digitsRead row n ds j) same;
       }
@@ -116,6 +119,7 @@ module _ (level : ℕ) (row : Row) (e : levelOf level ≡ Of row) where
   returns send read ds sent got =
       record {
         accepted = got .accepted;
+        frames = got .frames;
         decided = λ j f hj hf. ap (λ (notes : List ℕ). decisions notes j f) (got .noted) ∙ sym (sent .decided j f hj hf);
         counted = ap (λ (r : Demultiplexed). r .counts) (got .answered) ∙ sym (sent .counted);
         digits = λ j hj. got .digits j hj ∙ sym (sent .digits j hj);
@@ -154,6 +158,7 @@ module _ (level : ℕ) (row : Row) (e : levelOf level ≡ Of row) where
       let counts : (c : Lent) (ds : List ℕ) → Reads c F ds → getD (readCounts level c) k 0 ≡ countRead row F ds k = λ c ds got. ap (λ (r : Demultiplexed). getD (r .counts) k 0) (got .answered) ∙ count-at row (notesOf row ds F) F k hk in
       record {
         accepted = two .accepted;
+        frames = one .frames ∙ sym (two .frames);
         decided = λ f hf. rw (one .noted, two .noted) (out .decided f hf);
         counted = counts a da one ∙ out .counted ∙ sym (counts b db two);
         digits = one .digits k hk ∙ out .digits ∙ sym (two .digits k hk);

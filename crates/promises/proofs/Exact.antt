@@ -21,16 +21,16 @@ use Rattle.levels.proofs.Columns.{columns, frame-start}
 use Rattle.multiplex.specs.Line.{lineDigit, lineOf}
 use Rattle.multiplex.proofs.Unread.{Agree, same-line}
 use Rattle.demultiplex.specs.declared.Demultiplexed.{Demultiplexed}
-use Rattle.demultiplex.specs.Notes.{noteOf, notesOf}
+use Rattle.demultiplex.specs.Notes.{notesOf}
 use Rattle.promises.specs.Damage.{kept, libertyAt, Damage, lineDigits}
-use Rattle.promises.specs.Calls.{Lent, SendAccepted, sentLine, sentCounts, sentDigits, ReadAccepted, readNotes, readCounts, readDigits, sentOn, LentFor, LentAt, DamageAt, SendsSame, SendReturned, SendBack, ReadsSame}
+use Rattle.promises.specs.Calls.{Lent, SendAccepted, sentLine, sentCounts, sentDigits, ReadAccepted, readCounts, readDigits, sentOn, LentAt, DamageAt, SendsSame, SendReturned, SendBack, ReadsSame}
 use Rattle.promises.proofs.Lists.{differing-self}
 use Rattle.promises.proofs.Sent.{sent-group, sent-carried}
 use Rattle.promises.proofs.Reading.{note-fits}
 use Rattle.promises.proofs.Order.{carries-same, before-same}
 use Rattle.promises.proofs.Recovered.{kept-carries}
 use Rattle.promises.proofs.RoundTrip.{line-binary}
-use Rattle.promises.proofs.Accepted.{send-level, read-level, shared, quarters-length, line-digits, send-accepted, tributary, send-whole, send-places, send-sound, send-bytes, send-line, send-counts, send-count, accepted-size, read-sizes, read-answer, read-notes, read-buffer}
+use Rattle.promises.proofs.Accepted.{send-level, read-level, shared, quarters-length, line-digits, send-accepted, tributary, send-whole, send-places, send-sound, send-bytes, send-line, send-counts, send-count, accepted-size, read-sizes, read-answer, read-notes, read-frames, read-buffer}
 use Rattle.promises.proofs.Calls.{on-damage, send-returned, send-back}
 
 -- two sends with the same decisions and of the same tributaries: only service digits differ
@@ -76,8 +76,8 @@ module _ (level : ℕ) (row : Row) (e : levelOf level ≡ Of row) (a b : Lent) (
       send-bytes level row e b ok-b
       ∙ same-line row (shared level row e) (b .notes) (tributary level row e b ok-b) first agree (length (b .line)) (send-whole level row e b ok-b)
 
-  meet-on : length (a .notes) ≡ length (b .notes) → DamageAt level (a .notes) (sentLine level a) (sentLine level b)
-  meet-on len =
+  meet-on : DamageAt level (a .notes) (sentLine level a) (sentLine level b)
+  meet-on =
       on-damage level row e (a .notes) (sentLine level a) (sentLine level b)
       (rw (send-line level row e a ok-a, digits-b) (same-damage row (shared level row e) (length (a .notes)) (a .notes) (b .notes) first (same .decided) bin))
     where
@@ -85,19 +85,16 @@ module _ (level : ℕ) (row : Row) (e : levelOf level ≡ Of row) (a b : Lent) (
       bin = send-sound level row e a ok-a .digits
 
       digits-b : digitsOf (sentLine level b) ≡ lineDigits row (b .notes) first (length (a .notes))
-      digits-b = ap digitsOf one-line ∙ line-digits row (b .notes) first bin (length (b .line)) (length (a .notes)) (rw len (send-places level row e b ok-b))
+      digits-b = ap digitsOf one-line ∙ line-digits row (b .notes) first bin (length (b .line)) (length (a .notes)) (rw (same .frames) (send-places level row e b ok-b))
 
--- two accepted sends of one frame count that carried the same: the line of the one comes from that of the other by damage. So `sends-same` says
+-- two accepted sends that carried the same: the line of the one comes from that of the other by damage. So `sends-same` says
 -- all that can be said
-pub same-meet : (level : ℕ) (a b : Lent) → SendAccepted level a → SendAccepted level b → length (a .notes) ≡ length (b .notes) → SendsSame level a b
+pub same-meet : (level : ℕ) (a b : Lent) → SendAccepted level a → SendAccepted level b → SendsSame level a b
     → DamageAt level (a .notes) (sentLine level a) (sentLine level b)
-same-meet level a b ok-a ok-b len same = let on = send-level level a ok-a in meet-on level (on .0) (on .1) a b ok-a ok-b same len
+same-meet level a b ok-a = let on = send-level level a ok-a in meet-on level (on .0) (on .1) a b ok-a
 
 -- what a reading leaves, sent on
 module _ (level : ℕ) (row : Row) (e : levelOf level ≡ Of row) (c : Lent) (ok : ReadAccepted level c) where
-  noted-on : length (readNotes level c) ≡ length (c .notes)
-  noted-on = rw (read-notes level row e c ok) (tab-length (length (c .notes)) 0 (noteOf row (digitsOf (c .line))))
-
   buffer-on : length (sentOn level c .buffer) ≡ length (c .buffer)
   buffer-on =
       rw (read-buffer level row e c ok)
@@ -105,13 +102,13 @@ module _ (level : ℕ) (row : Row) (e : levelOf level ≡ Of row) (c : Lent) (ok
 
   accepted-on : SendAccepted level (sentOn level c)
   accepted-on =
-      send-accepted level row e (sentOn level c) (rw (noted-on, buffer-on) (accepted-size level row e c ok))
-      (λ f hf. rw (read-notes level row e c ok) (note-fits row (digitsOf (c .line)) (digits-binary (c .line)) f (shared level row e) (length (c .notes)) (omega (arith, noted-on))))
+      send-accepted level row e (sentOn level c) (rw (read-frames level row e c ok, buffer-on) (accepted-size level row e c ok))
+      (λ f hf. rw (read-notes level row e c ok) (note-fits row (digitsOf (c .line)) (digits-binary (c .line)) f (shared level row e) (length (c .notes)) (omega (arith, read-frames level row e c ok))))
 
   counts-on : sentCounts level (sentOn level c) ≡ readCounts level c
   counts-on =
       send-counts level row e (sentOn level c) accepted-on
-      ∙ rw (noted-on, read-notes level row e c ok) (sym (ap (λ (r : Demultiplexed). r .counts) (read-answer level row e c ok)))
+      ∙ rw (read-frames level row e c ok, read-notes level row e c ok) (sym (ap (λ (r : Demultiplexed). r .counts) (read-answer level row e c ok)))
 
   four-counts : length (readCounts level c) ≡ 4
   four-counts = ap (λ (r : Demultiplexed). length (r .counts)) (read-answer level row e c ok)
@@ -128,6 +125,7 @@ pub sent-on : (level : ℕ) (send read : Lent) → SendReturned level send read 
 sent-on level send read back =
     let on = read-level level read (back .accepted) in
     record {
+      frames = sym (back .frames);
       decided = λ j f hj hf. sym (back .decided j f hj hf);
       counted = sym (back .counted) ∙ sym (counts-on level (on .0) (on .1) read (back .accepted));
       digits = λ j hj. sym (back .digits j hj) ∙ sym (digits-on level (on .0) (on .1) read (back .accepted) j);
@@ -143,7 +141,8 @@ alike-on level a b ok same =
     let fours = four-counts level row e a ok in
     let counts = ext-getD 0 (readCounts level a) (readCounts level b) (fours ∙ sym (four-counts level row e b ok-b)) (λ k h. same k (omega (arith, fours)) .counted) in
     record {
-      decided = λ j f hj hf. same j hj .decided f (omega (arith, noted-on level row e a ok));
+      frames = same 0 (lit< tt) .frames;
+      decided = λ j f hj hf. same j hj .decided f (omega (arith, read-frames level row e a ok));
       counted = counts-on level row e a ok ∙ counts ∙ sym (counts-on level row e b ok-b);
       digits = λ j hj. digits-on level row e a ok j ∙ same j hj .digits ∙ sym (digits-on level row e b ok-b j);
     }
@@ -153,10 +152,7 @@ pub repeated : (level : ℕ) (send read : Lent) → SendAccepted level send → 
     → DamageAt level (send .notes) (sentLine level send) (sentLine level (sentOn level read))
 repeated level send read ok lent damage =
     let back = send-returned level send read ok lent damage in
-    let on = read-level level read (back .accepted) in
-    let lent-on : LentFor (on .0 .room) send read = rw (on .1) at lent in
-    let frames = noted-on level (on .0) (on .1) read (back .accepted) ∙ lent-on .noted in
-    same-meet level send (sentOn level read) ok (sent-on-accepted level read (back .accepted)) (sym frames) (sent-on level send read back)
+    same-meet level send (sentOn level read) ok (sent-on-accepted level read (back .accepted)) (sent-on level send read back)
 
 -- and one that is sent on undamaged comes again, byte for byte
 pub line-again : (level : ℕ) (send read : Lent) → SendAccepted level send → LentAt level send read → read .line ≡ sentLine level send

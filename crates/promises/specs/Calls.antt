@@ -69,11 +69,11 @@ DamageAt level notes sent received =
 
 -- two lines that differ in places of tributary j only
 abbrev pub SameButAt : ℕ → ℕ → List ℕ → List ℕ → Type 0
-SameButAt level j line other =
-    onLevel (levelOf level) (λ (row : Row). SameBut row j (digitsOf line) (digitsOf other)) ⊥
+SameButAt level j line other = onLevel (levelOf level) (λ (row : Row). SameBut row j (digitsOf line) (digitsOf other)) ⊥
 
 -- "both sends carried the same decisions and the same digits of every tributary, in order"
 pub record SendsSame (level : ℕ) (a b : Lent) : Type 0 where
+  pub frames : length (a .notes) ≡ length (b .notes)
   pub decided : (j f : ℕ) → j < 4 → f < length (a .notes) → decisions (a .notes) j f ≡ decisions (b .notes) j f
   pub counted : sentCounts level a ≡ sentCounts level b
   pub digits : (j : ℕ) → j < 4 → sentDigits level a j ≡ sentDigits level b j
@@ -81,6 +81,7 @@ pub record SendsSame (level : ℕ) (a b : Lent) : Type 0 where
 -- "and demultiplexing returns them"
 pub record SendReturned (level : ℕ) (send read : Lent) : Type 0 where
   pub accepted : ReadAccepted level read
+  pub frames : length (readNotes level read) ≡ length (send .notes)
   pub decided : (j f : ℕ) → j < 4 → f < length (send .notes) → decisions (readNotes level read) j f ≡ decisions (send .notes) j f
   pub counted : readCounts level read ≡ sentCounts level send
   pub digits : (j : ℕ) → j < 4 → readDigits level read j ≡ sentDigits level send j
@@ -95,6 +96,7 @@ pub record SendBack (level : ℕ) (send read : Lent) : Type 0 where
 -- "come out as before: digits, numbers of digits and decisions", of tributary k
 pub record ReadsSame (level k : ℕ) (a b : Lent) : Type 0 where
   pub accepted : ReadAccepted level b
+  pub frames : length (readNotes level a) ≡ length (readNotes level b)
   pub decided : (f : ℕ) → f < length (a .notes) → decisions (readNotes level a) k f ≡ decisions (readNotes level b) k f
   pub counted : getD (readCounts level a) k 0 ≡ getD (readCounts level b) k 0
   pub digits : readDigits level a k ≡ readDigits level b k

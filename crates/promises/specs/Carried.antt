@@ -1,6 +1,6 @@
--- What demand 3 says of the sends and of the reading: "both sends carried the same decisions and the same digits of every tributary, in
--- order, and demultiplexing returns them"; "the other three come out as before: digits, numbers of digits and decisions".
--- Tributaries are counted from 0. ds and es are the digits of lines of F frames.
+-- What demand 3 says of a send and of the reading, over the level's row: "the same decisions and the same digits of every tributary, in order,
+-- and demultiplexing returns them"; "the other three come out as before: digits, numbers of digits and decisions". specs/Calls.antt says it of
+-- the calls, and of two sends. Tributaries are counted from 0. ds and es are the digits of lines of F frames.
 use mathlib.Core.Path.{_≡_}
 use mathlib.Core.Bool.{Bool}
 use mathlib.Core.List.{List}

@@ -39,10 +39,10 @@ SameOutside j line other = (p : ℕ) → p < length (digitsOf line) → p % 4 �
 -- the whole of demand 3 at one level
 pub record DemandThree (level N n head : ℕ) (controls : List ℕ) (justification most : ℕ) : Type 0 where
   -- "Take two accepted sends of one level and one frame count. Change each line [..] If the changed lines are then equal, both sends
-  -- carried the same decisions and the same digits of every tributary, in order," The frame count needs no premise: equal lines have one
+  -- carried the same decisions and the same digits of every tributary, in order," That the frame count is one follows from equal lines
   pub same : (a b : Lent) (received other : List ℕ) → SendAccepted level a → SendAccepted level b
       → Changed level N head controls justification most a received → Changed level N head controls justification most b other → received ≡ other → SendsSame level a b
-  -- "and demultiplexing returns them."
+  -- "and demultiplexing returns them.": it is accepted if it is lent as many notes, and quarters with room for n digits of each frame
   pub returned : (send read : Lent) → SendAccepted level send → LentFor n send read → Changed level N head controls justification most send (read .line)
       → SendReturned level send read
   -- "Further, in any line, whatever is changed in one tributary's own places, the other three come out as before"
