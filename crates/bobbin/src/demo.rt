@@ -108,10 +108,10 @@ fn four_digits(line: &[u8; 848], f: usize, place: usize)
 {
     let p = f * 848 + place;
     say::text(b" ");
-    say::digit(workbench::digit_in(line, p));
-    say::digit(workbench::digit_in(line, p + 1));
-    say::digit(workbench::digit_in(line, p + 2));
-    say::digit(workbench::digit_in(line, p + 3));
+    say::digit(digits::digit_or_zero(line, p));
+    say::digit(digits::digit_or_zero(line, p + 1));
+    say::digit(digits::digit_or_zero(line, p + 2));
+    say::digit(digits::digit_or_zero(line, p + 3));
 }
 
 fn table(sent: &[u8; 824], back: &[u8; 824], counts: [usize; 4], came: [usize; 4]) {

@@ -142,7 +142,7 @@ fn values(line: &[u8; 366], note: u8, kind: u8, p: usize, end: usize)
     say::text(b" ");
     let mut q = p;
     while q < end {
-        say::digit(workbench::digit_in(line, q));
+        say::digit(digits::digit_or_zero(line, q));
         q += 1;
     }
 }

@@ -220,5 +220,5 @@ fn value(fd: i32, line: &[u8; 366], note: u8, kind: u8, q: usize)
         }
         return;
     }
-    number(fd, workbench::digit_in(line, q) as usize);
+    number(fd, digits::digit_or_zero(line, q) as usize);
 }

@@ -14,6 +14,16 @@ pub fn digit_at(s: &[u8], p: usize) -> u8
     (s[p / 8] >> (7 - p % 8)) % 2
 }
 
+// The same for any place: past the end there are zeros.
+pub fn digit_or_zero(s: &[u8], p: usize) -> u8
+    ensures { λ r. ⌜ (r ≡ getD (digitsOf (now (s .entry))) p 0) × (r < 2) ⌝ }
+{
+    if s.len() <= p / 8 {
+        return 0;
+    }
+    digit_at(s, p)
+}
+
 // Digit d at place p; every other digit stays. What is left are bytes, so that equal digits are equal slices.
 pub fn put_digit(s: &mut [u8], p: usize, d: u8)
     requires { ⌜ (p < 8 * length (now s)) × (d < 2) ⌝ }

@@ -1,8 +1,8 @@
 // Digits carried on from run to run without a gap, wherever in a byte a run ends. Everything here is one copy of digits from places to
 // places; specs/Carry.antt says which digit stands where after it.
 use crate::sizes::least;
+use digits::digit_or_zero;
 use levels::order;
-use workbench::digit_in;
 ghost use mathlib.Core.Path.{_≡_};
 ghost use mathlib.Core.Bool.{cond};
 ghost use Prim.Native.Nat.{ℕ, _+_, _-_, _*_, _/_, _%_, _<_, _≤_};
@@ -33,7 +33,7 @@ pub fn copy_digits(to: &mut [u8], at: usize, from: &[u8], first: usize, count: u
     let end = least(at + count, 8 * to.len());
     let mut p = at;
     while p < end {
-        digits::put_digit(to, p, digit_in(from, first + (p - at)));
+        digits::put_digit(to, p, digit_or_zero(from, first + (p - at)));
         p += 1;
     }
 }

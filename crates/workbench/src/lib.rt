@@ -2,6 +2,7 @@
 // comparison of what was sent with what came back. The program bobbin prints what these answer.
 pub mod picture;
 
+use digits::digit_or_zero;
 use levels::places;
 use levels::places::FramePlace;
 use levels::places::Kind;
@@ -25,23 +26,13 @@ pub struct Compared {
     pub wrong: usize,
 }
 
-// The digit at place p, and 0 past the end.
-pub fn digit_in(s: &[u8], p: usize) -> u8
-    ensures { λ r. ⌜ (r ≡ getD (digitsOf (now (s .entry))) p 0) × (r < 2) ⌝ }
-{
-    if s.len() <= p / 8 {
-        return 0;
-    }
-    digits::digit_at(s, p)
-}
-
 // How many digits from the first on are right: the number of the first that differs, or the count.
 fn right_digits(a: &[u8], b: &[u8], count: usize) -> usize
     ensures { λ r. ⌜ (r ≤ count) × ((i : ℕ) → i < r → getD (digitsOf (now (a .entry))) i 0 ≡ getD (digitsOf (now (b .entry))) i 0) × (r < count → getD (digitsOf (now (a .entry))) r 0 ≢ getD (digitsOf (now (b .entry))) r 0) ⌝ }
 {
     let mut i: usize = 0;
     while i < count {
-        if digit_in(a, i) != digit_in(b, i) {
+        if digit_or_zero(a, i) != digit_or_zero(b, i) {
             return i;
         }
         i += 1;
@@ -53,7 +44,7 @@ fn right_digits(a: &[u8], b: &[u8], count: usize) -> usize
 fn wrong_at(a: &[u8], b: &[u8], i: usize) -> usize
     ensures { λ r. ⌜ (wrongTo (digitsOf (now (a .entry))) (digitsOf (now (b .entry))) (i + 1) ≡ wrongTo (digitsOf (now (a .entry))) (digitsOf (now (b .entry))) i + r) × (r < 2) ⌝ }
 {
-    if digit_in(a, i) == digit_in(b, i) {
+    if digit_or_zero(a, i) == digit_or_zero(b, i) {
         return 0;
     }
     1
@@ -130,9 +121,9 @@ fn late_digit(row: Row, said: &[u8], line: &[u8], p: usize) -> u8
 {
     let kind = places::kind_at(row, FramePlace(p % row.digits));
     if is_control(kind) {
-        return digit_in(said, p);
+        return digit_or_zero(said, p);
     }
-    digit_in(line, p)
+    digit_or_zero(line, p)
 }
 
 // Every control digit of the line becomes that of `said`; every other digit stays.

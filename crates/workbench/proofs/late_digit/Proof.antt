@@ -15,17 +15,17 @@ kind-at-requires c κs = (c .before .before .before .pre, in-a-frame _ (c .befor
 is-control-requires : tie.Need-is-control-requires
 is-control-requires c κs = search needs
 
-digit-in-requires : tie.Need-digit-in-requires
-digit-in-requires c κs = search needs
+digit-or-zero-requires : tie.Need-digit-or-zero-requires
+digit-or-zero-requires c κs = search needs
 
 returns : tie.Need-returns
-returns c = (mixed-said _ _ _ _ _ (sym (ap isControl (c .before .before .before .kind-at .ensures)) ∙ sym (c .before .before .is-control .ensures) ∙ c .before .if1 .taken) (c .digit-in .ensures .0), c .digit-in .ensures .1)
+returns c = (mixed-said _ _ _ _ _ (sym (ap isControl (c .before .before .before .kind-at .ensures)) ∙ sym (c .before .before .is-control .ensures) ∙ c .before .if1 .taken) (c .digit-or-zero .ensures .0), c .digit-or-zero .ensures .1)
 
-digit-in-requires-2 : tie.Need-digit-in-requires-2
-digit-in-requires-2 c κs = search needs
+digit-or-zero-requires-2 : tie.Need-digit-or-zero-requires-2
+digit-or-zero-requires-2 c κs = search needs
 
 returns-2 : tie.Need-returns-2
-returns-2 c = (mixed-line _ _ _ _ _ (sym (ap isControl (c .before .before .before .kind-at .ensures)) ∙ sym (c .before .before .is-control .ensures) ∙ c .before .if1 .left) (c .digit-in2 .ensures .0), c .digit-in2 .ensures .1)
+returns-2 c = (mixed-line _ _ _ _ _ (sym (ap isControl (c .before .before .before .kind-at .ensures)) ∙ sym (c .before .before .is-control .ensures) ∙ c .before .if1 .left) (c .digit-or-zero2 .ensures .0), c .digit-or-zero2 .ensures .1)
 
 pub late-digit-spec : {M : Type 1} → statement M
 late-digit-spec =
@@ -34,7 +34,7 @@ late-digit-spec =
     rem-t6
     kind-at-requires
     is-control-requires
-    digit-in-requires
+    digit-or-zero-requires
     returns
-    digit-in-requires-2
+    digit-or-zero-requires-2
     returns-2)

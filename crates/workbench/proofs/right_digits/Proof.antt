@@ -21,14 +21,14 @@ loop-holds c = (omega arith, λ k h. absurd (over k h))
     over : (k : ℕ) → k < 0 → ⊥
     over k h = omega arith
 
-digit-in-requires : tie.Need-digit-in-requires Inv-loop μ-loop
-digit-in-requires c κs = search needs
+digit-or-zero-requires : tie.Need-digit-or-zero-requires Inv-loop μ-loop
+digit-or-zero-requires c κs = search needs
 
-digit-in-requires-2 : tie.Need-digit-in-requires-2 Inv-loop μ-loop
-digit-in-requires-2 c κs = search needs
+digit-or-zero-requires-2 : tie.Need-digit-or-zero-requires-2 Inv-loop μ-loop
+digit-or-zero-requires-2 c κs = search needs
 
 returns : tie.Need-returns Inv-loop μ-loop
-returns c = ((omega arith), c .before .before .before .before .loop .inv .1, λ h e. c .if1 .taken (c .before .before .digit-in .ensures .0 ∙ e ∙ sym (c .before .digit-in2 .ensures .0)))
+returns c = ((omega arith), c .before .before .before .before .loop .inv .1, λ h e. c .if1 .taken (c .before .before .digit-or-zero .ensures .0 ∙ e ∙ sym (c .before .digit-or-zero2 .ensures .0)))
 
 add-i : tie.Need-add-i Inv-loop μ-loop
 add-i c = search needs
@@ -37,7 +37,7 @@ loop-less : tie.Need-loop-less Inv-loop μ-loop
 loop-less c = search needs
 
 loop-again : tie.Need-loop-again Inv-loop μ-loop
-loop-again c = (omega arith, right-more (digitsOf (c .before .before .before .before .before .before .before .args .a .now)) (digitsOf (c .before .before .before .before .before .before .before .args .b .now)) _ (c .before .before .before .before .loop .inv .1) (sym (c .before .before .digit-in .ensures .0) ∙ c .if1 .left ∙ c .before .digit-in2 .ensures .0))
+loop-again c = (omega arith, right-more (digitsOf (c .before .before .before .before .before .before .before .args .a .now)) (digitsOf (c .before .before .before .before .before .before .before .args .b .now)) _ (c .before .before .before .before .loop .inv .1) (sym (c .before .before .digit-or-zero .ensures .0) ∙ c .if1 .left ∙ c .before .digit-or-zero2 .ensures .0))
 
 returns-2 : tie.Need-returns-2 Inv-loop μ-loop
 returns-2 c =
@@ -54,8 +54,8 @@ right-digits-spec =
     Inv-loop
     μ-loop
     loop-holds
-    digit-in-requires
-    digit-in-requires-2
+    digit-or-zero-requires
+    digit-or-zero-requires-2
     returns
     add-i
     loop-less

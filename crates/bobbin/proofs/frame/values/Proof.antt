@@ -34,8 +34,8 @@ text-requires-2 c κs = search needs
 loop-holds : tie.Need-loop-holds Inv-loop μ-loop
 loop-holds c = search needs
 
-digit-in-requires : tie.Need-digit-in-requires Inv-loop μ-loop
-digit-in-requires c κs = search needs
+digit-or-zero-requires : tie.Need-digit-or-zero-requires Inv-loop μ-loop
+digit-or-zero-requires c κs = search needs
 
 digit-requires : tie.Need-digit-requires Inv-loop μ-loop
 digit-requires c κs = search needs
@@ -66,7 +66,7 @@ values-spec =
     slice-aggregate-text-2
     text-requires-2
     loop-holds
-    digit-in-requires
+    digit-or-zero-requires
     digit-requires
     add-q
     loop-less

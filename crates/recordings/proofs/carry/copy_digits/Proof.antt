@@ -27,17 +27,17 @@ least-requires c κs = tt
 loop-holds : tie.Need-loop-holds Inv-loop μ-loop
 loop-holds c = (omega arith, omega arith, omega arith, omega arith, refl, copying-start _ _ _ _)
 
-sub-digit-in : tie.Need-sub-digit-in Inv-loop μ-loop
-sub-digit-in c = omega arith
+sub-digit-or-zero : tie.Need-sub-digit-or-zero Inv-loop μ-loop
+sub-digit-or-zero c = omega arith
 
-add-digit-in : tie.Need-add-digit-in Inv-loop μ-loop
-add-digit-in c = omega arith
+add-digit-or-zero : tie.Need-add-digit-or-zero Inv-loop μ-loop
+add-digit-or-zero c = omega arith
 
-digit-in-requires : tie.Need-digit-in-requires Inv-loop μ-loop
-digit-in-requires c κs = tt
+digit-or-zero-requires : tie.Need-digit-or-zero-requires Inv-loop μ-loop
+digit-or-zero-requires c κs = tt
 
 put-digit-requires : tie.Need-put-digit-requires Inv-loop μ-loop
-put-digit-requires c κs = (omega arith, c .digit-in .ensures .1)
+put-digit-requires c κs = (omega arith, c .digit-or-zero .ensures .1)
 
 add-p : tie.Need-add-p Inv-loop μ-loop
 add-p c = omega arith
@@ -53,7 +53,7 @@ loop-again c =
       omega arith,
       omega arith,
       omega arith,
-      copying-more _ _ _ _ (l .to) _ (l .p) _ (l .inv .5) (l .inv .0) (omega arith) (c .before .before .before .digit-in .ensures .0) (c .before .before .put-digit .ensures .0),
+      copying-more _ _ _ _ (l .to) _ (l .p) _ (l .inv .5) (l .inv .0) (omega arith) (c .before .before .before .digit-or-zero .ensures .0) (c .before .before .put-digit .ensures .0),
     )
 
 same-length : tie.Need-same-length Inv-loop μ-loop
@@ -74,9 +74,9 @@ copy-digits-spec =
     mul-least
     least-requires
     loop-holds
-    sub-digit-in
-    add-digit-in
-    digit-in-requires
+    sub-digit-or-zero
+    add-digit-or-zero
+    digit-or-zero-requires
     put-digit-requires
     add-p
     loop-less

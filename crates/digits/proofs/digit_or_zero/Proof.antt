@@ -1,0 +1,23 @@
+-- `digits::digit_or_zero` meets its contract: a slice's digits end where its bytes end, and past the end a list's default stands.
+use borrow.Author.Needs.{needs}
+use native.Mathlib.Omega.{arith}
+use mathlib.Core.Path.{sym}
+use lib.ListN.{List·getD-eq-default}
+use Rattle.digits.specs.Digits.{digitsOf}
+use Rattle.digits.proofs.Laws.{digits-length}
+use Rattle.digits.proofs.digit_or_zero.Statement.{statement}
+use Rattle.digits.proofs.digit_or_zero.Tie as tie
+
+returns : tie.Need-returns
+returns c =
+    let s = c .before .before .args .s .now in
+    (sym (List·getD-eq-default (digitsOf s) 0 (omega (arith, digits-length s))), omega arith)
+
+digit-at-requires : tie.Need-digit-at-requires
+digit-at-requires c κs = search needs
+
+returns-2 : tie.Need-returns-2
+returns-2 c = search needs
+
+pub digit-or-zero-spec : {M : Type 1} → statement M
+digit-or-zero-spec = tie.close (tie.spec returns digit-at-requires returns-2)
