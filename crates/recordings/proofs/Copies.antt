@@ -1,17 +1,19 @@
 -- A copy digit by digit: after each turn the places passed hold the digits copied, and all others what they held.
-use mathlib.Core.Path.{_≡_, refl, sym, _∙_}
-use mathlib.Core.Bool.{cond}
+use mathlib.Core.Path.{_≡_, refl, sym, ap, _∙_}
+use mathlib.Core.Bool.{_&&_}
 use mathlib.Core.List.{List, [], _∷_}
-use Prim.Native.Nat.{ℕ, _+_, _-_, _*_, _≤_, _<_}
+use Prim.Native.Nat.{ℕ, _+_, _-_, _*_, _≤_, _<_, min}
+use native.Mathlib.Nat.{zero-add}
 use native.Mathlib.Omega.{arith}
 use native.Mathlib.Decide.{decLt, decLe, ℕ-discrete}
 use lib.Dec.{ltb, leb}
 use lib.ListN.{length, getD, set}
 use borrow.Author.Tests.{lt-ltb, le-ltb, le-leb, lt-leb}
-use Rattle.digits.specs.Digits.{digitsOf}
-use Rattle.digits.proofs.Laws.{put-same, put-other}
+use Rattle.digits.specs.Digits.{digitsOf, bytesOf, tab, Bytes, Binary}
+use Rattle.digits.proofs.Laws.{digits-binary, put-same, put-other, bytes-length, digits-of-bytes, tab-length, tab-at, tab-of, bytes-by-place, tab-binary}
+use Rattle.levels.proofs.Choice.{cond-by}
 use Rattle.recordings.specs.declared.carry.Kept.{Kept}
-use Rattle.recordings.specs.Carry.{copied, joined}
+use Rattle.recordings.specs.Carry.{copied, copiedInto, joinedAt, joinedInto}
 
 module _ (xs : List ℕ) (at : ℕ) (ys : List ℕ) (first : ℕ) where
   pub copied-in : (count p : ℕ) → at ≤ p → p < at + count → copied xs at ys first count p ≡ getD ys (first + (p - at)) 0
@@ -80,11 +82,22 @@ module _ (old : List ℕ) (at : ℕ) (ys : List ℕ) (first : ℕ) where
                 | no b ↦ absurd (other (omega arith))
               ]
 
+  -- at the end every place that a digit was meant for is passed
+  pub copying-end : (count p : ℕ) (new : List ℕ) → Copying p new → Bytes new → length new ≡ length old → at ≤ p → p ≤ at + count → min (at + count) (8 * length old) ≤ p
+      → new ≡ bytesOf (length old) (tab (8 * length old) 0 (copied (digitsOf old) at ys first count))
+  copying-end count p new m b same lo hi end =
+      bytes-by-place new (copied (digitsOf old) at ys first count) b
+      (λ q h. m q ∙ copied-same (digitsOf old) at ys first (p - at) count q (λ k. omega arith) (passed q h))
+      ∙ rw same refl
+    where
+      passed : (q : ℕ) → q < 8 * length new → q < at + count → q < at + (p - at)
+      passed q h k = omega arith
+
 -- the digits kept are copied first, and the run's after them
-pub copies-join : (xs mid : List ℕ) (kept : Kept) (ys : List ℕ) (first count p : ℕ)
+copies-join : (xs mid : List ℕ) (kept : Kept) (ys : List ℕ) (first count p : ℕ)
     → getD mid p 0 ≡ copied xs 0 (digitsOf (kept .byte ∷ [])) 0 (kept .digits) p
-    → copied mid (kept .digits) ys first count p ≡ joined xs kept ys first count p
-unfolding joined digitsOf
+    → copied mid (kept .digits) ys first count p ≡ joinedAt xs kept ys first count p
+unfolding joinedAt digitsOf
 copies-join xs mid kept ys first count p e =
     elim (decLt p (kept .digits)) [
       | yes h ↦
@@ -108,16 +121,44 @@ copies-join xs mid kept ys first count p e =
           ]
     ]
 
--- what is put behind m bytes fits, or nothing is put
-pub fits : (k l : ℕ) → k ≤ l → k ≡ cond (leb k l) k 0
-fits k l h = rw (le-leb k l h)
+-- a digit is copied, or one stays
+copied-binary : (xs : List ℕ) (at : ℕ) (ys : List ℕ) (first count : ℕ) → Binary xs → Binary ys → (p : ℕ) → copied xs at ys first count p < 2
+unfolding copied
+copied-binary xs at ys first count bx by p =
+    cond-by (λ (d : ℕ). d < 2) (leb at p && ltb p (at + count)) (by (first + (p - at))) (bx p)
 
-pub no-room : (k l : ℕ) → l < k → 0 ≡ cond (leb k l) k 0
-no-room k l h = rw (lt-leb k l h)
+-- the places of the bytes that a copy leaves
+copied-place : (to : List ℕ) (at : ℕ) (from : List ℕ) (first count p : ℕ) → p < 8 * length to
+    → getD (digitsOf (copiedInto to at from first count)) p 0 ≡ copied (digitsOf to) at (digitsOf from) first count p
+copied-place to at from first count p h =
+    ap (λ (ds : List ℕ). getD ds p 0)
+    (digits-of-bytes (length to) (tab (8 * length to) 0 digit)
+    (tab-binary (8 * length to) 0 digit (copied-binary (digitsOf to) at (digitsOf from) first count (digits-binary to) (digits-binary from)))
+    (tab-length (8 * length to) 0 digit))
+    ∙ tab-at (8 * length to) 0 digit p h
+    ∙ ap digit (zero-add p)
+  where
+    digit : ℕ → ℕ
+    digit = copied (digitsOf to) at (digitsOf from) first count
 
-pub none-copied : (xs : List ℕ) (m : ℕ) (ys : List ℕ) (p : ℕ) → getD xs p 0 ≡ copied xs (8 * m) ys 0 (8 * (0 - m)) p
-none-copied xs m ys p =
-    elim (decLt p (8 * m)) [
-      | yes h ↦ sym (copied-before xs (8 * m) ys 0 (8 * (0 - m)) p h)
-      | no h ↦ sym (copied-after xs (8 * m) ys 0 (8 * (0 - m)) p (omega arith))
-    ]
+pub copies-joined : (out mid new : List ℕ) (kept : Kept) (from : List ℕ) (first count : ℕ) → mid ≡ copiedInto out 0 (kept .byte ∷ []) 0 (kept .digits)
+    → new ≡ copiedInto mid (kept .digits) from first count → new ≡ joinedInto out kept from first count
+copies-joined out mid new kept from first count one two =
+    two
+    ∙ rw as-long (ap (λ (ds : List ℕ). bytesOf (length out) ds) (tab-of (tab n 0 both) n (joinedAt (digitsOf out) kept (digitsOf from) first count) (tab-length n 0 both) place))
+  where
+    n : ℕ
+    n = 8 * length out
+
+    both : ℕ → ℕ
+    both = copied (digitsOf mid) (kept .digits) (digitsOf from) first count
+
+    as-long : length mid ≡ length out
+    as-long = rw one (bytes-length (length out) _)
+
+    place : (p : ℕ) → p < n → getD (tab n 0 both) p 0 ≡ joinedAt (digitsOf out) kept (digitsOf from) first count p
+    place p h =
+        tab-at n 0 both p h
+        ∙ ap both (zero-add p)
+        ∙ copies-join (digitsOf out) (digitsOf mid) kept (digitsOf from) first count p
+        (rw one (copied-place out 0 (kept .byte ∷ []) 0 (kept .digits) p h))

@@ -1,16 +1,13 @@
-// Digits carried on from run to run without a gap, wherever in a byte a run ends. Everything here is one copy of digits from places to
-// places; specs/Carry.antt says which digit stands where after it.
+// Digits carried on from run to run without a gap, wherever in a byte a run ends: copies of digits from places to places.
+// specs/Carry.antt says which digit stands where after each.
 use crate::sizes::least;
 use digits::digit_or_zero;
 use levels::order;
 ghost use mathlib.Core.Path.{_≡_};
 ghost use mathlib.Core.Bool.{cond};
-ghost use Prim.Native.Nat.{ℕ, _+_, _-_, _*_, _/_, _%_, _<_, _≤_};
-ghost use lib.Dec.{leb};
-ghost use lib.ListN.{length, getD, take};
-ghost use Rattle.digits.specs.Digits.{digitsOf};
-ghost use Rattle.levels.specs.Order.{decisions, stuffedTo};
-ghost use Rattle.recordings.specs.Carry.{copied, joined};
+ghost use Prim.Native.Nat.{_<_, _≤_};
+ghost use lib.ListN.{length, getD};
+ghost use Rattle.recordings.specs.Carry.{CopyMet, FollowMet, JoinMet, StuffedFramesMet};
 
 // The digits of a tributary that do not fill a byte yet: the first so many of the byte, and zeros after them.
 pub struct Kept {
@@ -28,7 +25,7 @@ pub struct Joined {
 // zeros; what is past the end of `to` is dropped.
 pub fn copy_digits(to: &mut [u8], at: usize, from: &[u8], first: usize, count: usize)
     requires { ⌜ (length (now to) ≤ 65536) × (at ≤ 1048576) × (first ≤ 1048576) × (count ≤ 1048576) ⌝ }
-    ensures { λ _. ⌜ ((p : ℕ) → p < 8 * length (now (to .entry)) → getD (digitsOf (now (to .exit))) p 0 ≡ copied (digitsOf (now (to .entry))) at (digitsOf (now (from .entry))) first count p) ⌝ }
+    ensures { λ _. ⌜ CopyMet (now (to .entry)) at (now (from .entry)) first count (now (to .exit)) ⌝ }
 {
     let end = least(at + count, 8 * to.len());
     let mut p = at;
@@ -40,18 +37,17 @@ pub fn copy_digits(to: &mut [u8], at: usize, from: &[u8], first: usize, count: u
 
 // Puts these bytes behind the first m of the slice, and answers how many there are then, or 0 where there is no room and nothing is put.
 pub fn follow(to: &mut [u8], m: usize, from: &[u8]) -> usize
-    requires { ⌜ length (now to) ≤ 65536 ⌝ }
-    ensures { λ r. ⌜ (r ≡ cond (leb (m + length (now (from .entry))) (length (now (to .entry)))) (m + length (now (from .entry))) 0) × (r ≤ length (now (to .exit))) × (r ≡ length (take r (now (to .exit)))) × ((p : ℕ) → p < 8 * length (now (to .entry)) → getD (digitsOf (now (to .exit))) p 0 ≡ copied (digitsOf (now (to .entry))) (8 * m) (digitsOf (now (from .entry))) 0 (8 * (r - m)) p) ⌝ }
+    ensures { λ r. ⌜ FollowMet (now (to .entry)) m (now (from .entry)) r (now (to .exit)) ⌝ }
 {
-    let n = from.len();
     if to.len() < m {
         return 0;
     }
-    if to.len() - m < n {
+    if to.len() - m < from.len() {
         return 0;
     }
-    copy_digits(to, 8 * m, from, 0, 8 * n);
-    m + n
+    let end = m + from.len();
+    bytes::copy(from, &mut to[m..end]);
+    end
 }
 
 // The byte at index i, and 0 past the end.
@@ -67,7 +63,7 @@ fn byte_at(s: &[u8], i: usize) -> u8
 // The digits kept, then count digits of `from`, its digit first and on: they become the first digits of `out`, in which zeros are lent.
 pub fn join(out: &mut [u8], kept: Kept, from: &[u8], first: usize, count: usize) -> Joined
     requires { ⌜ (length (now out) ≤ 65536) × (kept .digits ≤ 8) × (first ≤ 1048576) × (count ≤ 1048576) ⌝ }
-    ensures { λ r. ⌜ ((p : ℕ) → p < 8 * length (now (out .entry)) → getD (digitsOf (now (out .exit))) p 0 ≡ joined (digitsOf (now (out .entry))) kept (digitsOf (now (from .entry))) first count p) × (r .whole ≡ (kept .digits + count) / 8) × (r .kept .digits ≡ (kept .digits + count) % 8) × (r .kept .byte ≡ getD (now (out .exit)) (r .whole) 0) ⌝ }
+    ensures { λ r. ⌜ JoinMet (now (out .entry)) kept (now (from .entry)) first count r (now (out .exit)) ⌝ }
 {
     let byte = [kept.byte];
     copy_digits(out, 0, &byte, 0, kept.digits);
@@ -95,7 +91,7 @@ fn one_if(b: bool) -> usize
 // In how many of these frames tributary j (from 0) is stuffed.
 pub fn stuffed_frames(notes: &[u8], j: usize) -> usize
     requires { ⌜ j < 4 ⌝ }
-    ensures { λ r. ⌜ (r ≡ stuffedTo (decisions (now (notes .entry)) j) (length (now (notes .entry)))) × (r ≤ length (now (notes .entry))) ⌝ }
+    ensures { λ r. ⌜ StuffedFramesMet (now (notes .entry)) j r ⌝ }
 {
     let mut stuffed: usize = 0;
     let mut f: usize = 0;

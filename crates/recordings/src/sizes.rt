@@ -1,15 +1,15 @@
 // The sizes and places of a recording that goes through the calls in runs of 64 frames: of its lines, buffers and quarters. Files may be up
 // to 2 to the 40 bytes long, so that no product here is too large for a number.
 use levels::table::Row;
-ghost use mathlib.Core.Path.{_≡_};
-ghost use Prim.Native.Nat.{_+_, _-_, _*_, _/_, _%_, _<_, _≤_, min};
+ghost use Prim.Native.Nat.{_≤_};
 ghost use Rattle.levels.specs.Table.{Shared};
+ghost use Rattle.recordings.specs.Sizes.{longest, LeastMet, FramesInMet, FrameBytesMet, TributaryDigitsMet, QuarterBytesMet, QuarterStartMet, BytesWantedMet, PlusMet, MinusMet};
 
 // The longest file, in bytes.
 pub const MOST: usize = 1099511627776;
 
 pub fn least(a: usize, b: usize) -> usize
-    ensures { λ r. ⌜ (r ≡ min a b) × (r ≤ a) × (r ≤ b) ⌝ }
+    ensures { λ r. ⌜ LeastMet a b r ⌝ }
 {
     if a < b {
         return a;
@@ -19,8 +19,8 @@ pub fn least(a: usize, b: usize) -> usize
 
 // How many frames run k of these frames has: 64, or fewer in the last, or none past it.
 pub fn frames_in(k: usize, frames: usize) -> usize
-    requires { ⌜ k ≤ 1099511627776 ⌝ }
-    ensures { λ r. ⌜ (r ≡ min (frames - 64 * k) 64) × (r ≤ 64) ⌝ }
+    requires { ⌜ k ≤ longest ⌝ }
+    ensures { λ r. ⌜ FramesInMet k frames r ⌝ }
 {
     if frames <= 64 * k {
         return 0;
@@ -30,32 +30,32 @@ pub fn frames_in(k: usize, frames: usize) -> usize
 
 // How many bytes so many frames have; and so, where in a file the frame of this number begins.
 pub fn frame_bytes(row: Row, frames: usize) -> usize
-    requires { ⌜ Shared row × (frames ≤ 1099511627776) ⌝ }
-    ensures { λ r. ⌜ (r ≡ frames * row .bytes) × (r ≤ 366 * frames) ⌝ }
+    requires { ⌜ Shared row × (frames ≤ longest) ⌝ }
+    ensures { λ r. ⌜ FrameBytesMet row frames r ⌝ }
 {
     frames * row.bytes
 }
 
 // How many digits so many frames can take of a tributary.
 pub fn tributary_digits(row: Row, frames: usize) -> usize
-    requires { ⌜ Shared row × (frames ≤ 1099511627776) ⌝ }
-    ensures { λ r. ⌜ (r ≡ frames * row .n) × (r ≤ 733 * frames) ⌝ }
+    requires { ⌜ Shared row × (frames ≤ longest) ⌝ }
+    ensures { λ r. ⌜ TributaryDigitsMet row frames r ⌝ }
 {
     frames * row.n
 }
 
 // How many bytes a quarter with room for so many frames has.
 pub fn quarter_bytes(row: Row, frames: usize) -> usize
-    requires { ⌜ Shared row × (frames ≤ 1099511627776) ⌝ }
-    ensures { λ r. ⌜ (r ≡ (frames * row .n + 7) / 8) × (r ≤ 92 * frames + 1) ⌝ }
+    requires { ⌜ Shared row × (frames ≤ longest) ⌝ }
+    ensures { λ r. ⌜ QuarterBytesMet row frames r ⌝ }
 {
     (tributary_digits(row, frames) + 7) / 8
 }
 
 // Where quarter j (from 0) of a buffer or a file with quarters so long begins.
 pub fn quarter_start(quarter: usize, j: usize) -> usize
-    requires { ⌜ (quarter ≤ 1099511627776) × (j ≤ 4) ⌝ }
-    ensures { λ r. ⌜ (r ≡ quarter * j) × (r ≤ 4 * quarter) ⌝ }
+    requires { ⌜ (quarter ≤ longest) × (j ≤ 4) ⌝ }
+    ensures { λ r. ⌜ QuarterStartMet quarter j r ⌝ }
 {
     quarter * j
 }
@@ -64,7 +64,7 @@ pub fn quarter_start(quarter: usize, j: usize) -> usize
 // quarter has.
 pub fn bytes_wanted(row: Row, f: usize, quarter: usize, done: usize) -> usize
     requires { ⌜ Shared row × (f ≤ 64) ⌝ }
-    ensures { λ r. ⌜ (r ≡ min ((done % 8 + f * row .n + 7) / 8) (quarter - done / 8)) × (r ≤ 8192) ⌝ }
+    ensures { λ r. ⌜ BytesWantedMet row f quarter done r ⌝ }
 {
     let whole = (done % 8 + tributary_digits(row, f) + 7) / 8;
     if quarter <= done / 8 {
@@ -75,7 +75,7 @@ pub fn bytes_wanted(row: Row, f: usize, quarter: usize, done: usize) -> usize
 
 // The sum, or the largest number where it is larger still.
 pub fn plus(a: usize, b: usize) -> usize
-    ensures { λ r. ⌜ r ≡ min (a + b) 18446744073709551615 ⌝ }
+    ensures { λ r. ⌜ PlusMet a b r ⌝ }
 {
     if 18446744073709551615 - a < b {
         return 18446744073709551615;
@@ -85,7 +85,7 @@ pub fn plus(a: usize, b: usize) -> usize
 
 // The difference, or 0 where there is none.
 pub fn minus(a: usize, b: usize) -> usize
-    ensures { λ r. ⌜ r ≡ a - b ⌝ }
+    ensures { λ r. ⌜ MinusMet a b r ⌝ }
 {
     if a < b {
         return 0;

@@ -1,9 +1,6 @@
--- Where there is room the bytes are copied as their digits; else nothing is.
-use mathlib.Core.Path.{refl, _∙_}
-use Prim.Native.Nat.{_+_}
-use lib.ListN.{length, length-take}
+-- Without room nothing is put; else the bytes are copied into the part that is lent for them (Following).
 use native.Mathlib.Omega.{arith}
-use Rattle.recordings.proofs.Copies.{fits, no-room, none-copied, copied-same}
+use Rattle.recordings.proofs.Following.{no-room, put-behind}
 use borrow.Author.Needs.{needs}
 use Rattle.recordings.proofs.carry.follow.Statement.{statement}
 use Rattle.recordings.proofs.carry.follow.Tie as tie
@@ -11,7 +8,7 @@ use Rattle.recordings.proofs.carry.follow.Tie as tie
 returns : tie.Need-returns
 returns c =
     let a = c .before .before .before .args in
-    (no-room (a .m + length (a .from .now)) (length (a .to .now)) (omega arith), omega arith, refl, λ p h. none-copied _ _ _ p)
+    no-room (a .to .now) (a .m) (a .from .now) (omega arith)
 
 sub-if2 : tie.Need-sub-if2
 sub-if2 c = search needs
@@ -19,30 +16,30 @@ sub-if2 c = search needs
 returns-2 : tie.Need-returns-2
 returns-2 c =
     let a = c .before .before .before .before .args in
-    (no-room (a .m + length (a .from .now)) (length (a .to .now)) (omega arith), omega arith, refl, λ p h. none-copied _ _ _ p)
+    no-room (a .to .now) (a .m) (a .from .now) (omega arith)
 
-mul-copy-digits : tie.Need-mul-copy-digits
-mul-copy-digits c = search needs
+add-end : tie.Need-add-end
+add-end c = search needs
 
-mul-copy-digits-2 : tie.Need-mul-copy-digits-2
-mul-copy-digits-2 c = search needs
+sub-copy : tie.Need-sub-copy
+sub-copy c = search needs
 
-copy-digits-requires : tie.Need-copy-digits-requires
-copy-digits-requires c κs = search needs
+part-copy-start : tie.Need-part-copy-start
+part-copy-start c = search needs
 
-add-result : tie.Need-add-result
-add-result c = search needs
+part-copy-end : tie.Need-part-copy-end
+part-copy-end c = search needs
+
+copy-requires : tie.Need-copy-requires
+copy-requires c κs = search needs
 
 same-length : tie.Need-same-length
 same-length c = search needs
 
 returns-3 : tie.Need-returns-3
-returns-3 c = (
-  fits _ _ (omega arith),
-  omega arith,
-  simp length-take (omega arith),
-  λ p h. c .before .before .copy-digits .ensures p h ∙ copied-same _ _ _ _ _ _ p (λ k. omega arith) (λ k. omega arith),
-)
+returns-3 c =
+    let a = c .before .before .before .before .before .before .before .before .args in
+    put-behind (a .to .now) (a .m) (a .from .now) (omega arith) _ (c .before .before .copy .ensures .1)
 
 pub follow-spec : {M : Type 1} → statement M
 follow-spec =
@@ -51,9 +48,10 @@ follow-spec =
     returns
     sub-if2
     returns-2
-    mul-copy-digits
-    mul-copy-digits-2
-    copy-digits-requires
-    add-result
+    add-end
+    sub-copy
+    part-copy-start
+    part-copy-end
+    copy-requires
     same-length
     returns-3)

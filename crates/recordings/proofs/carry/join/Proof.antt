@@ -1,7 +1,6 @@
 -- The digits kept, and then the run's, are copied to their places (Copies).
-use mathlib.Core.Path.{refl, _∙_}
-use native.Mathlib.Omega.{arith}
-use Rattle.recordings.proofs.Copies.{copies-join}
+use mathlib.Core.Path.{refl}
+use Rattle.recordings.proofs.Copies.{copies-joined}
 use borrow.Author.Needs.{needs}
 use Rattle.recordings.proofs.carry.join.Statement.{statement}
 use Rattle.recordings.proofs.carry.join.Tie as tie
@@ -26,9 +25,10 @@ same-length c = search needs
 
 returns : tie.Need-returns
 returns c =
-    let second = c .before .before .before .before .before .copy-digits2 .ensures in
-    let one = c .before .before .before .before .before .before .before .before .before .copy-digits .ensures in
-    (λ p h. second p (omega arith) ∙ copies-join _ _ _ _ _ _ p (one p h), refl, refl, c .byte-at .ensures)
+    let a = c .before .before .before .before .before .before .before .before .before .before .before .before .before .before .args in
+    let one = c .before .before .before .before .before .before .before .before .before .copy-digits in
+    let two = c .before .before .before .before .before .copy-digits2 in
+    (copies-joined (a .out .now) _ _ (a .kept) (a .from .now) (a .first) (a .count) (one .ensures) (two .ensures), refl, refl, c .byte-at .ensures)
 
 pub join-spec : {M : Type 1} → statement M
 join-spec =
