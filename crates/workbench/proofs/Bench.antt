@@ -14,15 +14,15 @@ use Rattle.digits.proofs.Laws.{put-same, put-other}
 use Rattle.levels.specs.declared.table.Row.{Row}
 use Rattle.levels.specs.Table.{Shared}
 use Rattle.levels.specs.Places.{kindAt}
-use Rattle.workbench.specs.Bench.{isControl, mixed, wrongTo}
+use Rattle.workbench.specs.Bench.{isControl, mixed, differences}
 
 module _ (xs ys : List ℕ) (i : ℕ) where
-  pub wrong-same : getD xs i 0 ≡ getD ys i 0 → wrongTo xs ys (i + 1) ≡ wrongTo xs ys i + 0
-  unfolding wrongTo
+  pub wrong-same : getD xs i 0 ≡ getD ys i 0 → differences xs ys (i + 1) ≡ differences xs ys i + 0
+  unfolding differences
   wrong-same e = rw (add-one i, eq-eqb (getD xs i 0) (getD ys i 0) e)
 
-  pub wrong-other : (getD xs i 0 ≡ getD ys i 0 → ⊥) → wrongTo xs ys (i + 1) ≡ wrongTo xs ys i + 1
-  unfolding wrongTo
+  pub wrong-other : (getD xs i 0 ≡ getD ys i 0 → ⊥) → differences xs ys (i + 1) ≡ differences xs ys i + 1
+  unfolding differences
   wrong-other e = rw (add-one i, ne-eqb (getD xs i 0) (getD ys i 0) e)
 
   pub right-more : ((k : ℕ) → k < i → getD xs k 0 ≡ getD ys k 0) → getD xs i 0 ≡ getD ys i 0 → (k : ℕ) → k < i + 1 → getD xs k 0 ≡ getD ys k 0

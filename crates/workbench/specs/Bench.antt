@@ -1,12 +1,12 @@
 -- What the bench makes and what it finds: the late multiplexer's line and notes, the digits that are sent, the comparison with what came back,
--- and the runs of places of a frame's picture.
+-- and the runs of places of a frame's picture. `..Met`, and the records at the end of each part, are whole statements of functions.
 use mathlib.Core.Path.{_≡_}
 use mathlib.Core.Logic.{_≢_}
 use mathlib.Core.Bool.{Bool, cond, true, false}
 use mathlib.Core.List.{List, [], _∷_}
 use Prim.Native.Nat.{ℕ, zero, suc, _+_, _*_, _/_, _%_, _≤_, _<_}
 use lib.Dec.{eqb, ltb}
-use lib.ListN.{length, getD, take, drop}
+use lib.ListN.{length, getD}
 use Rattle.digits.specs.Digits.{digitsOf, bytesOf, tab}
 use Rattle.levels.specs.declared.table.Row.{Row}
 use Rattle.levels.specs.declared.places.Kind.{Kind}
@@ -15,8 +15,9 @@ use Rattle.levels.specs.declared.places.ServiceDigit.{ServiceDigit}
 use Rattle.levels.specs.declared.places.ServiceDigit.the-variants.{RemoteAlarm, FirstNational, SecondNational, ThirdNational}
 use Rattle.levels.specs.Places.{kindAt}
 use Rattle.levels.specs.Table.{levelOf}
-use Rattle.levels.specs.Sizes.{onLevel}
-use Rattle.multiplex.specs.Multiplex.{refusalOn, lineOn}
+use Rattle.levels.specs.Sizes.{onLevel, quarterOf}
+use Rattle.multiplex.specs.declared.Multiplexed.{Multiplexed}
+use Rattle.multiplex.specs.Multiplex.{refusalOn, lineOn, multiplexed, lineAfter}
 use Rattle.workbench.specs.declared.Compared.{Compared}
 
 abbrev pub isControl : Kind → Bool
@@ -45,6 +46,13 @@ lateLine level line said notes late buffer =
     line)
     line
 
+-- `late_line`: its answer is that of multiplexing by the late notes, `said` is left as the line of a right multiplexer, and the line as above
+abbrev pub LateLineMet : ℕ → List ℕ → List ℕ → List ℕ → List ℕ → List ℕ → Multiplexed → List ℕ → List ℕ → Type 0
+LateLineMet level line said notes late buffer answer saidLeft lineLeft =
+    (answer ≡ multiplexed level (length line) late (length buffer))
+    × (saidLeft ≡ lineAfter level said notes buffer)
+    × (lineLeft ≡ lateLine level line said notes late buffer)
+
 -- a note with the decisions of one note, bits 0 to 3, and the service digits of another
 abbrev pub decidedBy : ℕ → ℕ → ℕ
 decidedBy last note = last % 16 + note / 16 * 16
@@ -53,6 +61,10 @@ decidedBy last note = last % 16 + note / 16 * 16
 -- Past the notes it is what stood there
 unfoldable pub delayed : ℕ → List ℕ → List ℕ → ℕ → ℕ
 delayed before notes late f = cond (ltb f (length notes)) (decidedBy (getD (before ∷ notes) f 0) (getD notes f 0)) (getD late f 0)
+
+-- `delay`: the late notes that are left
+abbrev pub DelayMet : List ℕ → List ℕ → ℕ → List ℕ → Type 0
+DelayMet late notes before left = left ≡ tab (length late) 0 (delayed before notes late)
 
 -- the number after x of the generator, and the eight digits that are taken from a number
 abbrev pub nextNumber : ℕ → ℕ
@@ -66,10 +78,14 @@ unfoldable pub scattered : ℕ → ℕ → List ℕ
 scattered x zero = []
 scattered x (suc n) = eightDigits (nextNumber x) ∷ scattered (nextNumber x) n
 
+-- `scatter`: as many scattered digits as the slice has
+abbrev pub ScatterMet : List ℕ → ℕ → List ℕ → Type 0
+ScatterMet s seed left = left ≡ scattered seed (length s)
+
 -- in how many of their first n digits two lists differ
-unfoldable pub wrongTo : List ℕ → List ℕ → ℕ → ℕ
-wrongTo xs ys zero = 0
-wrongTo xs ys (suc n) = wrongTo xs ys n + cond (eqb (getD xs n 0) (getD ys n 0)) 0 1
+unfoldable pub differences : List ℕ → List ℕ → ℕ → ℕ
+differences xs ys zero = 0
+differences xs ys (suc n) = differences xs ys n + cond (eqb (getD xs n 0) (getD ys n 0)) 0 1
 
 -- two lists of digits compared over their first so many: the digits before the first wrong one are right, and it is wrong; all wrong ones
 -- are counted
@@ -77,20 +93,16 @@ pub record Comparison (xs ys : List ℕ) (count : ℕ) (r : Compared) : Type 0 w
   pub within : r .right ≤ count
   pub alike : (i : ℕ) → i < r .right → getD xs i 0 ≡ getD ys i 0
   pub first-wrong : r .right < count → getD xs (r .right) 0 ≢ getD ys (r .right) 0
-  pub counted : r .wrong ≡ wrongTo xs ys count
+  pub counted : r .wrong ≡ differences xs ys count
 
 -- the quarter that a number names: every number past 3 names the last
 abbrev pub quarterNamed : ℕ → ℕ
 quarterNamed j = cond (ltb j 3) j 3
 
--- that quarter of a buffer, if quarters have q bytes
-abbrev pub quarterIn : ℕ → ℕ → List ℕ → List ℕ
-quarterIn q j buffer = take q (drop (quarterNamed j * q) buffer)
-
--- quarter j of two buffers compared, if quarters have q bytes; where the second ends before the quarter does, all is wrong
-pub record QuartersCompared (q j : ℕ) (a b : List ℕ) (count : ℕ) (r : Compared) : Type 0 where
-  pub there : quarterNamed j * q + q ≤ length b → Comparison (digitsOf (quarterIn q j a)) (digitsOf (quarterIn q j b)) count r
-  pub missing : length b < quarterNamed j * q + q → r ≡ record { right = 0; wrong = count }
+-- the quarter that a number names compared in two buffers of one length; where the lengths differ, all is wrong
+pub record QuartersCompared (a b : List ℕ) (j count : ℕ) (r : Compared) : Type 0 where
+  pub alike : length a ≡ length b → Comparison (digitsOf (quarterOf a (quarterNamed j))) (digitsOf (quarterOf b (quarterNamed j))) count r
+  pub unlike : length a ≢ length b → r ≡ record { right = 0; wrong = count }
 
 -- a number for each kind of a place
 abbrev pub serviceNumber : ServiceDigit → ℕ
@@ -105,6 +117,10 @@ kindNumber Control = 1
 kindNumber Justification = 2
 kindNumber Tributary = 3
 kindNumber (Service s) = serviceNumber s
+
+-- `kind_number_at`: the number of the kind of place p
+abbrev pub KindNumberMet : Row → ℕ → ℕ → Type 0
+KindNumberMet row p answer = answer ≡ kindNumber (kindAt row p)
 
 -- the places of a frame from p up to end are one run: all of one kind, and the next place, if the frame has one, of another
 pub record KindRun (row : Row) (p end : ℕ) : Type 0 where

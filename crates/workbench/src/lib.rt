@@ -12,13 +12,12 @@ use levels::table::Row;
 use multiplex::Multiplexed;
 ghost use mathlib.Core.Path.{_≡_};
 ghost use mathlib.Core.Logic.{_≢_};
-ghost use Prim.Native.Nat.{ℕ, _+_, _*_, _/_, _^_, _<_, _≤_};
+ghost use Prim.Native.Nat.{ℕ, _+_, _*_, _^_, _<_, _≤_};
 ghost use lib.ListN.{length, getD};
-ghost use Rattle.digits.specs.Digits.{digitsOf, tab};
+ghost use Rattle.digits.specs.Digits.{digitsOf};
 ghost use Rattle.levels.specs.Table.{Shared, levelOf};
 ghost use Rattle.levels.specs.Sizes.{onLevel};
-ghost use Rattle.multiplex.specs.Multiplex.{multiplexed, lineAfter};
-ghost use Rattle.workbench.specs.Bench.{isControl, mixed, mixedLine, lateLine, decidedBy, delayed, nextNumber, eightDigits, scattered, wrongTo, Comparison, quarterNamed, QuartersCompared};
+ghost use Rattle.workbench.specs.Bench.{isControl, mixed, mixedLine, LateLineMet, decidedBy, DelayMet, nextNumber, eightDigits, ScatterMet, differences, Comparison, quarterNamed, QuartersCompared};
 
 // Two runs of digits: how many are right before the first wrong one, which is its number from 0, and how many are wrong in all.
 pub struct Compared {
@@ -42,7 +41,7 @@ fn right_digits(a: &[u8], b: &[u8], count: usize) -> usize
 
 // 1 where digit i differs.
 fn wrong_at(a: &[u8], b: &[u8], i: usize) -> usize
-    ensures { λ r. ⌜ (wrongTo (digitsOf (now (a .entry))) (digitsOf (now (b .entry))) (i + 1) ≡ wrongTo (digitsOf (now (a .entry))) (digitsOf (now (b .entry))) i + r) × (r < 2) ⌝ }
+    ensures { λ r. ⌜ (differences (digitsOf (now (a .entry))) (digitsOf (now (b .entry))) (i + 1) ≡ differences (digitsOf (now (a .entry))) (digitsOf (now (b .entry))) i + r) × (r < 2) ⌝ }
 {
     if digit_or_zero(a, i) == digit_or_zero(b, i) {
         return 0;
@@ -52,7 +51,7 @@ fn wrong_at(a: &[u8], b: &[u8], i: usize) -> usize
 
 // How many of the first so many digits differ.
 fn wrong_digits(a: &[u8], b: &[u8], count: usize) -> usize
-    ensures { λ r. ⌜ r ≡ wrongTo (digitsOf (now (a .entry))) (digitsOf (now (b .entry))) count ⌝ }
+    ensures { λ r. ⌜ r ≡ differences (digitsOf (now (a .entry))) (digitsOf (now (b .entry))) count ⌝ }
 {
     let mut wrong: usize = 0;
     let mut i: usize = 0;
@@ -67,14 +66,13 @@ fn wrong_digits(a: &[u8], b: &[u8], count: usize) -> usize
 pub fn compare(a: &[u8], b: &[u8], count: usize) -> Compared
     ensures { λ r. ⌜ Comparison (digitsOf (now (a .entry))) (digitsOf (now (b .entry))) count r ⌝ }
 {
-    Compared {
-        right: right_digits(a, b, count),
-        wrong: wrong_digits(a, b, count),
-    }
+    let right = right_digits(a, b, count);
+    let wrong = wrong_digits(a, b, count);
+    Compared { right, wrong }
 }
 
-// Where quarter j begins; every number past 3 names the last quarter.
-fn quarter_start(q: usize, j: usize) -> usize
+// Where the quarter that a number names begins, in a buffer with quarters of q bytes; every number past 3 names the last.
+fn named_quarter(q: usize, j: usize) -> usize
     requires { ⌜ 4 * q < 2 ^ 64 ⌝ }
     ensures { λ r. ⌜ (r ≡ quarterNamed j * q) × (r ≤ 3 * q) ⌝ }
 {
@@ -86,19 +84,19 @@ fn quarter_start(q: usize, j: usize) -> usize
     }
 }
 
-// Compares the first so many digits of quarter j (from 0) of two buffers of one length. A second buffer that is too short is all wrong.
+// Compares the first so many digits of quarter j (from 0) of two buffers of one length. Where the lengths differ all is wrong.
 pub fn compare_quarter(a: &[u8], b: &[u8], j: usize, count: usize) -> Compared
-    ensures { λ r. ⌜ QuartersCompared (length (now (a .entry)) / 4) j (now (a .entry)) (now (b .entry)) count r ⌝ }
+    ensures { λ r. ⌜ QuartersCompared (now (a .entry)) (now (b .entry)) j count r ⌝ }
 {
-    let q = a.len() / 4;
-    let start = quarter_start(q, j);
-    let end = start + q;
-    if b.len() < end {
+    if a.len() != b.len() {
         return Compared {
             right: 0,
             wrong: count,
         };
     }
+    let q = a.len() / 4;
+    let start = named_quarter(q, j);
+    let end = start + q;
     compare(&a[start..end], &b[start..end], count)
 }
 
@@ -162,7 +160,7 @@ pub fn late_line(
     late: &[u8],
     buffer: &[u8],
 ) -> Multiplexed
-    ensures { λ r. ⌜ (r ≡ multiplexed level (length (now (line .entry))) (now (late .entry)) (length (now (buffer .entry)))) × (now (said .exit) ≡ lineAfter level (now (said .entry)) (now (notes .entry)) (now (buffer .entry))) × (now (line .exit) ≡ lateLine level (now (line .entry)) (now (said .entry)) (now (notes .entry)) (now (late .entry)) (now (buffer .entry))) ⌝ }
+    ensures { λ r. ⌜ LateLineMet level (now (line .entry)) (now (said .entry)) (now (notes .entry)) (now (late .entry)) (now (buffer .entry)) r (now (said .exit)) (now (line .exit)) ⌝ }
 {
     multiplex::multiplex(level, said, notes, buffer);
     let r = multiplex::multiplex(level, line, late, buffer);
@@ -182,7 +180,7 @@ fn decided_by(last: u8, note: u8) -> u8
 
 // The notes that a multiplexer acts by if it is a frame late: each frame's decisions are those of the frame before.
 pub fn delay(late: &mut [u8], notes: &[u8], before: u8)
-    ensures { λ _. ⌜ now (late .exit) ≡ tab (length (now (late .entry))) 0 (delayed before (now (notes .entry)) (now (late .entry))) ⌝ }
+    ensures { λ _. ⌜ DelayMet (now (late .entry)) (now (notes .entry)) before (now (late .exit)) ⌝ }
 {
     let mut last = before;
     let mut f: usize = 0;
@@ -211,7 +209,7 @@ fn eight_digits(x: u32) -> u8
 
 // Digits without a pattern that an eye finds, the same at every run.
 pub fn scatter(s: &mut [u8], seed: u32)
-    ensures { λ _. ⌜ now (s .exit) ≡ scattered seed (length (now (s .entry))) ⌝ }
+    ensures { λ _. ⌜ ScatterMet (now (s .entry)) seed (now (s .exit)) ⌝ }
 {
     let mut x = seed;
     let mut i: usize = 0;

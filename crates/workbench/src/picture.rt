@@ -7,8 +7,7 @@ use levels::table::Row;
 ghost use mathlib.Core.Path.{_≡_};
 ghost use Prim.Native.Nat.{_<_};
 ghost use Rattle.levels.specs.Table.{Shared};
-ghost use Rattle.levels.specs.Places.{kindAt};
-ghost use Rattle.workbench.specs.Bench.{serviceNumber, kindNumber, KindRun};
+ghost use Rattle.workbench.specs.Bench.{serviceNumber, kindNumber, KindNumberMet, KindRun};
 
 pub const WORD: u8 = 0;
 
@@ -46,7 +45,7 @@ fn kind_number(kind: Kind) -> u8
 // The kind of a place of a frame, by its number.
 pub fn kind_number_at(row: Row, p: usize) -> u8
     requires { ⌜ Shared row × (p < row .digits) ⌝ }
-    ensures { λ r. ⌜ r ≡ kindNumber (kindAt row p) ⌝ }
+    ensures { λ r. ⌜ KindNumberMet row p r ⌝ }
 {
     kind_number(places::kind_at(row, FramePlace(p)))
 }

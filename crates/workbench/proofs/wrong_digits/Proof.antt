@@ -3,19 +3,19 @@ use Prim.Native.Nat.{ℕ, _≤_, _-_, _+_}
 use Rattle.digits.specs.Digits.{digitsOf}
 use mathlib.Core.Path.{_≡_, refl, sym, _∙_, ap}
 use native.Mathlib.Omega.{arith}
-use Rattle.workbench.specs.Bench.{wrongTo}
+use Rattle.workbench.specs.Bench.{differences}
 use borrow.Author.Needs.{needs}
 use Rattle.workbench.proofs.wrong_digits.Statement.{statement}
 use Rattle.workbench.proofs.wrong_digits.Tie as tie
 
 abbrev Inv-loop : tie.InvT-loop
-Inv-loop a b count wrong₀ i₀ wrong i = (i ≤ count) × (wrong ≤ i) × (wrong ≡ wrongTo (digitsOf a) (digitsOf b) i)
+Inv-loop a b count wrong₀ i₀ wrong i = (i ≤ count) × (wrong ≤ i) × (wrong ≡ differences (digitsOf a) (digitsOf b) i)
 
 abbrev μ-loop : tie.MeasureT-loop
 μ-loop a b count wrong₀ i₀ wrong i = count - i
 
 loop-holds : tie.Need-loop-holds Inv-loop μ-loop
-unfolding wrongTo
+unfolding differences
 loop-holds c = (omega arith, omega arith, refl)
 
 wrong-at-requires : tie.Need-wrong-at-requires Inv-loop μ-loop

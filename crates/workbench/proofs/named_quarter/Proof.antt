@@ -2,8 +2,8 @@
 use native.Mathlib.Omega.{arith}
 use borrow.Author.Needs.{needs}
 use borrow.Author.Tests.{le-ltb}
-use Rattle.workbench.proofs.quarter_start.Statement.{statement}
-use Rattle.workbench.proofs.quarter_start.Tie as tie
+use Rattle.workbench.proofs.named_quarter.Statement.{statement}
+use Rattle.workbench.proofs.named_quarter.Tie as tie
 
 mul-result : tie.Need-mul-result
 mul-result c = search needs
@@ -23,6 +23,6 @@ returns-3 c = rw (c .match .keys3) (omega arith)
 returns-4 : tie.Need-returns-4
 returns-4 c = rw (le-ltb (c .before .args .j) 3 (omega arith)) (omega arith)
 
-pub quarter-start-spec : {M : Type 1} → statement M
-quarter-start-spec =
+pub named-quarter-spec : {M : Type 1} → statement M
+named-quarter-spec =
     tie.close (tie.spec mul-result mul-result-2 returns returns-2 returns-3 returns-4)
