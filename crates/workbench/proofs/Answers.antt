@@ -78,7 +78,7 @@ compare-once xs ys count r s x y =
     made m n = record { right = m; wrong = n }
 
     first : (r : Compared) → Comparison xs ys count r → First (λ (i : ℕ). getD xs i 0 ≡ getD ys i 0) 0 count (r .right)
-    first r x = (omega arith, x .within, λ i l h. x .alike i h, x .first-wrong)
+    first r x = (omega arith, x .first .within, λ i l h. x .first .alike i h, x .first .wrong)
 
 pub compare-met : (κs : Lfts 2) (a : ArgsD compare.signature κs) (r : ResD compare.signature κs) (e : AtExit compare.ended κs) → compare.Reads.Learnt κs a r e
     → Comparison (digitsOf (now (a .0))) (digitsOf (now (a .1 .0))) (a .1 .1 .0) r

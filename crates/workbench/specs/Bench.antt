@@ -87,12 +87,16 @@ unfoldable pub differences : List ℕ → List ℕ → ℕ → ℕ
 differences xs ys zero = 0
 differences xs ys (suc n) = differences xs ys n + cond (eqb (getD xs n 0) (getD ys n 0)) 0 1
 
--- two lists of digits compared over their first so many: the digits before the first wrong one are right, and it is wrong; all wrong ones
--- are counted
+-- of the first so many digits of two lists, r is the number of the first wrong one: those before it are right, and it is wrong. Where none is
+-- wrong it is the count
+pub record FirstWrong (xs ys : List ℕ) (count r : ℕ) : Type 0 where
+  pub within : r ≤ count
+  pub alike : (i : ℕ) → i < r → getD xs i 0 ≡ getD ys i 0
+  pub wrong : r < count → getD xs r 0 ≢ getD ys r 0
+
+-- the two lists compared: the first wrong digit, and how many are wrong in all
 pub record Comparison (xs ys : List ℕ) (count : ℕ) (r : Compared) : Type 0 where
-  pub within : r .right ≤ count
-  pub alike : (i : ℕ) → i < r .right → getD xs i 0 ≡ getD ys i 0
-  pub first-wrong : r .right < count → getD xs (r .right) 0 ≢ getD ys (r .right) 0
+  pub first : FirstWrong xs ys count (r .right)
   pub counted : r .wrong ≡ differences xs ys count
 
 -- the quarter that a number names: every number past 3 names the last

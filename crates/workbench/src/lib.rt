@@ -11,13 +11,12 @@ use levels::table::Level;
 use levels::table::Row;
 use multiplex::Multiplexed;
 ghost use mathlib.Core.Path.{_≡_};
-ghost use mathlib.Core.Logic.{_≢_};
-ghost use Prim.Native.Nat.{ℕ, _+_, _*_, _^_, _<_, _≤_};
-ghost use lib.ListN.{length, getD};
+ghost use Prim.Native.Nat.{_+_, _*_, _^_, _<_, _≤_};
+ghost use lib.ListN.{length};
 ghost use Rattle.digits.specs.Digits.{digitsOf};
 ghost use Rattle.levels.specs.Table.{Shared, levelOf};
 ghost use Rattle.levels.specs.Sizes.{onLevel};
-ghost use Rattle.workbench.specs.Bench.{isControl, mixed, mixedLine, LateLineMet, decidedBy, DelayMet, nextNumber, eightDigits, ScatterMet, differences, Comparison, quarterNamed, QuartersCompared};
+ghost use Rattle.workbench.specs.Bench.{isControl, mixed, mixedLine, LateLineMet, decidedBy, DelayMet, nextNumber, eightDigits, ScatterMet, differences, FirstWrong, Comparison, quarterNamed, QuartersCompared};
 
 // Two runs of digits: how many are right before the first wrong one, which is its number from 0, and how many are wrong in all.
 pub struct Compared {
@@ -27,7 +26,7 @@ pub struct Compared {
 
 // How many digits from the first on are right: the number of the first that differs, or the count.
 fn right_digits(a: &[u8], b: &[u8], count: usize) -> usize
-    ensures { λ r. ⌜ (r ≤ count) × ((i : ℕ) → i < r → getD (digitsOf (now (a .entry))) i 0 ≡ getD (digitsOf (now (b .entry))) i 0) × (r < count → getD (digitsOf (now (a .entry))) r 0 ≢ getD (digitsOf (now (b .entry))) r 0) ⌝ }
+    ensures { λ r. ⌜ FirstWrong (digitsOf (now (a .entry))) (digitsOf (now (b .entry))) count r ⌝ }
 {
     let mut i: usize = 0;
     while i < count {

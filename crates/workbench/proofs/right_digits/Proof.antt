@@ -28,7 +28,12 @@ digit-or-zero-requires-2 : tie.Need-digit-or-zero-requires-2 Inv-loop μ-loop
 digit-or-zero-requires-2 c κs = search needs
 
 returns : tie.Need-returns Inv-loop μ-loop
-returns c = ((omega arith), c .before .before .before .before .loop .inv .1, λ h e. c .if1 .taken (c .before .before .digit-or-zero .ensures .0 ∙ e ∙ sym (c .before .digit-or-zero2 .ensures .0)))
+returns c =
+    record {
+      within = omega arith;
+      alike = c .before .before .before .before .loop .inv .1;
+      wrong = λ h e. c .if1 .taken (c .before .before .digit-or-zero .ensures .0 ∙ e ∙ sym (c .before .digit-or-zero2 .ensures .0));
+    }
 
 add-i : tie.Need-add-i Inv-loop μ-loop
 add-i c = search needs
@@ -37,12 +42,16 @@ loop-less : tie.Need-loop-less Inv-loop μ-loop
 loop-less c = search needs
 
 loop-again : tie.Need-loop-again Inv-loop μ-loop
-loop-again c = (omega arith, right-more (digitsOf (c .before .before .before .before .before .before .before .args .a .now)) (digitsOf (c .before .before .before .before .before .before .before .args .b .now)) _ (c .before .before .before .before .loop .inv .1) (sym (c .before .before .digit-or-zero .ensures .0) ∙ c .if1 .left ∙ c .before .digit-or-zero2 .ensures .0))
+loop-again c =
+    let a = c .before .before .before .before .before .before .before .args in
+    let l = c .before .before .before .before .loop in
+    let same = sym (c .before .before .digit-or-zero .ensures .0) ∙ c .if1 .left ∙ c .before .digit-or-zero2 .ensures .0 in
+    (omega arith, right-more (digitsOf (a .a .now)) (digitsOf (a .b .now)) (l .i) (l .inv .1) same)
 
 returns-2 : tie.Need-returns-2 Inv-loop μ-loop
 returns-2 c =
     let end : c .before .loop .i ≡ c .before .before .before .before .args .count = omega arith in
-    (omega arith, rw end at (c .before .loop .inv .1), λ h. absurd (never h))
+    record { within = omega arith; alike = rw end at (c .before .loop .inv .1); wrong = λ h. absurd (never h) }
   where
     never : c .before .before .before .before .args .count < c .before .before .before .before .args .count → ⊥
     never h = omega arith
