@@ -8,6 +8,7 @@ ghost use Rattle.recordings.specs.Sizes.{longest, LeastMet, FramesInMet,
 // The longest file, in bytes.
 pub const MOST: usize = 1099511627776;
 
+// The lesser of two numbers.
 pub fn least(a: usize, b: usize) -> usize
     ensures { λ r. ⌜ LeastMet a b r ⌝ }
 {
