@@ -23,10 +23,7 @@ pub fn frames_in(k: usize, frames: usize) -> usize
     requires { ⌜ k ≤ longest ⌝ }
     ensures { λ r. ⌜ FramesInMet k frames r ⌝ }
 {
-    if frames <= 64 * k {
-        return 0;
-    }
-    least(frames - 64 * k, 64)
+    least(minus(frames, 64 * k), 64)
 }
 
 // How many bytes so many frames have; and so, where in a file the frame of this number begins.
@@ -68,10 +65,7 @@ pub fn bytes_wanted(row: Row, f: usize, quarter: usize, done: usize) -> usize
     ensures { λ r. ⌜ BytesWantedMet row f quarter done r ⌝ }
 {
     let whole = (done % 8 + tributary_digits(row, f) + 7) / 8;
-    if quarter <= done / 8 {
-        return 0;
-    }
-    least(whole, quarter - done / 8)
+    least(whole, minus(quarter, done / 8))
 }
 
 // The sum, or the largest number where it is larger still.
