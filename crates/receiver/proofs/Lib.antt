@@ -8,3 +8,4 @@ pub mod Traces
 pub mod Pieces
 pub mod Alignment
 pub mod Words
+pub mod Answers

@@ -1,5 +1,5 @@
 -- Calls in turn: a run is the history grown by the digits it took; two pieces in turn are one; a state handed back is valid;
--- a frame that a call hands over is the N digits received last; and no call has a second answer.
+-- and a frame that a call hands over is the N digits received last.
 use mathlib.Core.Path.{_≡_, refl, sym, ap, _∙_}
 use mathlib.Core.Bool.{Bool, cond, true, false, true≢false}
 use mathlib.Core.List.{List, [], _∷_, _++_}
@@ -16,7 +16,6 @@ use Rattle.levels.specs.declared.table.Level.the-variants.{Of}
 use Rattle.levels.specs.Table.{Shared, levelOf}
 use Rattle.levels.proofs.Rows.{shared-row}
 use Rattle.receiver.specs.declared.State.{State}
-use Rattle.receiver.specs.declared.Made.{Made}
 use Rattle.receiver.specs.declared.Fed.{Fed}
 use Rattle.receiver.specs.Frame.{readyOf}
 use Rattle.receiver.specs.Feed.{coreOf, freshState, freshOf, invalid, refusalOf, afterOf, handedOver, runOf, pieceOf, feedRow, feedOf, Valid}
@@ -274,12 +273,3 @@ feed-from level row known ds bin slice first count e =
 pub fresh-valid : (level : ℕ) (row : Row) → levelOf level ≡ Of row → invalid row (coreOf (freshOf level .state)) ≡ false
 fresh-valid level row known =
     rw known (valid-only row (coreOf (freshState level)) (traced-fresh row (shared-row level row known) level .valid))
-
--- ---- no second answer
-
-pub fresh-one-answer : (level : ℕ) (r r′ : Made) → r ≡ freshOf level → r′ ≡ freshOf level → r ≡ r′
-fresh-one-answer level r r′ e e′ = e ∙ sym e′
-
-pub feed-one-answer : (s : State) (slice : List ℕ) (first count : ℕ) (r r′ : Fed)
-    → r ≡ feedOf s slice first count → r′ ≡ feedOf s slice first count → r ≡ r′
-feed-one-answer s slice first count r r′ e e′ = e ∙ sym e′

@@ -40,6 +40,10 @@ freshAt NoSuchLevel level = record { refusal = 1; state = freshState 0 }
 abbrev pub freshOf : ℕ → Made
 freshOf level = freshAt (levelOf level) level
 
+-- the whole statement of making a fresh state
+abbrev pub FreshMet : ℕ → Made → Type 0
+FreshMet level made = made ≡ freshOf level
+
 -- ---- refusals
 
 -- 6: "receiver state is not valid: [level wrong,] window at or over 2 to the L, digits seen over L, missed over 3, place at or
@@ -103,6 +107,10 @@ feedAt NoSuchLevel s slice first count = refused 6 s
 
 abbrev pub feedOf : State → List ℕ → ℕ → ℕ → Fed
 feedOf s slice first count = feedAt (levelOf (s .level)) s slice first count
+
+-- the whole statement of feeding a piece
+abbrev pub FeedMet : State → List ℕ → ℕ → ℕ → Fed → Type 0
+FeedMet s slice first count fed = fed ≡ feedOf s slice first count
 
 -- ---- what validity says, item by item: proofs/Validity.antt shows that it is `invalid` answered with no
 pub record Valid (row : Row) (c : Core) : Type 0 where

@@ -1,5 +1,6 @@
 // The receiver: finding frames in a stream of digits. Two calls, `fresh` and `feed`; a state goes in by value and comes
-// back by value. Each answer equals a definition of specs/Feed.antt, for any state and any piece whatever.
+// back by value. Each answer equals a definition of specs/Feed.antt, for any state and any piece whatever; the whole statement
+// of each call has a name there.
 mod frame;
 mod modes;
 
@@ -10,7 +11,7 @@ ghost use mathlib.Core.Path.{_≡_};
 ghost use Prim.Native.Nat.{_+_, _*_, _-_, _<_, _≤_};
 ghost use lib.ListN.{length};
 ghost use Rattle.levels.specs.Table.{Shared};
-ghost use Rattle.receiver.specs.Feed.{Valid, coreOf, stateOf, pieceOf, invalid, refusalOf, refused, accepted, runOf, feedRow, feedOf, freshState, freshOf};
+ghost use Rattle.receiver.specs.Feed.{Valid, coreOf, stateOf, pieceOf, invalid, refusalOf, refused, accepted, runOf, feedRow, freshState, FreshMet, FeedMet};
 
 pub enum Mode {
     Hunting,
@@ -60,7 +61,7 @@ fn fresh_state(level: u64) -> State
 
 // A fresh state of a level.
 pub fn fresh(level: u64) -> Made
-    ensures { λ r. ⌜ r ≡ freshOf level ⌝ }
+    ensures { λ r. ⌜ FreshMet level r ⌝ }
 {
     match levels::table::level_of(level) {
         Level::Of(_) => Made {
@@ -202,7 +203,7 @@ fn feed_row(row: Row, s: State, piece: &[u8], first: usize, count: usize) -> Fed
 
 // Feeds count digits of the piece, from digit first on, and stops after the digit that completes a frame.
 pub fn feed(s: State, piece: &[u8], first: usize, count: usize) -> Fed
-    ensures { λ r. ⌜ r ≡ feedOf s (now (piece .entry)) first count ⌝ }
+    ensures { λ r. ⌜ FeedMet s (now (piece .entry)) first count r ⌝ }
 {
     let level = s.level;
     match levels::table::level_of(level) {
