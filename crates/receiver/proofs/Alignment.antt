@@ -37,7 +37,7 @@ asks-held : (row : Row) (n : ℕ) (mode : Mode) (p : ℕ) → hunting mode ≡ f
 unfolding asks
 asks-held row n mode p h = rw h
 
-up-one : (mode : Mode) (p : ℕ) → hunting mode ≡ false → placeAfter mode p ≡ p + 1
+pub up-one : (mode : Mode) (p : ℕ) → hunting mode ≡ false → placeAfter mode p ≡ p + 1
 unfolding placeAfter
 up-one mode p h = rw h
 

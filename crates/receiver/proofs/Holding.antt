@@ -18,13 +18,17 @@ use Rattle.levels.specs.Table.{Shared}
 use Rattle.receiver.specs.Frame.{written, holding, begun, put, onesFrom}
 use Rattle.receiver.proofs.Written.{written-length, written-split, written-shift, written-mod}
 
--- a word has digits: ten, or else twelve
-pub some-digits : (row : Row) → Shared row → 10 ≤ row .len
-some-digits row sh =
+-- all that the receiver asks of the word's length: two digits. With one, the last digit of a frame would be the word after it
+pub word-some : (row : Row) → Shared row → 2 ≤ row .len
+word-some row sh =
     elim (ℕ-discrete (row .len) 10) [
       | yes e ↦ omega arith
       | no n ↦ omega (arith, sh .twelve n .0)
     ]
+
+-- and that a frame has room for it
+pub word-within : (row : Row) → Shared row → row .len ≤ row .digits
+word-within row sh = omega (arith, sh .counted)
 
 -- ---- lists of digits, and zeros
 

@@ -8,4 +8,5 @@ pub mod Traces
 pub mod Pieces
 pub mod Alignment
 pub mod Words
+pub mod Losses
 pub mod Answers

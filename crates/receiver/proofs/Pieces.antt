@@ -3,7 +3,7 @@
 use mathlib.Core.Path.{_≡_, refl, sym, ap, _∙_}
 use mathlib.Core.Bool.{Bool, cond, true, false, true≢false}
 use mathlib.Core.List.{List, [], _∷_, _++_}
-use Prim.Native.Nat.{ℕ, suc, _+_, _*_, _≤_}
+use Prim.Native.Nat.{ℕ, zero, suc, _+_, _*_, _≤_, _<_}
 use native.Mathlib.Omega.{arith}
 use borrow.Author.Tests.{eq-eqb, eqb-true}
 use lib.Dec.{eqb}
@@ -19,7 +19,7 @@ use Rattle.receiver.specs.declared.State.{State}
 use Rattle.receiver.specs.declared.Fed.{Fed}
 use Rattle.receiver.specs.Frame.{readyOf}
 use Rattle.receiver.specs.Feed.{coreOf, freshState, freshOf, invalid, refusalOf, afterOf, handedOver, runOf, pieceOf, feedRow, feedOf, Valid}
-use Rattle.receiver.specs.History.{heard, since, joined, Handed}
+use Rattle.receiver.specs.History.{heard, readyAfter, since, joined, Handed}
 use Rattle.receiver.proofs.Holding.{binary-append, binary-take}
 use Rattle.receiver.proofs.Validity.{cond-told, valid-only, step-valid, Accepted, accepted-if, accepted-only}
 use Rattle.receiver.proofs.Traces.{Traced, traced-fresh, traced, handed}
@@ -50,8 +50,10 @@ pub record Ran (row : Row) (ds : List ℕ) (before : ℕ) (s : State) (r : Fed) 
   pub within : taken ≤ length ds
   pub state : r .state ≡ heard row s (take taken ds)
   pub accepted : r .refusal ≡ 0
-  pub at-frame : r .ready ≡ true → readyOf row (coreOf (r .state)) ≡ true
+  pub at-frame : r .ready ≡ true → (0 < taken) × (readyOf row (coreOf (r .state)) ≡ true)
   pub at-end : r .ready ≡ false → taken ≡ length ds
+  -- after fewer digits no frame was ready, nor after all of them where none is said to be
+  pub passed : (k : ℕ) → 0 < k → k ≤ taken → (k ≡ taken → r .ready ≡ false) → readyAfter row s (take k ds) ≡ false
 
 pub ran : (row : Row) (ds : List ℕ) (before : ℕ) (s : State) → Ran row ds before s (runOf row ds before s)
 unfolding runOf heard
@@ -64,7 +66,11 @@ ran row [] before s =
       accepted = refl;
       at-frame = λ e. absurd (true≢false (sym e));
       at-end = λ _. refl;
+      passed = λ k lo hi _. absurd (none k lo hi);
     }
+  where
+    none : (k : ℕ) → 0 < k → k ≤ 0 → ⊥
+    none k lo hi = omega arith
 ran row (d ∷ ds) before s =
     cond-told (Ran row (d ∷ ds) before s) (readyOf row (coreOf (afterOf row s d)))
     (λ e. record {
@@ -73,19 +79,33 @@ ran row (d ∷ ds) before s =
       within = omega arith;
       state = refl;
       accepted = refl;
-      at-frame = λ _. e;
+      at-frame = λ _. (omega arith, e);
       at-end = λ q. absurd (true≢false q);
+      passed = λ k lo hi q. absurd (true≢false (q (only k lo hi)));
     })
-    (λ _. let r = ran row ds (suc before) (afterOf row s d) in
+    (λ e. let r = ran row ds (suc before) (afterOf row s d) in
     record {
       taken = suc (r .taken);
       counted = omega (arith, r .counted);
       within = omega (arith, r .within);
       state = r .state;
       accepted = r .accepted;
-      at-frame = r .at-frame;
+      at-frame = λ q. (omega arith, r .at-frame q .1);
       at-end = λ q. ap suc (r .at-end q);
+      passed = further e r;
     })
+  where
+    only : (k : ℕ) → 0 < k → k ≤ 1 → k ≡ 1
+    only k lo hi = omega arith
+
+    rest : Fed
+    rest = runOf row ds (suc before) (afterOf row s d)
+
+    further : readyOf row (coreOf (afterOf row s d)) ≡ false → (r : Ran row ds (suc before) (afterOf row s d) rest)
+        → (k : ℕ) → 0 < k → k ≤ suc (r .taken) → (k ≡ suc (r .taken) → rest .ready ≡ false) → readyAfter row s (take k (d ∷ ds)) ≡ false
+    further e r zero lo hi q = absurd (omega arith)
+    further e r (suc zero) lo hi q = e
+    further e r (suc (suc k)) lo hi q = r .passed (suc k) (omega arith) (omega arith) (λ m. q (ap suc m))
 
 -- ---- two pieces in turn are one
 
@@ -133,7 +153,7 @@ run-joined row xs ys s =
 -- ---- the same of the public call
 
 module _ (s : State) (row : Row) (known : levelOf (s .level) ≡ Of row) where
-  feed-run : (slice : List ℕ) (first count : ℕ) → Accepted row (coreOf s) (length slice) first count
+  pub feed-run : (slice : List ℕ) (first count : ℕ) → Accepted row (coreOf s) (length slice) first count
       → feedOf s slice first count ≡ runOf row (pieceOf slice first count) 0 s
   unfolding feedRow
   feed-run slice first count a = rw (known, eq-eqb _ 0 (accepted-only row (coreOf s) (length slice) first count a))
@@ -153,6 +173,23 @@ module _ (s : State) (row : Row) (known : levelOf (s .level) ≡ Of row) where
       → Ran row (pieceOf slice first count) 0 s (feedOf s slice first count)
   accepted-ran slice first count e =
       rw (feed-run slice first count (accepted-valid slice first count e)) (ran row (pieceOf slice first count) 0 s)
+
+  -- it passes over no frame: none was ready after fewer digits than it took
+  pub none-passed : (slice : List ℕ) (first count : ℕ) → feedOf s slice first count .refusal ≡ 0
+      → (k : ℕ) → 0 < k → k < feedOf s slice first count .taken → readyAfter row s (take k (pieceOf slice first count)) ≡ false
+  none-passed slice first count e k lo hi =
+      let r = accepted-ran slice first count e in
+      r .passed k lo (omega (arith, r .counted)) (λ q. absurd (over k (r .taken) (omega (arith, r .counted)) q))
+    where
+      over : (k n : ℕ) → k < n → k ≡ n → ⊥
+      over k n h q = omega arith
+
+  -- and where it says that none is ready, none was after any of its digits
+  pub none-was : (slice : List ℕ) (first count : ℕ) → feedOf s slice first count .refusal ≡ 0 → feedOf s slice first count .ready ≡ false
+      → (k : ℕ) → 0 < k → k ≤ length (pieceOf slice first count) → readyAfter row s (take k (pieceOf slice first count)) ≡ false
+  none-was slice first count e none k lo hi =
+      let r = accepted-ran slice first count e in
+      r .passed k lo (omega (arith, r .at-end none)) (λ _. none)
 
   -- every state handed back from a valid one is valid, and of the same level
   pub feed-valid : Valid row (coreOf s) → (slice : List ℕ) (first count : ℕ)
@@ -235,7 +272,7 @@ feed-from level row known ds bin slice first count e =
     record {
       state = state;
       stops = λ q. taken ∙ r .at-end q;
-      frame = λ q. handed row sh (ds ++ take (fed .taken) new) (fed .state) traces (r .at-frame q);
+      frame = λ q. handed row sh (ds ++ take (fed .taken) new) (fed .state) traces (r .at-frame q .1);
     }
   where
     s : State

@@ -21,7 +21,7 @@ use Rattle.receiver.specs.Frame.{written, holding, begun, put, keepOf, a
 use Rattle.receiver.specs.Feed.{coreOf, freshState, afterOf, Valid}
 use Rattle.receiver.specs.History.{heard, since, lastOf, Handed}
 use Rattle.receiver.proofs.Written.{written-zero, written-more}
-use Rattle.receiver.proofs.Holding.{some-digits, binary-append, holding-digits, holding-length}
+use Rattle.receiver.proofs.Holding.{word-some, word-within, binary-append, holding-digits, holding-length}
 use Rattle.receiver.proofs.Validity.{cond-told, and-both, step-valid, asked-came}
 use Rattle.receiver.proofs.Lasts.{last-length, last-binary, last-more, last-less, last-zeros}
 
@@ -71,6 +71,12 @@ pub record Traced (row : Row) (ds : List ℕ) (s : State) : Type 0 where
   pub seen : s .seen ≡ min (length ds) (row .len)
   pub frame : hunting (s .mode) ≡ false → Held row ds (s .place) (s .frame)
 
+pub aligned-held : (mode : Mode) → aligned mode ≡ true → hunting mode ≡ false
+aligned-held Hunting e = sym e
+aligned-held OneFound e = refl
+aligned-held TwoFound e = refl
+aligned-held (Aligned m) e = refl
+
 -- a step's window and digits seen do not depend on the mode
 step-window : (row : Row) (c : Core) (d : ℕ) → stepOf row c d .window ≡ windowOf row (c .window) d
 unfolding stepOf afterDigit
@@ -90,7 +96,7 @@ module _ (row : Row) (sh : Shared row) where
           window = omega (arith, sh .word-fits);
           seen = omega arith;
           missed = omega arith;
-          place = omega (arith, sh .counted);
+          place = omega (arith, word-some row sh, word-within row sh);
           rests = λ _. refl;
           came = λ e. absurd (true≢false e);
         };
@@ -117,7 +123,7 @@ module _ (row : Row) (sh : Shared row) where
     unfolding windowOf
     window-more =
         let zeros = replicate {A = ℕ} (row .len) 0 in
-        let e : row .len ≡ suc (row .len - 1) = omega (arith, some-digits row sh) in
+        let e : row .len ≡ suc (row .len - 1) = omega (arith, word-some row sh) in
         let room : row .len ≤ length (zeros ++ ds) = omega (arith, length-append zeros ds, length-replicate {A = ℕ} (row .len) 0) in
         window-shift (row .len) (row .len - 1) (s .window) d (zeros ++ ds) e h room (t .window) ∙ rw (append-assoc zeros ds (d ∷ []))
 
@@ -134,7 +140,7 @@ module _ (row : Row) (sh : Shared row) where
     begun-held n =
         let came : row .len ≤ length more = omega (arith, seen-more) in
         let whole : take (row .digits) (lastOf (row .len) more) ≡ lastOf (row .len) more =
-        take-all (row .digits) (lastOf (row .len) more) (omega (arith, last-length (row .len) more came, sh .counted)) in
+        take-all (row .digits) (lastOf (row .len) more) (omega (arith, last-length (row .len) more came, word-within row sh)) in
         let zero-more : row .len + 0 ≡ row .len = omega arith in
         record {
           came = omega arith;
@@ -165,7 +171,7 @@ module _ (row : Row) (sh : Shared row) where
 
         room : p + 1 ≤ row .digits - row .len → Held row more (p + 1) (put f (row .len - 1 + (p + 1)) d)
         room fits =
-            let place : row .len - 1 + (p + 1) ≡ length old = omega (arith, some-digits row sh, old-length) in
+            let place : row .len - 1 + (p + 1) ≡ length old = omega (arith, word-some row sh, old-length) in
             let before : take (row .digits) old ≡ old = take-all (row .digits) old (omega (arith, old-length)) in
             let after : take (row .digits) (old ++ (d ∷ [])) ≡ old ++ (d ∷ []) =
             take-all (row .digits) (old ++ (d ∷ [])) (omega (arith, old-length, length-append old (d ∷ []))) in
@@ -220,19 +226,13 @@ module _ (row : Row) (sh : Shared row) where
 
   -- ---- a frame handed over is the N digits received from its word on, with later bytes zero
 
-  aligned-held : (mode : Mode) → aligned mode ≡ true → hunting mode ≡ false
-  aligned-held Hunting e = sym e
-  aligned-held OneFound e = refl
-  aligned-held TwoFound e = refl
-  aligned-held (Aligned m) e = refl
-
   pub handed : (ds : List ℕ) (s : State) → Traced row ds s → readyOf row (coreOf s) ≡ true → Handed row ds (s .frame)
   unfolding readyOf
   handed ds s t e =
       let both = and-both (aligned (s .mode)) (eqb (s .place) (row .digits - row .len)) e in
       let held = t .frame (aligned-held (s .mode) (both .0)) in
       let at : s .place ≡ row .digits - row .len = eqb-true (s .place) (row .digits - row .len) (both .1) in
-      let all : row .len + s .place ≡ row .digits = omega (arith, sh .counted) in
+      let all : row .len + s .place ≡ row .digits = omega (arith, word-within row sh) in
       let came : row .digits ≤ length ds = omega (arith, held .came) in
       let whole : take (row .digits) (lastOf (row .digits) ds) ≡ lastOf (row .digits) ds =
       take-all (row .digits) (lastOf (row .digits) ds) (omega (arith, last-length (row .digits) ds came)) in

@@ -1,20 +1,25 @@
 -- Histories: the digits that came since reset, the first one first, and what the receiver's state is after them.
 -- The theorems of proofs/Traces.antt, proofs/Pieces.antt and proofs/Alignment.antt are stated in these words.
 use mathlib.Core.Path.{_≡_}
-use mathlib.Core.Bool.{cond}
+use mathlib.Core.Bool.{Bool, cond, false}
 use mathlib.Core.List.{List, [], _∷_}
 use Prim.Native.Nat.{ℕ, _+_, _-_, _≤_}
 use lib.ListN.{length, take, drop}
 use Rattle.levels.specs.declared.table.Row.{Row}
 use Rattle.receiver.specs.declared.State.{State}
 use Rattle.receiver.specs.declared.Fed.{Fed}
-use Rattle.receiver.specs.Frame.{written, holding}
-use Rattle.receiver.specs.Feed.{afterOf, freshState}
+use Rattle.receiver.specs.Modes.{good}
+use Rattle.receiver.specs.Frame.{written, holding, readyOf}
+use Rattle.receiver.specs.Feed.{coreOf, afterOf, freshState}
 
 -- the state that these digits make of a state, whatever calls they came in
 unfoldable pub heard : Row → State → List ℕ → State
 heard row s [] = s
 heard row s (d ∷ ds) = heard row (afterOf row s d) ds
+
+-- whether a frame is handed over at the last of these digits
+abbrev pub readyAfter : Row → State → List ℕ → Bool
+readyAfter row s ds = readyOf row (coreOf (heard row s ds))
 
 -- the state after a history, from reset on
 abbrev pub since : Row → ℕ → List ℕ → State
@@ -31,6 +36,11 @@ ago k ds = take (length ds - k) ds
 pub record WordCame (row : Row) (ds : List ℕ) : Type 0 where
   pub enough : row .len ≤ length ds
   pub last : lastOf (row .len) ds ≡ written (row .len) (row .word)
+
+-- N digits at whose end a word is due, and the last L digits are not the word
+pub record Missed (row : Row) (s : State) (ds : List ℕ) : Type 0 where
+  pub size : length ds ≡ row .digits
+  pub bad : good row (heard row s ds .window) ≡ false
 
 -- the words of a frame whose last digit came now, and of the two frames before it: N digits apart
 pub record ThreeWords (row : Row) (ds : List ℕ) : Type 0 where
