@@ -10,3 +10,4 @@ pub mod Alignment
 pub mod Words
 pub mod Losses
 pub mod Answers
+pub mod Calls
