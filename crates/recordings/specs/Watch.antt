@@ -1,9 +1,13 @@
 -- Listening: when alignment is found and lost, and how far the receiver is fed at once.
 use mathlib.Core.Bool.{Bool, cond, true, false}
+use mathlib.Core.List.{List, [], _∷_, _++_}
 use Prim.Native.Nat.{ℕ, _-_, min}
 use Rattle.levels.specs.declared.table.Row.{Row}
 use Rattle.receiver.specs.declared.Mode.{Mode}
+use Rattle.receiver.specs.declared.State.{State}
 use Rattle.receiver.specs.Modes.{hunting}
+use Rattle.receiver.specs.Frame.{aligned}
+use Rattle.receiver.specs.Feed.{afterOf}
 use Rattle.recordings.specs.declared.watch.Change.{Change}
 use Rattle.recordings.specs.declared.watch.Change.the-variants.{Nothing, Found, Lost}
 
@@ -17,3 +21,16 @@ changeOf false false = Nothing
 -- how many of the digits left are fed: hunting, all; else at most up to the place N, where a word is judged
 unfoldable pub stretchOf : Row → Mode → ℕ → ℕ → ℕ
 stretchOf row mode place left = cond (hunting mode) left (min (row .digits - place) left)
+
+-- ---- what there is to see: proofs/Stretches.antt shows that it is what is said
+
+-- what is said of a stretch, as a list of changes: none, or the one
+abbrev pub said : Change → List Change
+said Nothing = []
+said Found = Found ∷ []
+said Lost = Lost ∷ []
+
+-- the changes that digits make, digit by digit
+unfoldable pub changesIn : Row → State → List ℕ → List Change
+changesIn row s [] = []
+changesIn row s (d ∷ ds) = said (changeOf (aligned (s .mode)) (aligned (afterOf row s d .mode))) ++ changesIn row (afterOf row s d) ds
