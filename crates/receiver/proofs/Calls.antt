@@ -122,7 +122,9 @@ piece-rest : (p : Piece) (taken : ℕ) → taken ≤ p .count → take taken (di
 piece-rest p taken h =
     let ds = drop (p .first) (digitsOf (p .slice)) in
     let all : taken + (p .count - taken) ≡ p .count = omega arith in
-    rw (take-take taken (p .count) ds h, ← drop-drop taken (p .first) (digitsOf (p .slice))) (sym (rw all at (take-add taken (p .count - taken) ds)))
+    ap₂ (λ (xs ys : List ℕ). xs ++ ys) (take-take taken (p .count) ds h)
+    (ap (take (p .count - taken)) (sym (drop-drop taken (p .first) (digitsOf (p .slice)))))
+    ∙ sym (rw all at (take-add taken (p .count - taken) ds))
 
 -- one call for a piece, from a valid state
 lent-ran : (row : Row) (s : State) → levelOf (s .level) ≡ Of row → Valid row (coreOf s) → (p : Piece) → Lent p → Ran row (digitsIn p) 0 s (answerTo s p)
