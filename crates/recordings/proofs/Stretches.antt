@@ -1,6 +1,6 @@
 -- What is said of a stretch is every change of alignment that falls in it. Outside hunting the mode is the same at every digit of it but the
 -- last. A stretch that begins hunting stops with the first frame handed over, before a word could be judged that loses what was found.
-use mathlib.Core.Path.{_≡_, refl, ap, _∙_}
+use mathlib.Core.Path.{_≡_, refl, sym, ap, ap₂, _∙_}
 use mathlib.Core.Bool.{Bool, true, false}
 use mathlib.Core.List.{List, [], _∷_, _++_, append-nil}
 use Prim.Native.Nat.{ℕ, zero, suc, _+_, _-_, _≤_, _<_}
@@ -8,6 +8,10 @@ use native.Mathlib.Omega.{arith}
 use lib.ListN.{length, take, drop, length-take}
 use lib.Seq.{take-take}
 use Rattle.digits.specs.Digits.{digitsOf}
+use contract.Lifetimes.{Lfts}
+use denote.Ref.{now}
+use denote.Triple.Clauses.{AtExit}
+use borrow.Fn.World.{ArgsD, ResD}
 use Rattle.levels.specs.declared.table.Row.{Row}
 use Rattle.levels.specs.declared.table.Level.the-variants.{Of}
 use Rattle.levels.specs.Table.{Shared, levelOf}
@@ -24,7 +28,11 @@ use Rattle.receiver.proofs.Pieces.{accepted-valid, none-passed}
 use Rattle.receiver.proofs.Calls.{answered}
 use Rattle.receiver.proofs.Alignment.{rises}
 use Rattle.receiver.proofs.Losses.{Early, early-hunting, none-hunting, early-more, early-same, early-stays}
-use Rattle.recordings.specs.Watch.{changeOf, stretchOf, said, changesIn}
+use Rattle.recordings.specs.declared.watch.Change.{Change}
+use Rattle.recordings.specs.declared.watch.Heard.{Heard}
+use Rattle.recordings.specs.Watch.{changeOf, stretchOf, ListenMet, said, changesIn}
+use Rattle.recordings.proofs.watch.listen as listen
+use Rattle.recordings.proofs.watch.listen.Reads as listen-reads
 
 -- outside hunting a stretch ends with the word that is judged next, or before
 to-word : (row : Row) (mode : Mode) (place left : ℕ) → hunting mode ≡ false → stretchOf row mode place left ≤ row .digits - place
@@ -128,3 +136,16 @@ module _ (row : Row) (s : State) (known : levelOf (s .level) ≡ Of row) (slice 
       by-hunting OneFound h = held (rw h)
       by-hunting TwoFound h = held (rw h)
       by-hunting (Aligned m) h = held (rw h)
+
+-- ---- the call and its whole statement: it leaves no second answer, and what the function ensures is it
+
+pub listen-one-answer : (row : Row) (s : State) (slice : List ℕ) (first left : ℕ) (a b : Heard)
+    → ListenMet row s slice first left a → ListenMet row s slice first left b → a ≡ b
+listen-one-answer row s slice first left a b x y =
+    let same : a .fed ≡ b .fed = x .0 ∙ sym (y .0) in
+    let change : a .change ≡ b .change = x .1 ∙ ap (λ (f : Fed). changeOf (aligned (s .mode)) (aligned (f .state .mode))) same ∙ sym (y .1) in
+    ap₂ (λ (f : Fed) (c : Change). record { fed = f; change = c }) same change
+
+pub listen-met : (κs : Lfts 1) (a : ArgsD listen.signature κs) (r : ResD listen.signature κs) (e : AtExit listen.ended κs)
+    → listen-reads.Learnt κs a r e → ListenMet (a .0) (a .1 .0) (now (a .1 .1 .0)) (a .1 .1 .1 .0) (a .1 .1 .1 .1 .0) r
+listen-met κs a r e met = met

@@ -1,4 +1,5 @@
 -- Listening: when alignment is found and lost, and how far the receiver is fed at once.
+use mathlib.Core.Path.{_≡_}
 use mathlib.Core.Bool.{Bool, cond, true, false}
 use mathlib.Core.List.{List, [], _∷_, _++_}
 use Prim.Native.Nat.{ℕ, _-_, min}
@@ -7,8 +8,9 @@ use Rattle.receiver.specs.declared.Mode.{Mode}
 use Rattle.receiver.specs.declared.State.{State}
 use Rattle.receiver.specs.Modes.{hunting}
 use Rattle.receiver.specs.Frame.{aligned}
-use Rattle.receiver.specs.Feed.{afterOf}
+use Rattle.receiver.specs.Feed.{afterOf, feedOf}
 use Rattle.recordings.specs.declared.watch.Change.{Change}
+use Rattle.recordings.specs.declared.watch.Heard.{Heard}
 use Rattle.recordings.specs.declared.watch.Change.the-variants.{Nothing, Found, Lost}
 
 -- aligned before and after: lost where it was and is not, found where it was not and is
@@ -21,6 +23,12 @@ changeOf false false = Nothing
 -- how many of the digits left are fed: hunting, all; else at most up to the place N, where a word is judged
 unfoldable pub stretchOf : Row → Mode → ℕ → ℕ → ℕ
 stretchOf row mode place left = cond (hunting mode) left (min (row .digits - place) left)
+
+-- the whole statement of listening to the next stretch: what the receiver answers for it, and the change between the modes before and after it
+abbrev pub ListenMet : Row → State → List ℕ → ℕ → ℕ → Heard → Type 0
+ListenMet row s slice first left heard =
+    (heard .fed ≡ feedOf s slice first (stretchOf row (s .mode) (s .place) left))
+    × (heard .change ≡ changeOf (aligned (s .mode)) (aligned (heard .fed .state .mode)))
 
 -- ---- what there is to see: proofs/Stretches.antt shows that it is what is said
 

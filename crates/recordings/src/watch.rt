@@ -8,8 +8,7 @@ ghost use mathlib.Core.Path.{_≡_};
 ghost use Prim.Native.Nat.{_-_, min};
 ghost use Rattle.receiver.specs.Modes.{hunting};
 ghost use Rattle.receiver.specs.Frame.{aligned};
-ghost use Rattle.receiver.specs.Feed.{feedOf};
-ghost use Rattle.recordings.specs.Watch.{changeOf, stretchOf};
+ghost use Rattle.recordings.specs.Watch.{changeOf, stretchOf, ListenMet};
 
 pub enum Change {
     Nothing,
@@ -83,7 +82,7 @@ fn to_word(row: Row, place: usize, left: usize) -> usize
 
 // Feeds the next stretch of a piece, from its digit first on, of which so many digits are left.
 pub fn listen(row: Row, s: State, piece: &[u8], first: usize, left: usize) -> Heard
-    ensures { λ r. ⌜ (r .fed ≡ feedOf s (now (piece .entry)) first (stretchOf row (s .mode) (s .place) left)) × (r .change ≡ changeOf (aligned (s .mode)) (aligned (r .fed .state .mode))) ⌝ }
+    ensures { λ r. ⌜ ListenMet row s (now (piece .entry)) first left r ⌝ }
 {
     let mode = s.mode;
     let count = stretch(row, mode, s.place, left);

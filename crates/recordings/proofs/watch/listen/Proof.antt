@@ -1,9 +1,5 @@
 -- What `feed` answers for the stretch, and the change between the modes before and after it.
-use mathlib.Core.Path.{ap, ap₂, _∙_}
-use Prim.Native.Nat.{ℕ}
-use mathlib.Core.Bool.{Bool}
-use Rattle.receiver.specs.Feed.{feedOf}
-use Rattle.recordings.specs.Watch.{changeOf}
+use mathlib.Core.Path.{refl}
 use borrow.Author.Needs.{needs}
 use Rattle.recordings.proofs.watch.listen.Statement.{statement}
 use Rattle.recordings.proofs.watch.listen.Tie as tie
@@ -25,10 +21,8 @@ change-of-requires c κs = search needs
 
 returns : tie.Need-returns
 returns c =
-    let a = c .before .before .before .before .before .before .before .args in (
-      c .before .before .before .before .feed .ensures ∙ ap (λ (n : ℕ). feedOf (a .s) (a .piece .now) (a .first) n) (c .before .before .before .before .before .stretch .ensures),
-      c .change-of .ensures ∙ ap₂ (λ (x y : Bool). changeOf x y) (c .before .before .is-aligned .ensures) (c .before .is-aligned2 .ensures),
-    )
+    rw (c .change-of .ensures, c .before .before .is-aligned .ensures, c .before .is-aligned2 .ensures, c .before .before .before .before .feed .ensures, c .before .before .before .before .before .stretch .ensures)
+    (refl, refl)
 
 pub listen-spec : {M : Type 1} → statement M
 listen-spec =
