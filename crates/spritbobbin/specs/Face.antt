@@ -1,15 +1,21 @@
--- The C face: how answers and states pass as numbers in fixed arrays. The calls' own definitions say what the numbers are.
+-- The C face: how answers and states pass as numbers in fixed arrays, and the whole statement of each call. The definitions of the calls
+-- behind the face say what the numbers are.
+use mathlib.Core.Path.{_≡_}
 use mathlib.Core.Bool.{Bool, cond, true, false}
 use mathlib.Core.List.{List, [], _∷_}
 use Prim.Native.Nat.{ℕ, zero, suc, _+_, _-_}
 use lib.Dec.{eqb, leb}
-use lib.ListN.{getD}
+use lib.ListN.{length, getD}
 use Rattle.multiplex.specs.declared.Multiplexed.{Multiplexed}
 use Rattle.demultiplex.specs.declared.Demultiplexed.{Demultiplexed}
 use Rattle.receiver.specs.declared.Mode.{Mode}
 use Rattle.receiver.specs.declared.Mode.the-variants.{Hunting, OneFound, TwoFound, Aligned}
 use Rattle.receiver.specs.declared.State.{State}
 use Rattle.receiver.specs.declared.Fed.{Fed}
+use Rattle.multiplex.specs.Multiplex.{multiplexed, lineAfter}
+use Rattle.demultiplex.specs.Demultiplex.{demultiplexed, notesAfter, bufferAfter}
+use Rattle.receiver.specs.Feed.{freshOf, feedOf}
+use Rattle.line_reader.specs.Step.{stepOf, digitOrEnd}
 
 -- answer: four digit counts, named frame
 abbrev pub sentAnswer : Multiplexed → List ℕ
@@ -49,3 +55,33 @@ fedState f state = cond (eqb (f .refusal) 0) (stateNumbers (f .state)) state
 
 abbrev pub fedFrame : Fed → List ℕ → List ℕ
 fedFrame f frame = cond (eqb (f .refusal) 0) (f .state .frame) frame
+
+-- ---- the whole statement of each call: what it is given, the number that it returns, and what it leaves in everything lent for writing
+
+-- spritbobbin_multiplex returns the refusal number, and leaves the line and the answer
+abbrev pub MultiplexMet : ℕ → List ℕ → List ℕ → List ℕ → ℕ → List ℕ → List ℕ → Type 0
+MultiplexMet level line notes buffer returned lineLeft answerLeft =
+    let m = multiplexed level (length line) notes (length buffer) in
+    (returned ≡ m .refusal) × (lineLeft ≡ lineAfter level line notes buffer) × (answerLeft ≡ sentAnswer m)
+
+-- spritbobbin_demultiplex returns the refusal number, and leaves the notes, the buffer and the answer
+abbrev pub DemultiplexMet : ℕ → List ℕ → List ℕ → List ℕ → ℕ → List ℕ → List ℕ → List ℕ → Type 0
+DemultiplexMet level line notes buffer returned notesLeft bufferLeft answerLeft =
+    let d = demultiplexed level line (length notes) (length buffer) in
+    (returned ≡ d .refusal) × (notesLeft ≡ notesAfter level line notes (length buffer))
+    × (bufferLeft ≡ bufferAfter level line (length notes) buffer) × (answerLeft ≡ receivedAnswer d)
+
+-- spritbobbin_receiver_fresh returns the refusal number, and leaves the state's numbers and its frame
+abbrev pub FreshMet : ℕ → ℕ → List ℕ → List ℕ → Type 0
+FreshMet level returned stateLeft frameLeft =
+    (returned ≡ freshOf level .refusal) × (stateLeft ≡ stateNumbers (freshOf level .state)) × (frameLeft ≡ freshOf level .state .frame)
+
+-- spritbobbin_receiver_feed returns the refusal number, and leaves the state's numbers, its frame and the answer
+abbrev pub FeedMet : List ℕ → List ℕ → List ℕ → ℕ → ℕ → ℕ → List ℕ → List ℕ → List ℕ → Type 0
+FeedMet state frame piece first count returned stateLeft frameLeft answerLeft =
+    let f = feedOf (stateOf state frame) piece first count in
+    (returned ≡ f .refusal) × (stateLeft ≡ fedState f state) × (frameLeft ≡ fedFrame f frame) × (answerLeft ≡ fedAnswer f)
+
+-- spritbobbin_line_digit returns the digit, or 2 where the line has ended; nothing is lent for writing
+abbrev pub LineDigitMet : List ℕ → ℕ → ℕ → Type 0
+LineDigitMet line place returned = returned ≡ digitOrEnd (stepOf line place)

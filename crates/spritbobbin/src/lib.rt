@@ -1,16 +1,27 @@
 // The C face: the calls over numbers, slices and fixed arrays, nothing else. A slice passes as a pointer and then a length, a fixed array as
 // a pointer. include/spritbobbin.h declares these functions for C; nothing checks that header against this file but the tests.
+use demultiplex::Demultiplexed;
+use multiplex::Multiplexed;
 use receiver::Fed;
 use receiver::Mode;
 use receiver::State;
 ghost use mathlib.Core.Path.{_≡_};
 ghost use mathlib.Core.Bool.{cond};
-ghost use lib.ListN.{length};
-ghost use Rattle.multiplex.specs.Multiplex.{multiplexed, lineAfter};
-ghost use Rattle.demultiplex.specs.Demultiplex.{demultiplexed, notesAfter, bufferAfter};
-ghost use Rattle.receiver.specs.Feed.{freshOf, feedOf};
-ghost use Rattle.line_reader.specs.Step.{stepOf, digitOrEnd};
-ghost use Rattle.spritbobbin.specs.Face.{sentAnswer, receivedAnswer, modeNumber, modeOf, stateOf, stateNumbers, fedAnswer, fedState, fedFrame};
+ghost use Rattle.spritbobbin.specs.Face.{sentAnswer, receivedAnswer, modeNumber, modeOf, stateNumbers, fedAnswer, MultiplexMet, DemultiplexMet, FreshMet, FeedMet, LineDigitMet};
+
+// An answer as the numbers of the array that C lends for it.
+fn sent_numbers(m: Multiplexed) -> [u64; 5]
+    ensures { λ r. ⌜ r ≡ sentAnswer m ⌝ }
+{
+    let c = m.counts;
+    [
+        c[0] as u64,
+        c[1] as u64,
+        c[2] as u64,
+        c[3] as u64,
+        m.frame as u64,
+    ]
+}
 
 // Multiplexes; answer: four digit counts, named frame. Returns the refusal number.
 #[no_mangle]
@@ -21,18 +32,26 @@ pub extern "C" fn spritbobbin_multiplex(
     buffer: &[u8],
     answer: &mut [u64; 5],
 ) -> u64
-    ensures { λ r. ⌜ (r ≡ multiplexed level (length (now (line .entry))) (now (notes .entry)) (length (now (buffer .entry))) .refusal) × (now (line .exit) ≡ lineAfter level (now (line .entry)) (now (notes .entry)) (now (buffer .entry))) × (now (answer .exit) ≡ sentAnswer (multiplexed level (length (now (line .entry))) (now (notes .entry)) (length (now (buffer .entry))))) ⌝ }
+    ensures { λ r. ⌜ MultiplexMet level (now (line .entry)) (now (notes .entry)) (now (buffer .entry)) r (now (line .exit)) (now (answer .exit)) ⌝ }
 {
-    let r = multiplex::multiplex(level, line, notes, buffer);
-    let c = r.counts;
-    *answer = [
+    let sent = multiplex::multiplex(level, line, notes, buffer);
+    *answer = sent_numbers(sent);
+    sent.refusal
+}
+
+fn received_numbers(d: Demultiplexed) -> [u64; 7]
+    ensures { λ r. ⌜ r ≡ receivedAnswer d ⌝ }
+{
+    let c = d.counts;
+    [
         c[0] as u64,
         c[1] as u64,
         c[2] as u64,
         c[3] as u64,
-        r.frame as u64,
-    ];
-    r.refusal
+        0,
+        d.alignment as u64,
+        d.groups as u64,
+    ]
 }
 
 // Demultiplexes; answer: four digit counts, named frame (0), alignment digits that differ, control groups not unanimous.
@@ -44,20 +63,11 @@ pub extern "C" fn spritbobbin_demultiplex(
     buffer: &mut [u8],
     answer: &mut [u64; 7],
 ) -> u64
-    ensures { λ r. ⌜ (r ≡ demultiplexed level (now (line .entry)) (length (now (notes .entry))) (length (now (buffer .entry))) .refusal) × (now (notes .exit) ≡ notesAfter level (now (line .entry)) (now (notes .entry)) (length (now (buffer .entry)))) × (now (buffer .exit) ≡ bufferAfter level (now (line .entry)) (length (now (notes .entry))) (now (buffer .entry))) × (now (answer .exit) ≡ receivedAnswer (demultiplexed level (now (line .entry)) (length (now (notes .entry))) (length (now (buffer .entry))))) ⌝ }
+    ensures { λ r. ⌜ DemultiplexMet level (now (line .entry)) (now (notes .entry)) (now (buffer .entry)) r (now (notes .exit)) (now (buffer .exit)) (now (answer .exit)) ⌝ }
 {
-    let r = demultiplex::demultiplex(level, line, notes, buffer);
-    let c = r.counts;
-    *answer = [
-        c[0] as u64,
-        c[1] as u64,
-        c[2] as u64,
-        c[3] as u64,
-        0,
-        r.alignment as u64,
-        r.groups as u64,
-    ];
-    r.refusal
+    let received = demultiplex::demultiplex(level, line, notes, buffer);
+    *answer = received_numbers(received);
+    received.refusal
 }
 
 fn mode_number(mode: Mode) -> u64
@@ -124,7 +134,7 @@ pub extern "C" fn spritbobbin_receiver_fresh(
     state: &mut [u64; 5],
     frame: &mut [u8; 366],
 ) -> u64
-    ensures { λ r. ⌜ (r ≡ freshOf level .refusal) × (now (state .exit) ≡ stateNumbers (freshOf level .state)) × (now (frame .exit) ≡ freshOf level .state .frame) ⌝ }
+    ensures { λ r. ⌜ FreshMet level r (now (state .exit)) (now (frame .exit)) ⌝ }
 {
     let made = receiver::fresh(level);
     let s = made.state;
@@ -144,7 +154,7 @@ pub extern "C" fn spritbobbin_receiver_feed(
     count: u64,
     answer: &mut [u64; 3],
 ) -> u64
-    ensures { λ r. ⌜ (r ≡ feedOf (stateOf (now (state .entry)) (now (frame .entry))) (now (piece .entry)) first count .refusal) × (now (state .exit) ≡ fedState (feedOf (stateOf (now (state .entry)) (now (frame .entry))) (now (piece .entry)) first count) (now (state .entry))) × (now (frame .exit) ≡ fedFrame (feedOf (stateOf (now (state .entry)) (now (frame .entry))) (now (piece .entry)) first count) (now (frame .entry))) × (now (answer .exit) ≡ fedAnswer (feedOf (stateOf (now (state .entry)) (now (frame .entry))) (now (piece .entry)) first count)) ⌝ }
+    ensures { λ r. ⌜ FeedMet (now (state .entry)) (now (frame .entry)) (now (piece .entry)) first count r (now (state .exit)) (now (frame .exit)) (now (answer .exit)) ⌝ }
 {
     let held = *frame;
     let mode = mode_of(state[3]);
@@ -165,13 +175,13 @@ pub extern "C" fn spritbobbin_receiver_feed(
     *state = numbers_of(next);
     let kept = next.frame;
     *frame = kept;
-    0
+    fed.refusal
 }
 
 // The digit at a place of a line: 0 or 1, or 2 where the line has ended.
 #[no_mangle]
 pub extern "C" fn spritbobbin_line_digit(line: &[u8], place: u64) -> u64
-    ensures { λ r. ⌜ r ≡ digitOrEnd (stepOf (now (line .entry)) place) ⌝ }
+    ensures { λ r. ⌜ LineDigitMet (now (line .entry)) place r ⌝ }
 {
     line_reader::line_digit(line, place as usize)
 }

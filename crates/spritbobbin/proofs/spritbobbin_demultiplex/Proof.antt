@@ -9,17 +9,8 @@ use Rattle.spritbobbin.proofs.spritbobbin_demultiplex.Tie as tie
 demultiplex-requires : tie.Need-demultiplex-requires
 demultiplex-requires c κs = search needs
 
-array-read-t14 : tie.Need-array-read-t14
-array-read-t14 c = search needs
-
-array-read-t18 : tie.Need-array-read-t18
-array-read-t18 c = search needs
-
-array-read-t22 : tie.Need-array-read-t22
-array-read-t22 c = search needs
-
-array-read-t26 : tie.Need-array-read-t26
-array-read-t26 c = search needs
+received-numbers-requires : tie.Need-received-numbers-requires
+received-numbers-requires c κs = search needs
 
 same-length : tie.Need-same-length
 same-length c = search needs
@@ -29,18 +20,8 @@ same-length-2 c = search needs
 
 returns : tie.Need-returns
 returns c =
-    let e = c .before .before .before .before .before .before .demultiplex .ensures in
-    (ap (λ (m : Demultiplexed). m .refusal) (e .0), e .1, e .2, ap receivedAnswer (e .0))
+    let e = c .before .before .before .before .before .demultiplex .ensures in
+    (ap (λ (m : Demultiplexed). m .refusal) (e .0), e .1, e .2, c .received-numbers .ensures ∙ ap receivedAnswer (e .0))
 
 pub spritbobbin-demultiplex-spec : {M : Type 1} → statement M
-spritbobbin-demultiplex-spec =
-    tie.close
-    (tie.spec
-    demultiplex-requires
-    array-read-t14
-    array-read-t18
-    array-read-t22
-    array-read-t26
-    same-length
-    same-length-2
-    returns)
+spritbobbin-demultiplex-spec = tie.close (tie.spec demultiplex-requires received-numbers-requires same-length same-length-2 returns)

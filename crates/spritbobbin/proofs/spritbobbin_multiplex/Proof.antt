@@ -9,34 +9,16 @@ use Rattle.spritbobbin.proofs.spritbobbin_multiplex.Tie as tie
 multiplex-requires : tie.Need-multiplex-requires
 multiplex-requires c κs = search needs
 
-array-read-t12 : tie.Need-array-read-t12
-array-read-t12 c = search needs
-
-array-read-t16 : tie.Need-array-read-t16
-array-read-t16 c = search needs
-
-array-read-t20 : tie.Need-array-read-t20
-array-read-t20 c = search needs
-
-array-read-t24 : tie.Need-array-read-t24
-array-read-t24 c = search needs
+sent-numbers-requires : tie.Need-sent-numbers-requires
+sent-numbers-requires c κs = search needs
 
 same-length : tie.Need-same-length
 same-length c = search needs
 
 returns : tie.Need-returns
 returns c =
-    let e = c .before .before .before .before .multiplex .ensures in
-    (ap (λ (m : Multiplexed). m .refusal) (e .0), e .1, ap sentAnswer (e .0))
+    let e = c .before .before .before .multiplex .ensures in
+    (ap (λ (m : Multiplexed). m .refusal) (e .0), e .1, c .sent-numbers .ensures ∙ ap sentAnswer (e .0))
 
 pub spritbobbin-multiplex-spec : {M : Type 1} → statement M
-spritbobbin-multiplex-spec =
-    tie.close
-    (tie.spec
-    multiplex-requires
-    array-read-t12
-    array-read-t16
-    array-read-t20
-    array-read-t24
-    same-length
-    returns)
+spritbobbin-multiplex-spec = tie.close (tie.spec multiplex-requires sent-numbers-requires same-length returns)

@@ -42,7 +42,7 @@ returns-2 : tie.Need-returns-2
 returns-2 c =
     let m = c .before .before .before .before .before .before .before .before .before .before .before .mode-of .ensures in
     let e = c .before .before .before .before .before .before .feed .ensures in
-    rw (← m, ← e, eq-eqb _ _ (c .before .before .before .if1 .left)) (sym (c .before .before .before .if1 .left), c .before .numbers-of .ensures, refl, c .before .before .before .before .before .fed-numbers .ensures)
+    rw (← m, ← e, eq-eqb _ _ (c .before .before .before .if1 .left)) (refl, c .before .numbers-of .ensures, refl, c .before .before .before .before .before .fed-numbers .ensures)
 
 pub spritbobbin-receiver-feed-spec : {M : Type 1} → statement M
 spritbobbin-receiver-feed-spec =

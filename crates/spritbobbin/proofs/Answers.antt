@@ -1,0 +1,82 @@
+-- The statements of the calls guard the calls. Each leaves no second answer: whatever meets it on the same input has returned the same
+-- number and left the same bytes (`..-one-answer`). And each is what its call ensures, whole (`..-met`): a call whose contract said less
+-- would not be proved. Nor does a call ask anything of its caller (`..-asks-nothing`).
+use mathlib.Core.Path.{_≡_}
+use mathlib.Core.List.{List}
+use Prim.Native.Nat.{ℕ}
+use contract.Lifetimes.{Lfts}
+use denote.Ref.{now}
+use denote.Triple.Clauses.{AtExit}
+use borrow.Fn.World.{ArgsD, ResD}
+use Rattle.spritbobbin.specs.Face.{MultiplexMet, DemultiplexMet, FreshMet, FeedMet, LineDigitMet}
+use Rattle.spritbobbin.proofs.spritbobbin_multiplex as multiplex
+use Rattle.spritbobbin.proofs.spritbobbin_multiplex.Reads as multiplex-reads
+use Rattle.spritbobbin.proofs.spritbobbin_demultiplex as demultiplex
+use Rattle.spritbobbin.proofs.spritbobbin_demultiplex.Reads as demultiplex-reads
+use Rattle.spritbobbin.proofs.spritbobbin_receiver_fresh as fresh
+use Rattle.spritbobbin.proofs.spritbobbin_receiver_fresh.Reads as fresh-reads
+use Rattle.spritbobbin.proofs.spritbobbin_receiver_feed as feed
+use Rattle.spritbobbin.proofs.spritbobbin_receiver_feed.Reads as feed-reads
+use Rattle.spritbobbin.proofs.spritbobbin_line_digit as line-digit
+use Rattle.spritbobbin.proofs.spritbobbin_line_digit.Reads as line-digit-reads
+
+-- ---- no second answer
+
+pub multiplex-one-answer : (level : ℕ) (line notes buffer : List ℕ) (r s : ℕ) (l m a b : List ℕ)
+    → MultiplexMet level line notes buffer r l a → MultiplexMet level line notes buffer s m b → (r ≡ s) × (l ≡ m) × (a ≡ b)
+multiplex-one-answer level line notes buffer r s l m a b x y = (cc, cc, cc)
+
+pub demultiplex-one-answer : (level : ℕ) (line notes buffer : List ℕ) (r s : ℕ) (n m c d a b : List ℕ)
+    → DemultiplexMet level line notes buffer r n c a → DemultiplexMet level line notes buffer s m d b → (r ≡ s) × (n ≡ m) × (c ≡ d) × (a ≡ b)
+demultiplex-one-answer level line notes buffer r s n m c d a b x y = (cc, cc, cc, cc)
+
+pub fresh-one-answer : (level r s : ℕ) (t u f g : List ℕ) → FreshMet level r t f → FreshMet level s u g → (r ≡ s) × (t ≡ u) × (f ≡ g)
+fresh-one-answer level r s t u f g x y = (cc, cc, cc)
+
+pub feed-one-answer : (state frame piece : List ℕ) (first count r s : ℕ) (t u f g a b : List ℕ)
+    → FeedMet state frame piece first count r t f a → FeedMet state frame piece first count s u g b → (r ≡ s) × (t ≡ u) × (f ≡ g) × (a ≡ b)
+feed-one-answer state frame piece first count r s t u f g a b x y = (cc, cc, cc, cc)
+
+pub line-digit-one-answer : (line : List ℕ) (place r s : ℕ) → LineDigitMet line place r → LineDigitMet line place s → r ≡ s
+line-digit-one-answer line place r s x y = cc
+
+-- ---- what each call ensures is its statement; a : what it is given, r : what it returns, e : what it leaves
+
+pub multiplex-met : (κs : Lfts 4) (a : ArgsD multiplex.signature κs) (r : ResD multiplex.signature κs) (e : AtExit multiplex.ended κs)
+    → multiplex-reads.Learnt κs a r e
+    → MultiplexMet (a .0) (now (a .1 .0)) (now (a .1 .1 .0)) (now (a .1 .1 .1 .0)) r (now (e .1 .0)) (now (e .1 .1 .1 .1 .0))
+multiplex-met κs a r e met = met
+
+pub demultiplex-met : (κs : Lfts 4) (a : ArgsD demultiplex.signature κs) (r : ResD demultiplex.signature κs) (e : AtExit demultiplex.ended κs)
+    → demultiplex-reads.Learnt κs a r e
+    → DemultiplexMet (a .0) (now (a .1 .0)) (now (a .1 .1 .0)) (now (a .1 .1 .1 .0)) r (now (e .1 .1 .0)) (now (e .1 .1 .1 .0)) (now (e .1 .1 .1 .1 .0))
+demultiplex-met κs a r e met = met
+
+pub fresh-met : (κs : Lfts 2) (a : ArgsD fresh.signature κs) (r : ResD fresh.signature κs) (e : AtExit fresh.ended κs) → fresh-reads.Learnt κs a r e
+    → FreshMet (a .0) r (now (e .1 .0)) (now (e .1 .1 .0))
+fresh-met κs a r e met = met
+
+pub feed-met : (κs : Lfts 4) (a : ArgsD feed.signature κs) (r : ResD feed.signature κs) (e : AtExit feed.ended κs) → feed-reads.Learnt κs a r e
+    → FeedMet (now (a .0)) (now (a .1 .0)) (now (a .1 .1 .0)) (a .1 .1 .1 .0) (a .1 .1 .1 .1 .0) r (now (e .0)) (now (e .1 .0)) (now (e .1 .1 .1 .1 .1 .0))
+feed-met κs a r e met = met
+
+pub line-digit-met : (κs : Lfts 1) (a : ArgsD line-digit.signature κs) (r : ResD line-digit.signature κs) (e : AtExit line-digit.ended κs)
+    → line-digit-reads.Learnt κs a r e → LineDigitMet (now (a .0)) (a .1 .0) r
+line-digit-met κs a r e met = met
+
+-- ---- no call asks anything of its caller
+
+pub multiplex-asks-nothing : (κs : Lfts 4) (a : ArgsD multiplex.signature κs) → multiplex-reads.Asked κs a
+multiplex-asks-nothing κs a = tt
+
+pub demultiplex-asks-nothing : (κs : Lfts 4) (a : ArgsD demultiplex.signature κs) → demultiplex-reads.Asked κs a
+demultiplex-asks-nothing κs a = tt
+
+pub fresh-asks-nothing : (κs : Lfts 2) (a : ArgsD fresh.signature κs) → fresh-reads.Asked κs a
+fresh-asks-nothing κs a = tt
+
+pub feed-asks-nothing : (κs : Lfts 4) (a : ArgsD feed.signature κs) → feed-reads.Asked κs a
+feed-asks-nothing κs a = tt
+
+pub line-digit-asks-nothing : (κs : Lfts 1) (a : ArgsD line-digit.signature κs) → line-digit-reads.Asked κs a
+line-digit-asks-nothing κs a = tt
