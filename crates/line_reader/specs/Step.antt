@@ -1,6 +1,7 @@
 -- What a step over a line gives. Document 01: "A step gives the next digit and moves on by one, or says that the line has
 -- ended and moves nothing, as it does at any place past the last digit (eight times the line's bytes or more) and for any
 -- line over 65,536 bytes." The digits of a line are those of crate digits.
+use mathlib.Core.Path.{_≡_}
 use mathlib.Core.Bool.{Bool, cond, true, false, _||_}
 use mathlib.Core.List.{List}
 use Prim.Native.Nat.{ℕ, _+_, _*_}
@@ -42,3 +43,21 @@ movedOn r = readerAt (r .line) (nextOf r .place)
 
 abbrev pub digitOrEnd : Step → ℕ
 digitOrEnd s = cond (s .ended) 2 (s .digit)
+
+-- ---- the whole statement of each function: what it is given, what it answers, and the reader that it leaves
+
+-- step_at: the step from a place of a line
+abbrev pub StepMet : List ℕ → ℕ → Step → Type 0
+StepMet line place step = step ≡ stepOf line place
+
+-- new: a reader that holds the very line that was lent
+abbrev pub NewMet : RefT (List ℕ) → ℕ → LineReader → Type 0
+NewMet line place reader = reader ≡ readerAt line place
+
+-- next: the step, and the reader as it is left
+abbrev pub NextMet : LineReader → Step → LineReader → Type 0
+NextMet reader step left = (step ≡ nextOf reader) × (left ≡ movedOn reader)
+
+-- line_digit: the digit, or 2 where the line has ended
+abbrev pub DigitMet : List ℕ → ℕ → ℕ → Type 0
+DigitMet line place digit = digit ≡ digitOrEnd (stepOf line place)
