@@ -18,7 +18,7 @@ use Rattle.levels.specs.Table.{Shared}
 use Rattle.receiver.specs.Frame.{written, holding, begun, put, onesFrom}
 use Rattle.receiver.proofs.Written.{written-length, written-split, written-shift, written-mod}
 
--- all that the receiver asks of the word's length: two digits. With one, the last digit of a frame would be the word after it
+-- all that the receiver asks of the word's length: two digits, so that another one comes after a frame's last before a word is judged
 pub word-some : (row : Row) → Shared row → 2 ≤ row .len
 word-some row sh =
     elim (ℕ-discrete (row .len) 10) [
