@@ -1,4 +1,5 @@
--- The two calls and their whole statements (specs/Feed.antt): each leaves no second answer, and what the function ensures is it.
+-- The two calls and their whole statements (specs/Feed.antt): each leaves no second answer, what the function
+-- ensures is that statement, and it asks nothing of its caller.
 use mathlib.Core.Path.{_≡_, sym, _∙_}
 use mathlib.Core.List.{List}
 use Prim.Native.Nat.{ℕ}
@@ -24,6 +25,9 @@ pub fresh-met : (κs : Lfts 0) (a : ArgsD fresh.signature κs) (r : ResD fresh.s
     → fresh-reads.Learnt κs a r e → FreshMet (a .0) r
 fresh-met κs a r e met = met
 
+pub fresh-asks-nothing : (κs : Lfts 0) (a : ArgsD fresh.signature κs) → fresh-reads.Asked κs a
+fresh-asks-nothing κs a = tt
+
 -- ---- a piece
 
 pub feed-one-answer : (s : State) (slice : List ℕ) (first count : ℕ) (a b : Fed)
@@ -33,3 +37,6 @@ feed-one-answer s slice first count a b x y = x ∙ sym y
 pub feed-met : (κs : Lfts 1) (a : ArgsD feed.signature κs) (r : ResD feed.signature κs) (e : AtExit feed.ended κs)
     → feed-reads.Learnt κs a r e → FeedMet (a .0) (now (a .1 .0)) (a .1 .1 .0) (a .1 .1 .1 .0) r
 feed-met κs a r e met = met
+
+pub feed-asks-nothing : (κs : Lfts 1) (a : ArgsD feed.signature κs) → feed-reads.Asked κs a
+feed-asks-nothing κs a = tt

@@ -18,15 +18,7 @@ use Rattle.levels.specs.Table.{Shared}
 use Rattle.receiver.specs.Frame.{written, holding, begun, put, onesFrom}
 use Rattle.receiver.proofs.Written.{written-length, written-split, written-shift, written-mod}
 
--- all that the receiver asks of the word's length: two digits, so that another one comes after a frame's last before a word is judged
-pub word-some : (row : Row) → Shared row → 2 ≤ row .len
-word-some row sh =
-    elim (ℕ-discrete (row .len) 10) [
-      | yes e ↦ omega arith
-      | no n ↦ omega (arith, sh .twelve n .0)
-    ]
-
--- and that a frame has room for it
+-- a frame has room for its word: with `Shared`'s `word-some`, that the word has two digits, all that the receiver asks of its length
 pub word-within : (row : Row) → Shared row → row .len ≤ row .digits
 word-within row sh = omega (arith, sh .counted)
 

@@ -16,7 +16,7 @@ use Rattle.receiver.specs.Modes.{seenOf, asks}
 use Rattle.receiver.specs.Frame.{aligned, readyOf}
 use Rattle.receiver.specs.Feed.{coreOf, afterOf}
 use Rattle.receiver.specs.History.{heard, readyAfter, Missed}
-use Rattle.receiver.proofs.Holding.{word-some, word-within}
+use Rattle.receiver.proofs.Holding.{word-within}
 use Rattle.receiver.proofs.Validity.{and-asked}
 use Rattle.receiver.proofs.Alignment.{after-on, after-turn, asked-at, up-one, frame-ready, missed-on, missed-out, not-before}
 use Rattle.receiver.proofs.Traces.{aligned-held}
@@ -60,11 +60,11 @@ module _ (row : Row) (sh : Shared row) where
       }
     where
       some : 0 < row .digits
-      some = omega (arith, word-some row sh, word-within row sh)
+      some = omega (arith, sh .word-some, word-within row sh)
 
       -- a word's frame is ready where the mode is aligned at the word
       whole : (m : ℕ) (s : State) → s .mode ≡ Aligned m → s .place ≡ 0 → (es : List ℕ) → length es ≡ row .digits - row .len → readyAfter row s es ≡ true
-      whole m s e z es l = frame-ready row s (rw e) z es (omega (arith, word-some row sh, word-within row sh)) ∙ rw (e, eq-eqb (length es) (row .digits - row .len) l)
+      whole m s e z es l = frame-ready row s (rw e) z es (omega (arith, sh .word-some, word-within row sh)) ∙ rw (e, eq-eqb (length es) (row .digits - row .len) l)
 
       none : (s : State) → s .mode ≡ Hunting → (es : List ℕ) → length es ≤ row .digits + row .digits + (row .digits - row .len) → readyAfter row s es ≡ false
       none s h es short = by-ready (readyAfter row s es) refl
@@ -96,7 +96,7 @@ module _ (row : Row) (sh : Shared row) where
     not-asked q = by-asked (asks row (seenOf row (s .seen)) (s .mode) (s .place)) refl
       where
         over : s .place + 1 ≡ row .digits → ⊥
-        over e = omega (arith, early q, word-some row sh, word-within row sh)
+        over e = omega (arith, early q, sh .word-some, word-within row sh)
 
         by-asked : (b : Bool) → asks row (seenOf row (s .seen)) (s .mode) (s .place) ≡ b → b ≡ false
         by-asked true e = absurd (over (asked-at row (seenOf row (s .seen)) (s .mode) (s .place) e (aligned-held (s .mode) q)))

@@ -21,7 +21,7 @@ use Rattle.receiver.specs.Frame.{written, holding, begun, put, keepOf, a
 use Rattle.receiver.specs.Feed.{coreOf, freshState, afterOf, Valid}
 use Rattle.receiver.specs.History.{heard, since, lastOf, Handed}
 use Rattle.receiver.proofs.Written.{written-zero, written-more}
-use Rattle.receiver.proofs.Holding.{word-some, word-within, binary-append, holding-digits, holding-length}
+use Rattle.receiver.proofs.Holding.{word-within, binary-append, holding-digits, holding-length}
 use Rattle.receiver.proofs.Validity.{cond-told, and-both, step-valid, asked-came}
 use Rattle.receiver.proofs.Lasts.{last-length, last-binary, last-more, last-less, last-zeros}
 
@@ -96,7 +96,7 @@ module _ (row : Row) (sh : Shared row) where
           window = omega (arith, sh .word-fits);
           seen = omega arith;
           missed = omega arith;
-          place = omega (arith, word-some row sh, word-within row sh);
+          place = omega (arith, sh .word-some, word-within row sh);
           rests = λ _. refl;
           came = λ e. absurd (true≢false e);
         };
@@ -123,7 +123,7 @@ module _ (row : Row) (sh : Shared row) where
     unfolding windowOf
     window-more =
         let zeros = replicate {A = ℕ} (row .len) 0 in
-        let e : row .len ≡ suc (row .len - 1) = omega (arith, word-some row sh) in
+        let e : row .len ≡ suc (row .len - 1) = omega (arith, sh .word-some) in
         let room : row .len ≤ length (zeros ++ ds) = omega (arith, length-append zeros ds, length-replicate {A = ℕ} (row .len) 0) in
         window-shift (row .len) (row .len - 1) (s .window) d (zeros ++ ds) e h room (t .window) ∙ rw (append-assoc zeros ds (d ∷ []))
 
@@ -171,7 +171,7 @@ module _ (row : Row) (sh : Shared row) where
 
         room : p + 1 ≤ row .digits - row .len → Held row more (p + 1) (put f (row .len - 1 + (p + 1)) d)
         room fits =
-            let place : row .len - 1 + (p + 1) ≡ length old = omega (arith, word-some row sh, old-length) in
+            let place : row .len - 1 + (p + 1) ≡ length old = omega (arith, sh .word-some, old-length) in
             let before : take (row .digits) old ≡ old = take-all (row .digits) old (omega (arith, old-length)) in
             let after : take (row .digits) (old ++ (d ∷ [])) ≡ old ++ (d ∷ []) =
             take-all (row .digits) (old ++ (d ∷ [])) (omega (arith, old-length, length-append old (d ∷ []))) in
