@@ -80,7 +80,12 @@ fn split_by(v: Vote) -> usize
 // What the control group of tributary j (from 0) in frame f says: 1 where the tributary is stuffed, and 1 where the group is not unanimous.
 fn read_group(row: Row, line: &[u8], f: usize, j: usize) -> Noted
     requires { ⌜ Shared row × (j < 4) × (length (now line) ≤ 65536) × ((f + 1) * row .bytes ≤ length (now line)) ⌝ }
-    ensures { λ r. ⌜ (r .note ≡ bitOf (voteAt row (digitsOf (now (line .entry))) f j .stuffed)) × (r .split ≡ splitBy (voteAt row (digitsOf (now (line .entry))) f j)) × (r .note < 2) × (r .split < 2) ⌝ }
+    ensures { λ r. ⌜
+        (r .note ≡ bitOf (voteAt row (digitsOf (now (line .entry))) f j .stuffed))
+        × (r .split ≡ splitBy (voteAt row (digitsOf (now (line .entry))) f j))
+        × (r .note < 2)
+        × (r .split < 2)
+        ⌝ }
 {
     let first = FramePlace(f * row.digits + (row.set + j));
     let v = vote::group_vote(line, first, row.set, row.control);
@@ -122,7 +127,11 @@ fn read_note(row: Row, line: &[u8], f: usize) -> Noted
 // Reads the notes of a line, and counts the wrong alignment digits and the groups that were not unanimous.
 fn read_notes(row: Row, line: &[u8], notes: &mut [u8]) -> Errors
     requires { ⌜ Shared row × (length (now line) ≡ length (now notes) * row .bytes) × (length (now notes) ≤ 64) ⌝ }
-    ensures { λ r. ⌜ (now (notes .exit) ≡ notesOf row (digitsOf (now (line .entry))) (length (now (notes .entry)))) × (r .alignment ≡ alignmentTo row (digitsOf (now (line .entry))) (length (now (notes .entry)))) × (r .groups ≡ splitTo row (digitsOf (now (line .entry))) (length (now (notes .entry)))) ⌝ }
+    ensures { λ r. ⌜
+        (now (notes .exit) ≡ notesOf row (digitsOf (now (line .entry))) (length (now (notes .entry))))
+        × (r .alignment ≡ alignmentTo row (digitsOf (now (line .entry))) (length (now (notes .entry))))
+        × (r .groups ≡ splitTo row (digitsOf (now (line .entry))) (length (now (notes .entry))))
+        ⌝ }
 {
     let mut alignment: usize = 0;
     let mut groups: usize = 0;
@@ -159,7 +168,12 @@ fn take_one(
     i: TributaryPlace,
     st: bool,
 ) -> TributaryPlace
-    requires { ⌜ Shared row × (p .0 < 8 * length (now line)) × (i .0 < 65536) × (carried (kindOf row (at .set) (at .place)) st ≡ true → i .0 < 8 * length (now dst)) ⌝ }
+    requires { ⌜
+        Shared row
+        × (p .0 < 8 * length (now line))
+        × (i .0 < 65536)
+        × (carried (kindOf row (at .set) (at .place)) st ≡ true → i .0 < 8 * length (now dst))
+        ⌝ }
     ensures { λ r. ⌜ Taken row at (digitsOf (now (line .entry))) (p .0) (i .0) st (r .0) (now (dst .entry)) (now (dst .exit)) ⌝ }
 {
     let kind = places::kind_of(row, at);
@@ -174,7 +188,10 @@ fn take_one(
 // Extracts tributary j (from 0) of a line by the notes: its digits, then zeros. Looks at no control digit. Answers how many digits came.
 fn extract(row: Row, line: &[u8], notes: &[u8], dst: &mut [u8], j: usize) -> usize
     requires { ⌜ (j < 4) × Fits row (length (now line)) (length (now notes)) (length (now dst)) ⌝ }
-    ensures { λ r. ⌜ (r ≡ before row (decisions (now (notes .entry)) j) j (2 * length (now (line .entry)))) × (now (dst .exit) ≡ quarterFrom row (now (notes .entry)) (now (line .entry)) (length (now (dst .entry))) j) ⌝ }
+    ensures { λ r. ⌜
+        (r ≡ before row (decisions (now (notes .entry)) j) j (2 * length (now (line .entry))))
+        × (now (dst .exit) ≡ quarterFrom row (now (notes .entry)) (now (line .entry)) (length (now (dst .entry))) j)
+        ⌝ }
 {
     clear(dst);
     let n = 2 * line.len();
@@ -200,7 +217,10 @@ fn extract(row: Row, line: &[u8], notes: &[u8], dst: &mut [u8], j: usize) -> usi
 // The four extractions, each into its quarter of the buffer.
 fn extract_all(row: Row, line: &[u8], notes: &[u8], buffer: &mut [u8]) -> [usize; 4]
     requires { ⌜ Shared row × Accepted row (length (now line)) (length (now notes)) (length (now buffer)) ⌝ }
-    ensures { λ r. ⌜ (r ≡ countsOf row (now (notes .entry)) (length (now (notes .entry)))) × (now (buffer .exit) ≡ quartersFrom row (now (notes .entry)) (now (line .entry)) (length (now (buffer .entry)) / 4)) ⌝ }
+    ensures { λ r. ⌜
+        (r ≡ countsOf row (now (notes .entry)) (length (now (notes .entry))))
+        × (now (buffer .exit) ≡ quartersFrom row (now (notes .entry)) (now (line .entry)) (length (now (buffer .entry)) / 4))
+        ⌝ }
 {
     let q = buffer.len() / 4;
     let mut counts = [0usize; 4];
@@ -217,7 +237,11 @@ fn extract_all(row: Row, line: &[u8], notes: &[u8], buffer: &mut [u8]) -> [usize
 // A level's row is known: the lengths are judged, the notes are read, and the tributaries are extracted by them.
 fn demultiplex_on(row: Row, line: &[u8], notes: &mut [u8], buffer: &mut [u8]) -> Demultiplexed
     requires { ⌜ Shared row ⌝ }
-    ensures { λ r. ⌜ (r ≡ answerOn row (now (line .entry)) (length (now (notes .entry))) (length (now (buffer .entry)))) × (now (notes .exit) ≡ notesOn row (now (line .entry)) (now (notes .entry)) (length (now (buffer .entry)))) × (now (buffer .exit) ≡ bufferOn row (now (line .entry)) (length (now (notes .entry))) (now (buffer .entry))) ⌝ }
+    ensures { λ r. ⌜
+        (r ≡ answerOn row (now (line .entry)) (length (now (notes .entry))) (length (now (buffer .entry))))
+        × (now (notes .exit) ≡ notesOn row (now (line .entry)) (now (notes .entry)) (length (now (buffer .entry))))
+        × (now (buffer .exit) ≡ bufferOn row (now (line .entry)) (length (now (notes .entry))) (now (buffer .entry)))
+        ⌝ }
 {
     let no = sizes::size_refusal(row, line.len(), notes.len(), buffer.len());
     if no != 0 {

@@ -106,7 +106,13 @@ fn put_one(
     note: u8,
     j: usize,
 ) -> TributaryPlace
-    requires { ⌜ Shared row × (p .0 < 8 * length (now line)) × (j < 4) × (i .0 < 65536) × (carried (kindOf row (at .set) (at .place)) (stuffed note j) ≡ true → i .0 < 8 * length (now src)) ⌝ }
+    requires { ⌜
+        Shared row
+        × (p .0 < 8 * length (now line))
+        × (j < 4)
+        × (i .0 < 65536)
+        × (carried (kindOf row (at .set) (at .place)) (stuffed note j) ≡ true → i .0 < 8 * length (now src))
+        ⌝ }
     ensures { λ r. ⌜ Put row at (now (line .entry)) (p .0) (digitsOf (now (src .entry))) (i .0) note j (r .0) (now (line .exit)) ⌝ }
 {
     let kind = places::kind_of(row, at);
@@ -188,7 +194,10 @@ fn fill_all(row: Row, line: &mut [u8], notes: &[u8], buffer: &[u8]) -> [usize; 4
 // A level's row is known: the lengths and the notes are judged, and the line is written.
 fn multiplex_on(row: Row, line: &mut [u8], notes: &[u8], buffer: &[u8]) -> Multiplexed
     requires { ⌜ Shared row ⌝ }
-    ensures { λ r. ⌜ (r ≡ answerOn row (length (now (line .entry))) (now (notes .entry)) (length (now (buffer .entry)))) × (now (line .exit) ≡ lineOn row (now (line .entry)) (now (notes .entry)) (now (buffer .entry))) ⌝ }
+    ensures { λ r. ⌜
+        (r ≡ answerOn row (length (now (line .entry))) (now (notes .entry)) (length (now (buffer .entry))))
+        × (now (line .exit) ≡ lineOn row (now (line .entry)) (now (notes .entry)) (now (buffer .entry)))
+        ⌝ }
 {
     let no = sizes::size_refusal(row, line.len(), notes.len(), buffer.len());
     if no != 0 {

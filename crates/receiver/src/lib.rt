@@ -11,7 +11,8 @@ ghost use mathlib.Core.Path.{_≡_};
 ghost use Prim.Native.Nat.{_+_, _*_, _-_, _<_, _≤_};
 ghost use lib.ListN.{length};
 ghost use Rattle.levels.specs.Table.{Shared};
-ghost use Rattle.receiver.specs.Feed.{Valid, coreOf, stateOf, pieceOf, invalid, refusalOf, refused, accepted, runOf, feedRow, freshState, FreshMet, FeedMet};
+ghost use Rattle.receiver.specs.Feed.{Valid, coreOf, stateOf, pieceOf, invalid, refusalOf, refused};
+ghost use Rattle.receiver.specs.Feed.{accepted, runOf, feedRow, freshState, FreshMet, FeedMet};
 
 pub enum Mode {
     Hunting,

@@ -3,7 +3,8 @@
 use levels::table::Row;
 ghost use Prim.Native.Nat.{_≤_};
 ghost use Rattle.levels.specs.Table.{Shared};
-ghost use Rattle.recordings.specs.Sizes.{longest, LeastMet, FramesInMet, FrameBytesMet, TributaryDigitsMet, QuarterBytesMet, QuarterStartMet, BytesWantedMet, PlusMet, MinusMet};
+ghost use Rattle.recordings.specs.Sizes.{longest, LeastMet, FramesInMet, FrameBytesMet, TributaryDigitsMet};
+ghost use Rattle.recordings.specs.Sizes.{QuarterBytesMet, QuarterStartMet, BytesWantedMet, PlusMet, MinusMet};
 
 // The longest file, in bytes.
 pub const MOST: usize = 1099511627776;

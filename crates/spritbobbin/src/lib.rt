@@ -7,7 +7,8 @@ use receiver::Mode;
 use receiver::State;
 ghost use mathlib.Core.Path.{_≡_};
 ghost use mathlib.Core.Bool.{cond};
-ghost use Rattle.spritbobbin.specs.Face.{sentAnswer, receivedAnswer, modeNumber, modeOf, stateNumbers, fedAnswer, MultiplexMet, DemultiplexMet, FreshMet, FeedMet, LineDigitMet};
+ghost use Rattle.spritbobbin.specs.Face.{sentAnswer, receivedAnswer, modeNumber, modeOf, stateNumbers, fedAnswer};
+ghost use Rattle.spritbobbin.specs.Face.{MultiplexMet, DemultiplexMet, FreshMet, FeedMet, LineDigitMet};
 
 // An answer as the numbers of the array that C lends for it.
 fn sent_numbers(m: Multiplexed) -> [u64; 5]
@@ -63,7 +64,9 @@ pub extern "C" fn spritbobbin_demultiplex(
     buffer: &mut [u8],
     answer: &mut [u64; 7],
 ) -> u64
-    ensures { λ r. ⌜ DemultiplexMet level (now (line .entry)) (now (notes .entry)) (now (buffer .entry)) r (now (notes .exit)) (now (buffer .exit)) (now (answer .exit)) ⌝ }
+    ensures { λ r. ⌜
+        DemultiplexMet level (now (line .entry)) (now (notes .entry)) (now (buffer .entry)) r (now (notes .exit)) (now (buffer .exit)) (now (answer .exit))
+        ⌝ }
 {
     let received = demultiplex::demultiplex(level, line, notes, buffer);
     *answer = received_numbers(received);
@@ -154,7 +157,9 @@ pub extern "C" fn spritbobbin_receiver_feed(
     count: u64,
     answer: &mut [u64; 3],
 ) -> u64
-    ensures { λ r. ⌜ FeedMet (now (state .entry)) (now (frame .entry)) (now (piece .entry)) first count r (now (state .exit)) (now (frame .exit)) (now (answer .exit)) ⌝ }
+    ensures { λ r. ⌜
+        FeedMet (now (state .entry)) (now (frame .entry)) (now (piece .entry)) first count r (now (state .exit)) (now (frame .exit)) (now (answer .exit))
+        ⌝ }
 {
     let held = *frame;
     let mode = mode_of(state[3]);

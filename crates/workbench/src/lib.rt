@@ -16,7 +16,8 @@ ghost use lib.ListN.{length};
 ghost use Rattle.digits.specs.Digits.{digitsOf};
 ghost use Rattle.levels.specs.Table.{Shared, levelOf};
 ghost use Rattle.levels.specs.Sizes.{onLevel};
-ghost use Rattle.workbench.specs.Bench.{isControl, mixed, mixedLine, LateLineMet, decidedBy, DelayMet, nextNumber, eightDigits, ScatterMet, differences, FirstWrong, Comparison, quarterNamed, QuartersCompared};
+ghost use Rattle.workbench.specs.Bench.{isControl, mixed, mixedLine, LateLineMet, decidedBy, DelayMet, nextNumber};
+ghost use Rattle.workbench.specs.Bench.{eightDigits, ScatterMet, differences, FirstWrong, Comparison, quarterNamed, QuartersCompared};
 
 // Two runs of digits: how many are right before the first wrong one, which is its number from 0, and how many are wrong in all.
 pub struct Compared {
@@ -40,7 +41,11 @@ fn right_digits(a: &[u8], b: &[u8], count: usize) -> usize
 
 // 1 where digit i differs.
 fn wrong_at(a: &[u8], b: &[u8], i: usize) -> usize
-    ensures { λ r. ⌜ (differences (digitsOf (now (a .entry))) (digitsOf (now (b .entry))) (i + 1) ≡ differences (digitsOf (now (a .entry))) (digitsOf (now (b .entry))) i + r) × (r < 2) ⌝ }
+    ensures { λ r. ⌜
+        (differences (digitsOf (now (a .entry))) (digitsOf (now (b .entry))) (i + 1)
+        ≡ differences (digitsOf (now (a .entry))) (digitsOf (now (b .entry))) i + r)
+        × (r < 2)
+        ⌝ }
 {
     if digit_or_zero(a, i) == digit_or_zero(b, i) {
         return 0;
@@ -159,7 +164,10 @@ pub fn late_line(
     late: &[u8],
     buffer: &[u8],
 ) -> Multiplexed
-    ensures { λ r. ⌜ LateLineMet level (now (line .entry)) (now (said .entry)) (now (notes .entry)) (now (late .entry)) (now (buffer .entry)) r (now (said .exit)) (now (line .exit)) ⌝ }
+    ensures { λ r. ⌜
+        LateLineMet level (now (line .entry)) (now (said .entry)) (now (notes .entry)) (now (late .entry)) (now (buffer .entry))
+        r (now (said .exit)) (now (line .exit))
+        ⌝ }
 {
     multiplex::multiplex(level, said, notes, buffer);
     let r = multiplex::multiplex(level, line, late, buffer);

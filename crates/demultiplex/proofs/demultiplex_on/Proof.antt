@@ -9,12 +9,6 @@ use Rattle.demultiplex.proofs.Parts.{read-and-extracted}
 use Rattle.demultiplex.proofs.demultiplex_on.Statement.{statement}
 use Rattle.demultiplex.proofs.demultiplex_on.Tie as tie
 
-size-refusal-requires : tie.Need-size-refusal-requires
-size-refusal-requires c κs = search needs
-
-refused-requires : tie.Need-refused-requires
-refused-requires c κs = search needs
-
 returns : tie.Need-returns
 returns c =
     let size = c .before .before .size-refusal in
@@ -34,12 +28,6 @@ extract-all-requires c κs =
     let same : length (c .before .before .before .before .read-notes .last .1 .1 .0) ≡ length (a .notes .now) = omega arith in
     (b .pre, rw same (accepted (a .row) (length (a .line .now)) (length (a .notes .now)) (length (a .buffer .now)) (sym (c .before .before .before .before .before .before .before .size-refusal .ensures) ∙ c .before .before .before .before .before .before .if1 .left)))
 
-same-length : tie.Need-same-length
-same-length c = search needs
-
-same-length-2 : tie.Need-same-length-2
-same-length-2 c = search needs
-
 returns-2 : tie.Need-returns-2
 returns-2 c =
     let a = c .before .before .before .before .before .before .before .before .before .before .before .before .before .before .args in
@@ -50,4 +38,6 @@ returns-2 c =
 
 pub demultiplex-on-spec : {M : Type 1} → statement M
 demultiplex-on-spec =
-    tie.close (tie.spec size-refusal-requires refused-requires returns read-notes-requires extract-all-requires same-length same-length-2 returns-2)
+    tie.close
+    (tie.spec (λ c κs. search needs) (λ c κs. search needs) returns read-notes-requires extract-all-requires (λ c. search needs)
+    (λ c. search needs) returns-2)

@@ -15,12 +15,6 @@ Inv-loop row line notes dst₀ j n x₀ i₀ at₀ dst x i at = (x ≤ n) × Ext
 abbrev μ-loop : tie.MeasureT-loop
 μ-loop row line notes dst₀ j n x₀ i₀ at₀ dst x i at = n - x
 
-clear-requires : tie.Need-clear-requires Inv-loop μ-loop
-clear-requires c κs = search needs
-
-mul-n : tie.Need-mul-n Inv-loop μ-loop
-mul-n c = search needs
-
 loop-holds : tie.Need-loop-holds Inv-loop μ-loop
 loop-holds c =
     let clear = c .before .before .clear in
@@ -70,20 +64,5 @@ returns c =
 pub extract-spec : {M : Type 1} → statement M
 extract-spec =
     tie.close
-    (tie.spec
-    Inv-loop
-    μ-loop
-    clear-requires
-    mul-n
-    loop-holds
-    note-of-requires
-    is-stuffed-requires
-    mul-t19
-    add-t20
-    take-one-requires
-    next-column-requires
-    add-x
-    loop-less
-    loop-again
-    same-length
-    returns)
+    (tie.spec Inv-loop μ-loop (λ c κs. search needs) (λ c. search needs) loop-holds note-of-requires is-stuffed-requires mul-t19 add-t20
+    take-one-requires next-column-requires add-x loop-less loop-again same-length returns)

@@ -61,4 +61,5 @@ returns c = quarters-all (c .before .loop .inv .1) (omega arith)
 pub extract-all-spec : {M : Type 1} → statement M
 extract-all-spec =
     tie.close
-    (tie.spec Inv-loop μ-loop loop-holds mul-a add-e sub-extract part-extract-start part-extract-end extract-requires mul-counts array-write-counts add-j loop-less loop-again same-length returns)
+    (tie.spec Inv-loop μ-loop loop-holds mul-a add-e sub-extract part-extract-start part-extract-end extract-requires mul-counts
+    array-write-counts add-j loop-less loop-again same-length returns)

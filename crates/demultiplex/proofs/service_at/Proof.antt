@@ -11,9 +11,6 @@ use Rattle.demultiplex.proofs.service_at.Tie as tie
 mul-t7 : tie.Need-mul-t7
 mul-t7 c = omega (arith, frame-end _ (c .before .before .before .before .pre .0) (c .before .before .before .before .args .f) (length (c .before .before .before .before .args .line .now)) (c .before .before .before .before .pre .2))
 
-add-t8 : tie.Need-add-t8
-add-t8 c = search needs
-
 add-t9 : tie.Need-add-t9
 add-t9 c = omega (arith, service-inside _ (c .before .before .before .before .before .pre .0) (c .before .before .before .before .before .args .f) (length (c .before .before .before .before .before .args .line .now)) (c .before .before .before .before .before .pre .2) (c .before .before .before .before .before .args .k) (c .before .before .if1 .taken))
 
@@ -29,4 +26,4 @@ unfolding serviceAt
 returns-2 c = rw (lt-leb (c .before .before .before .args .k) (c .before .before .before .args .row .nationals) (c .if1 .left)) (omega arith)
 
 pub service-at-spec : {M : Type 1} → statement M
-service-at-spec = tie.close (tie.spec mul-t7 add-t8 add-t9 line-digit-requires returns returns-2)
+service-at-spec = tie.close (tie.spec mul-t7 (λ c. search needs) add-t9 line-digit-requires returns returns-2)

@@ -13,11 +13,5 @@ returns c =
     let s = c .before .before .args .s .now in
     (sym (List·getD-eq-default (digitsOf s) 0 (omega (arith, digits-length s))), omega arith)
 
-digit-at-requires : tie.Need-digit-at-requires
-digit-at-requires c κs = search needs
-
-returns-2 : tie.Need-returns-2
-returns-2 c = search needs
-
 pub digit-or-zero-spec : {M : Type 1} → statement M
-digit-or-zero-spec = tie.close (tie.spec returns digit-at-requires returns-2)
+digit-or-zero-spec = tie.close (tie.spec returns (λ c κs. search needs) (λ c. search needs))

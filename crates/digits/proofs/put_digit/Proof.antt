@@ -18,21 +18,6 @@ still-bytes bs i b h bytes byte j =
       | no n ↦ rw (getD-set-other bs i j b 0 n) (bytes j)
     ]
 
-slice-read-with-digit : tie.Need-slice-read-with-digit
-slice-read-with-digit c = search needs
-
-sub-with-digit : tie.Need-sub-with-digit
-sub-with-digit c = search needs
-
-with-digit-requires : tie.Need-with-digit-requires
-with-digit-requires c κs = search needs
-
-slice-write-s : tie.Need-slice-write-s
-slice-write-s c = search needs
-
-same-length : tie.Need-same-length
-same-length c = search needs
-
 returns : tie.Need-returns
 returns c =
     let b = c .before .before .before in
@@ -47,10 +32,4 @@ returns c =
 pub put-digit-spec : {M : Type 1} → statement M
 put-digit-spec =
     tie.close
-    (tie.spec
-    slice-read-with-digit
-    sub-with-digit
-    with-digit-requires
-    slice-write-s
-    same-length
-    returns)
+    (tie.spec (λ c. search needs) (λ c. search needs) (λ c κs. search needs) (λ c. search needs) (λ c. search needs) returns)

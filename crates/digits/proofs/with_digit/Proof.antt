@@ -30,26 +30,8 @@ module _ (b k d : ℕ) (h : k < 8) (bin : d < 2) where
   written =
       rw (shifted (b / 2 ^ k % 2) (omega arith), shifted d bin, add-mul (b / 2 ^ k / 2 * 2) d (2 ^ k)) (omega (arith, parts))
 
-cast-result : tie.Need-cast-result
-cast-result c = search needs
-
-shr-result : tie.Need-shr-result
-shr-result c = search needs
-
-cast-result-2 : tie.Need-cast-result-2
-cast-result-2 c = search needs
-
-shl-result : tie.Need-shl-result
-shl-result c = search needs
-
 sub-result : tie.Need-sub-result
 sub-result c = omega (arith, out (c .args .b) (c .args .k) (c .args .d) (c .pre .0) (c .pre .1))
-
-cast-result-3 : tie.Need-cast-result-3
-cast-result-3 c = search needs
-
-shl-result-2 : tie.Need-shl-result-2
-shl-result-2 c = search needs
 
 returns : tie.Need-returns
 returns c = written (c .args .b) (c .args .k) (c .args .d) (c .pre .0) (c .pre .1)
@@ -61,13 +43,5 @@ add-result c =
 pub with-digit-spec : {M : Type 1} → statement M
 with-digit-spec =
     tie.close
-    (tie.spec
-    cast-result
-    shr-result
-    cast-result-2
-    shl-result
-    sub-result
-    cast-result-3
-    shl-result-2
-    add-result
-    returns)
+    (tie.spec (λ c. search needs) (λ c. search needs) (λ c. search needs) (λ c. search needs) sub-result (λ c. search needs)
+    (λ c. search needs) add-result returns)

@@ -4,17 +4,11 @@ use borrow.Author.Needs.{needs}
 use Rattle.line_reader.proofs.line_digit.Statement.{statement}
 use Rattle.line_reader.proofs.line_digit.Tie as tie
 
-step-at-requires : tie.Need-step-at-requires
-step-at-requires c κs = search needs
-
 returns : tie.Need-returns
 returns c = rw (← c .before .step-at .ensures, c .if1 .taken)
-
-cast-result : tie.Need-cast-result
-cast-result c = search needs
 
 returns-2 : tie.Need-returns-2
 returns-2 c = rw (← c .before .before .step-at .ensures, c .before .if1 .left)
 
 pub line-digit-spec : {M : Type 1} → statement M
-line-digit-spec = tie.close (tie.spec step-at-requires returns cast-result returns-2)
+line-digit-spec = tie.close (tie.spec (λ c κs. search needs) returns (λ c. search needs) returns-2)

@@ -57,18 +57,5 @@ returns c = filling-end (c .before .loop .inv .2) (omega (arith, c .before .loop
 pub fill-spec : {M : Type 1} → statement M
 fill-spec =
     tie.close
-    (tie.spec
-    Inv-loop
-    μ-loop
-    mul-n
-    loop-holds
-    mul-t15
-    add-t16
-    note-of-requires
-    put-one-requires
-    next-column-requires
-    add-x
-    loop-less
-    loop-again
-    same-length
-    returns)
+    (tie.spec Inv-loop μ-loop mul-n loop-holds mul-t15 add-t16 note-of-requires put-one-requires next-column-requires add-x loop-less
+    loop-again same-length returns)

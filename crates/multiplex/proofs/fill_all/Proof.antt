@@ -1,7 +1,6 @@
 -- `fill_all`: after j turns the own places of the first j tributaries have their digits (Passes).
-use mathlib.Core.Path.{_≡_, refl, _∙_, ap}
-use mathlib.Core.List.{List}
-use Prim.Native.Nat.{ℕ, _≤_, _-_, _/_}
+use mathlib.Core.Path.{_≡_, refl, ap}
+use Prim.Native.Nat.{_≤_, _-_, _/_}
 use native.Mathlib.Omega.{arith}
 use lib.ListN.{length}
 use Rattle.digits.specs.Digits.{digitsOf}
@@ -73,4 +72,5 @@ returns c =
 pub fill-all-spec : {M : Type 1} → statement M
 fill-all-spec =
     tie.close
-    (tie.spec Inv-loop μ-loop loop-holds mul-a add-e sub-fill part-fill-start part-fill-end fill-requires mul-counts array-write-counts add-j loop-less loop-again same-length returns)
+    (tie.spec Inv-loop μ-loop loop-holds mul-a add-e sub-fill part-fill-start part-fill-end fill-requires mul-counts array-write-counts
+    add-j loop-less loop-again same-length returns)

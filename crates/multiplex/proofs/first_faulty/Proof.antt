@@ -1,5 +1,5 @@
 -- `first_faulty`: the notes passed are below the limit, so what is left of the search is what is left of the list.
-use mathlib.Core.Path.{_≡_, refl, sym, _∙_, ap}
+use mathlib.Core.Path.{_≡_, _∙_, ap}
 use Prim.Native.Nat.{ℕ, _≤_, _+_, _-_}
 use native.Mathlib.Omega.{arith}
 use lib.ListN.{length, drop}
@@ -56,4 +56,5 @@ returns-2 c =
 
 pub first-faulty-spec : {M : Type 1} → statement M
 first-faulty-spec =
-    tie.close (tie.spec Inv-loop μ-loop add-limit shl-limit loop-holds shared-slice-read-if1 cast-if1 returns add-f loop-less loop-again returns-2)
+    tie.close
+    (tie.spec Inv-loop μ-loop add-limit shl-limit loop-holds shared-slice-read-if1 cast-if1 returns add-f loop-less loop-again returns-2)

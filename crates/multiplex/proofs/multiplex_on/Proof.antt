@@ -1,18 +1,11 @@
 -- `multiplex_on`: refused for a length, refused for a note, or sent (Answers).
-use mathlib.Core.Path.{_≡_, refl, sym, _∙_, ap}
+use mathlib.Core.Path.{sym, _∙_, ap}
 use Prim.Native.Nat.{ℕ, _*_}
 use borrow.Author.Needs.{needs}
-use native.Mathlib.Omega.{arith}
 use Rattle.levels.proofs.Judged.{accepted}
 use Rattle.multiplex.proofs.Answers.{refused-by-size, refused-by-note, sent-whole}
 use Rattle.multiplex.proofs.multiplex_on.Statement.{statement}
 use Rattle.multiplex.proofs.multiplex_on.Tie as tie
-
-size-refusal-requires : tie.Need-size-refusal-requires
-size-refusal-requires c κs = search needs
-
-refused-requires : tie.Need-refused-requires
-refused-requires c κs = search needs
 
 returns : tie.Need-returns
 returns c =
@@ -20,12 +13,6 @@ returns c =
     let no = c .before .before .size-refusal .ensures in
     let both = refused-by-size (a .row) (a .line .now) (a .notes .now) (a .buffer .now) (λ z. c .before .if1 .taken (no ∙ z)) in
     (c .refused .ensures ∙ rw no (both .0), both .1)
-
-first-faulty-requires : tie.Need-first-faulty-requires
-first-faulty-requires c κs = search needs
-
-refused-requires-2 : tie.Need-refused-requires-2
-refused-requires-2 c κs = search needs
 
 returns-2 : tie.Need-returns-2
 returns-2 c =
@@ -46,9 +33,6 @@ fill-all-requires c κs =
     let ok = accepted _ _ _ _ (sym (c .before .before .before .before .before .before .before .before .size-refusal .ensures) ∙ c .before .before .before .before .before .before .before .if1 .left) in
     (c .before .before .before .before .before .before .before .before .before .before .before .before .pre, rw (c .before .before .before .write-heads .kept .1 .0) ok)
 
-same-length : tie.Need-same-length
-same-length c = search needs
-
 returns-3 : tie.Need-returns-3
 returns-3 c =
     let a = c .before .before .before .before .before .before .before .before .before .before .before .before .before .before .before .args in
@@ -61,4 +45,5 @@ returns-3 c =
 pub multiplex-on-spec : {M : Type 1} → statement M
 multiplex-on-spec =
     tie.close
-    (tie.spec size-refusal-requires refused-requires returns first-faulty-requires refused-requires-2 returns-2 write-heads-requires fill-all-requires same-length returns-3)
+    (tie.spec (λ c κs. search needs) (λ c κs. search needs) returns (λ c κs. search needs) (λ c κs. search needs) returns-2
+    write-heads-requires fill-all-requires (λ c. search needs) returns-3)

@@ -51,15 +51,4 @@ returns c =
 pub write-head-spec : {M : Type 1} → statement M
 write-head-spec =
     tie.close
-    (tie.spec
-    Inv-loop
-    μ-loop
-    loop-holds
-    head-digit-requires
-    add-t12
-    put-line-digit-requires
-    add-r
-    loop-less
-    loop-again
-    same-length
-    returns)
+    (tie.spec Inv-loop μ-loop loop-holds head-digit-requires add-t12 put-line-digit-requires add-r loop-less loop-again same-length returns)

@@ -5,7 +5,6 @@ use native.Mathlib.Omega.{arith}
 use lib.ListN.{length}
 use Rattle.levels.specs.Table.{Shared}
 use Rattle.multiplex.proofs.Heads.{Heading, heading-start, heading-more, heading-end, head-room}
-use borrow.Author.Needs.{needs}
 use Rattle.multiplex.proofs.write_heads.Statement.{statement}
 use Rattle.multiplex.proofs.write_heads.Tie as tie
 
@@ -56,15 +55,5 @@ returns c =
 pub write-heads-spec : {M : Type 1} → statement M
 write-heads-spec =
     tie.close
-    (tie.spec
-    Inv-loop
-    μ-loop
-    loop-holds
-    shared-slice-read-write-head
-    write-head-requires
-    add-t6
-    add-f
-    loop-less
-    loop-again
-    same-length
+    (tie.spec Inv-loop μ-loop loop-holds shared-slice-read-write-head write-head-requires add-t6 add-f loop-less loop-again same-length
     returns)

@@ -7,15 +7,6 @@ use Rattle.receiver.proofs.Validity.{accepted-if}
 use Rattle.receiver.proofs.feed_row.Statement.{statement}
 use Rattle.receiver.proofs.feed_row.Tie as tie
 
-core-of-requires : tie.Need-core-of-requires
-core-of-requires c κs = search needs
-
-refusal-of-requires : tie.Need-refusal-of-requires
-refusal-of-requires c κs = search needs
-
-refuse-requires : tie.Need-refuse-requires
-refuse-requires c κs = search needs
-
 returns : tie.Need-returns
 unfolding feedRow
 returns c =
@@ -35,6 +26,4 @@ returns-2 c =
     c .run .ensures ∙ rw (← (c .before .before .before .core-of .ensures), ← (c .before .before .refusal-of .ensures), accepted)
 
 pub feed-row-spec : {M : Type 1} → statement M
-feed-row-spec =
-    tie.close
-    (tie.spec core-of-requires refusal-of-requires refuse-requires returns run-requires returns-2)
+feed-row-spec = tie.close (tie.spec (λ c κs. search needs) (λ c κs. search needs) (λ c κs. search needs) returns run-requires returns-2)

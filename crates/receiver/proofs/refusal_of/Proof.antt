@@ -8,9 +8,6 @@ use Prim.Native.Nat.{_+_, _*_}
 use Rattle.receiver.proofs.refusal_of.Statement.{statement}
 use Rattle.receiver.proofs.refusal_of.Tie as tie
 
-is-invalid-requires : tie.Need-is-invalid-requires
-is-invalid-requires c κs = search needs
-
 returns : tie.Need-returns
 unfolding refusalOf
 returns c = rw (sym (c .before .is-invalid .ensures) ∙ c .if1 .taken)
@@ -19,18 +16,9 @@ returns-2 : tie.Need-returns-2
 unfolding refusalOf
 returns-2 c = rw (sym (c .before .before .is-invalid .ensures) ∙ c .before .if1 .left, lt-ltb _ _ (c .if2 .taken))
 
-mul-if3 : tie.Need-mul-if3
-mul-if3 c = search needs
-
 returns-3 : tie.Need-returns-3
 unfolding refusalOf
 returns-3 c = rw (sym (c .before .before .before .is-invalid .ensures) ∙ c .before .before .if1 .left, le-ltb _ _ (c .before .if2 .left), lt-ltb (8 * c .before .before .before .before .args .bytes) (c .before .before .before .before .args .first + c .before .before .before .before .args .count) (omega arith))
-
-mul-if4 : tie.Need-mul-if4
-mul-if4 c = search needs
-
-sub-if4 : tie.Need-sub-if4
-sub-if4 c = search needs
 
 returns-4 : tie.Need-returns-4
 unfolding refusalOf
@@ -43,13 +31,5 @@ returns-5 c = rw (sym (c .before .before .before .before .is-invalid .ensures) �
 pub refusal-of-spec : {M : Type 1} → statement M
 refusal-of-spec =
     tie.close
-    (tie.spec
-    is-invalid-requires
-    returns
-    returns-2
-    mul-if3
-    returns-3
-    mul-if4
-    sub-if4
-    returns-4
+    (tie.spec (λ c κs. search needs) returns returns-2 (λ c. search needs) returns-3 (λ c. search needs) (λ c. search needs) returns-4
     returns-5)

@@ -20,9 +20,6 @@ mask-of-requires c κs = c .before .pre .0
 sub-shift : tie.Need-sub-shift Inv-loop μ-loop
 sub-shift c = omega arith
 
-core-of-requires : tie.Need-core-of-requires Inv-loop μ-loop
-core-of-requires c κs = search needs
-
 add-end : tie.Need-add-end Inv-loop μ-loop
 add-end c = omega arith
 
@@ -57,9 +54,6 @@ is-all-ones-requires c κs = c .before .before .before .before .before .before .
 sub-accept : tie.Need-sub-accept Inv-loop μ-loop
 sub-accept c = omega (arith, c .before .before .before .before .before .before .before .before .before .before .loop .inv .from, c .before .before .before .before .before .before .before .before .hunt-on .ensures .from)
 
-accept-requires : tie.Need-accept-requires Inv-loop μ-loop
-accept-requires c κs = search needs
-
 returns : tie.Need-returns Inv-loop μ-loop
 returns c =
     let g = going-on _ _ _ _ _ _ _ _ _ _ _ _ _ (c .before .before .before .before .before .before .before .before .before .before .before .loop .inv) (c .before .before .before .before .before .before .before .before .before .hunt-on .ensures) in
@@ -87,9 +81,6 @@ loop-again c =
 sub-accept-2 : tie.Need-sub-accept-2 Inv-loop μ-loop
 sub-accept-2 c = omega (arith, c .before .loop .inv .from)
 
-accept-requires-2 : tie.Need-accept-requires-2 Inv-loop μ-loop
-accept-requires-2 c κs = search needs
-
 returns-2 : tie.Need-returns-2 Inv-loop μ-loop
 returns-2 c =
     let l = c .before .before .loop in
@@ -98,26 +89,6 @@ returns-2 c =
 pub run-spec : {M : Type 1} → statement M
 run-spec =
     tie.close
-    (tie.spec
-    Inv-loop
-    μ-loop
-    mask-of-requires
-    sub-shift
-    core-of-requires
-    add-end
-    loop-holds
-    hunt-on-requires
-    digit-at-requires
-    step-requires
-    keep-requires
-    add-p
-    is-ready-requires
-    is-all-ones-requires
-    sub-accept
-    accept-requires
-    returns
-    loop-less
-    loop-again
-    sub-accept-2
-    accept-requires-2
-    returns-2)
+    (tie.spec Inv-loop μ-loop mask-of-requires sub-shift (λ c κs. search needs) add-end loop-holds hunt-on-requires digit-at-requires
+    step-requires keep-requires add-p is-ready-requires is-all-ones-requires sub-accept (λ c κs. search needs) returns loop-less loop-again
+    sub-accept-2 (λ c κs. search needs) returns-2)

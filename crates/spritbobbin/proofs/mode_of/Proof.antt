@@ -17,12 +17,6 @@ returns-3 : tie.Need-returns-3
 unfolding modeOf
 returns-3 c = rw (ne-eqb _ _ (c .before .before .if1 .left), ne-eqb _ _ (c .before .if2 .left), eq-eqb _ _ (c .if3 .taken))
 
-sub-t3 : tie.Need-sub-t3
-sub-t3 c = search needs
-
-cast-t4 : tie.Need-cast-t4
-cast-t4 c = search needs
-
 returns-4 : tie.Need-returns-4
 unfolding modeOf
 returns-4 c = rw (ne-eqb _ _ (c .before .before .before .if1 .left), ne-eqb _ _ (c .before .before .if2 .left), ne-eqb _ _ (c .before .if3 .left), le-leb _ _ (c .if4 .taken))
@@ -32,4 +26,4 @@ unfolding modeOf
 returns-5 c = rw (ne-eqb _ _ (c .before .before .before .if1 .left), ne-eqb _ _ (c .before .before .if2 .left), ne-eqb _ _ (c .before .if3 .left), lt-leb _ _ (c .if4 .left))
 
 pub mode-of-spec : {M : Type 1} → statement M
-mode-of-spec = tie.close (tie.spec returns returns-2 returns-3 sub-t3 cast-t4 returns-4 returns-5)
+mode-of-spec = tie.close (tie.spec returns returns-2 returns-3 (λ c. search needs) (λ c. search needs) returns-4 returns-5)

@@ -1,19 +1,10 @@
 -- The C call is the call behind it.
-use mathlib.Core.Path.{_≡_, refl, sym, _∙_, ap}
+use mathlib.Core.Path.{_∙_, ap}
 use borrow.Author.Needs.{needs}
 use Rattle.multiplex.specs.declared.Multiplexed.{Multiplexed}
 use Rattle.spritbobbin.specs.Face.{sentAnswer}
 use Rattle.spritbobbin.proofs.spritbobbin_multiplex.Statement.{statement}
 use Rattle.spritbobbin.proofs.spritbobbin_multiplex.Tie as tie
-
-multiplex-requires : tie.Need-multiplex-requires
-multiplex-requires c κs = search needs
-
-sent-numbers-requires : tie.Need-sent-numbers-requires
-sent-numbers-requires c κs = search needs
-
-same-length : tie.Need-same-length
-same-length c = search needs
 
 returns : tie.Need-returns
 returns c =
@@ -21,4 +12,4 @@ returns c =
     (ap (λ (m : Multiplexed). m .refusal) (e .0), e .1, c .sent-numbers .ensures ∙ ap sentAnswer (e .0))
 
 pub spritbobbin-multiplex-spec : {M : Type 1} → statement M
-spritbobbin-multiplex-spec = tie.close (tie.spec multiplex-requires sent-numbers-requires same-length returns)
+spritbobbin-multiplex-spec = tie.close (tie.spec (λ c κs. search needs) (λ c κs. search needs) (λ c. search needs) returns)

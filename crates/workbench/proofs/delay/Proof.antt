@@ -17,37 +17,13 @@ abbrev μ-loop : tie.MeasureT-loop
 loop-holds : tie.Need-loop-holds Inv-loop μ-loop
 loop-holds c = (omega arith, delaying-start _ _ _)
 
-same-length : tie.Need-same-length Inv-loop μ-loop
-same-length c = search needs
-
 returns : tie.Need-returns Inv-loop μ-loop
 returns c = delaying-end _ _ _ _ _ _ (c .before .before .loop .inv .1) (inr (c .if1 .taken))
-
-shared-slice-read-decided-by : tie.Need-shared-slice-read-decided-by Inv-loop μ-loop
-shared-slice-read-decided-by c = search needs
-
-decided-by-requires : tie.Need-decided-by-requires Inv-loop μ-loop
-decided-by-requires c κs = search needs
-
-slice-write-late : tie.Need-slice-write-late Inv-loop μ-loop
-slice-write-late c = search needs
-
-shared-slice-read-last : tie.Need-shared-slice-read-last Inv-loop μ-loop
-shared-slice-read-last c = search needs
-
-add-f : tie.Need-add-f Inv-loop μ-loop
-add-f c = search needs
-
-loop-less : tie.Need-loop-less Inv-loop μ-loop
-loop-less c = search needs
 
 loop-again : tie.Need-loop-again Inv-loop μ-loop
 loop-again c =
     let l = c .before .before .before .before .before .loop in
     (omega arith, delaying-more _ _ _ (l .f) (l .last) _ (l .late) (l .inv .1) (omega arith) (omega arith) (c .before .decided-by .ensures))
-
-same-length-2 : tie.Need-same-length-2 Inv-loop μ-loop
-same-length-2 c = search needs
 
 returns-2 : tie.Need-returns-2 Inv-loop μ-loop
 returns-2 c = delaying-end _ _ _ _ _ _ (c .before .loop .inv .1) (inl (omega arith))
@@ -55,18 +31,5 @@ returns-2 c = delaying-end _ _ _ _ _ _ (c .before .loop .inv .1) (inl (omega ari
 pub delay-spec : {M : Type 1} → statement M
 delay-spec =
     tie.close
-    (tie.spec
-    Inv-loop
-    μ-loop
-    loop-holds
-    same-length
-    returns
-    shared-slice-read-decided-by
-    decided-by-requires
-    slice-write-late
-    shared-slice-read-last
-    add-f
-    loop-less
-    loop-again
-    same-length-2
-    returns-2)
+    (tie.spec Inv-loop μ-loop loop-holds (λ c. search needs) returns (λ c. search needs) (λ c κs. search needs) (λ c. search needs)
+    (λ c. search needs) (λ c. search needs) (λ c. search needs) loop-again (λ c. search needs) returns-2)

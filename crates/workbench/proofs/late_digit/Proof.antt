@@ -6,23 +6,11 @@ use Rattle.workbench.proofs.Bench.{in-a-frame, mixed-said, mixed-line}
 use Rattle.workbench.proofs.late_digit.Statement.{statement}
 use Rattle.workbench.proofs.late_digit.Tie as tie
 
-rem-t6 : tie.Need-rem-t6
-rem-t6 c = search needs
-
 kind-at-requires : tie.Need-kind-at-requires
 kind-at-requires c κs = (c .before .before .before .pre, in-a-frame _ (c .before .before .before .pre) _)
 
-is-control-requires : tie.Need-is-control-requires
-is-control-requires c κs = search needs
-
-digit-or-zero-requires : tie.Need-digit-or-zero-requires
-digit-or-zero-requires c κs = search needs
-
 returns : tie.Need-returns
 returns c = (mixed-said _ _ _ _ _ (sym (ap isControl (c .before .before .before .kind-at .ensures)) ∙ sym (c .before .before .is-control .ensures) ∙ c .before .if1 .taken) (c .digit-or-zero .ensures .0), c .digit-or-zero .ensures .1)
-
-digit-or-zero-requires-2 : tie.Need-digit-or-zero-requires-2
-digit-or-zero-requires-2 c κs = search needs
 
 returns-2 : tie.Need-returns-2
 returns-2 c = (mixed-line _ _ _ _ _ (sym (ap isControl (c .before .before .before .kind-at .ensures)) ∙ sym (c .before .before .is-control .ensures) ∙ c .before .if1 .left) (c .digit-or-zero2 .ensures .0), c .digit-or-zero2 .ensures .1)
@@ -30,11 +18,4 @@ returns-2 c = (mixed-line _ _ _ _ _ (sym (ap isControl (c .before .before .befor
 pub late-digit-spec : {M : Type 1} → statement M
 late-digit-spec =
     tie.close
-    (tie.spec
-    rem-t6
-    kind-at-requires
-    is-control-requires
-    digit-or-zero-requires
-    returns
-    digit-or-zero-requires-2
-    returns-2)
+    (tie.spec (λ c. search needs) kind-at-requires (λ c κs. search needs) (λ c κs. search needs) returns (λ c κs. search needs) returns-2)

@@ -5,18 +5,6 @@ use Rattle.workbench.proofs.Late.{late-refused, late-short, late-sent}
 use Rattle.workbench.proofs.late_line.Statement.{statement}
 use Rattle.workbench.proofs.late_line.Tie as tie
 
-multiplex-requires : tie.Need-multiplex-requires
-multiplex-requires c κs = search needs
-
-multiplex-requires-2 : tie.Need-multiplex-requires-2
-multiplex-requires-2 c κs = search needs
-
-same-length : tie.Need-same-length
-same-length c = search needs
-
-same-length-2 : tie.Need-same-length-2
-same-length-2 c = search needs
-
 returns : tie.Need-returns
 returns c =
     let a = c .before .before .before .before .before .before .before .before .before .before .before .before .before .before .before .args in
@@ -34,12 +22,6 @@ say-controls-at-requires c κs =
     rw (line .kept .1 .0)
     (late-short (a .line .now) (a .said .now) (a .notes .now) (a .late .now) (a .buffer .now) (a .level) (line .result) (line .ensures .0) (c .before .before .if1 .left))
 
-same-length-3 : tie.Need-same-length-3
-same-length-3 c = search needs
-
-same-length-4 : tie.Need-same-length-4
-same-length-4 c = search needs
-
 returns-2 : tie.Need-returns-2
 returns-2 c =
     let a = c .before .before .before .before .before .before .before .before .before .before .before .before .before .before .before .before .before .before .before .before .args in
@@ -54,13 +36,5 @@ returns-2 c =
 pub late-line-spec : {M : Type 1} → statement M
 late-line-spec =
     tie.close
-    (tie.spec
-    multiplex-requires
-    multiplex-requires-2
-    same-length
-    same-length-2
-    returns
-    say-controls-at-requires
-    same-length-3
-    same-length-4
-    returns-2)
+    (tie.spec (λ c κs. search needs) (λ c κs. search needs) (λ c. search needs) (λ c. search needs) returns say-controls-at-requires
+    (λ c. search needs) (λ c. search needs) returns-2)

@@ -5,12 +5,6 @@ use borrow.Author.Tests.{le-ltb}
 use Rattle.workbench.proofs.named_quarter.Statement.{statement}
 use Rattle.workbench.proofs.named_quarter.Tie as tie
 
-mul-result : tie.Need-mul-result
-mul-result c = search needs
-
-mul-result-2 : tie.Need-mul-result-2
-mul-result-2 c = search needs
-
 returns : tie.Need-returns
 returns c = rw (c .match .keys1) (omega arith)
 
@@ -24,5 +18,4 @@ returns-4 : tie.Need-returns-4
 returns-4 c = rw (le-ltb (c .before .args .j) 3 (omega arith)) (omega arith)
 
 pub named-quarter-spec : {M : Type 1} → statement M
-named-quarter-spec =
-    tie.close (tie.spec mul-result mul-result-2 returns returns-2 returns-3 returns-4)
+named-quarter-spec = tie.close (tie.spec (λ c. search needs) (λ c. search needs) returns returns-2 returns-3 returns-4)

@@ -21,12 +21,6 @@ loop-holds c = (omega arith, λ k h. absurd (over k h))
     over : (k : ℕ) → k < 0 → ⊥
     over k h = omega arith
 
-digit-or-zero-requires : tie.Need-digit-or-zero-requires Inv-loop μ-loop
-digit-or-zero-requires c κs = search needs
-
-digit-or-zero-requires-2 : tie.Need-digit-or-zero-requires-2 Inv-loop μ-loop
-digit-or-zero-requires-2 c κs = search needs
-
 returns : tie.Need-returns Inv-loop μ-loop
 returns c =
     record {
@@ -34,12 +28,6 @@ returns c =
       alike = c .before .before .before .before .loop .inv .1;
       wrong = λ h e. c .if1 .taken (c .before .before .digit-or-zero .ensures .0 ∙ e ∙ sym (c .before .digit-or-zero2 .ensures .0));
     }
-
-add-i : tie.Need-add-i Inv-loop μ-loop
-add-i c = search needs
-
-loop-less : tie.Need-loop-less Inv-loop μ-loop
-loop-less c = search needs
 
 loop-again : tie.Need-loop-again Inv-loop μ-loop
 loop-again c =
@@ -59,14 +47,5 @@ returns-2 c =
 pub right-digits-spec : {M : Type 1} → statement M
 right-digits-spec =
     tie.close
-    (tie.spec
-    Inv-loop
-    μ-loop
-    loop-holds
-    digit-or-zero-requires
-    digit-or-zero-requires-2
-    returns
-    add-i
-    loop-less
-    loop-again
-    returns-2)
+    (tie.spec Inv-loop μ-loop loop-holds (λ c κs. search needs) (λ c κs. search needs) returns (λ c. search needs) (λ c. search needs)
+    loop-again returns-2)

@@ -55,15 +55,4 @@ returns c =
 pub say-controls-spec : {M : Type 1} → statement M
 say-controls-spec =
     tie.close
-    (tie.spec
-    Inv-loop
-    μ-loop
-    mul-n
-    loop-holds
-    late-digit-requires
-    put-digit-requires
-    add-p
-    loop-less
-    loop-again
-    same-length
-    returns)
+    (tie.spec Inv-loop μ-loop mul-n loop-holds late-digit-requires put-digit-requires add-p loop-less loop-again same-length returns)

@@ -18,18 +18,6 @@ loop-holds : tie.Need-loop-holds Inv-loop μ-loop
 unfolding differences
 loop-holds c = (omega arith, omega arith, refl)
 
-wrong-at-requires : tie.Need-wrong-at-requires Inv-loop μ-loop
-wrong-at-requires c κs = search needs
-
-add-wrong : tie.Need-add-wrong Inv-loop μ-loop
-add-wrong c = search needs
-
-add-i : tie.Need-add-i Inv-loop μ-loop
-add-i c = search needs
-
-loop-less : tie.Need-loop-less Inv-loop μ-loop
-loop-less c = search needs
-
 loop-again : tie.Need-loop-again Inv-loop μ-loop
 loop-again c =
     (omega arith, omega arith, ap (λ (n : ℕ). n + c .wrong-at .result) (c .before .before .loop .inv .2) ∙ sym (c .wrong-at .ensures .0))
@@ -42,13 +30,5 @@ returns c =
 pub wrong-digits-spec : {M : Type 1} → statement M
 wrong-digits-spec =
     tie.close
-    (tie.spec
-    Inv-loop
-    μ-loop
-    loop-holds
-    wrong-at-requires
-    add-wrong
-    add-i
-    loop-less
-    loop-again
+    (tie.spec Inv-loop μ-loop loop-holds (λ c κs. search needs) (λ c. search needs) (λ c. search needs) (λ c. search needs) loop-again
     returns)

@@ -17,12 +17,6 @@ bounded : (z : ℤ) (most : ℕ) → ltZ z (pos 0) ≡ false → ltZ (pos most) 
 bounded (pos n) most a b = (tt, ltb-false most n b)
 bounded (negsuc n) most a b = absurd (true≢false a)
 
-returns : tie.Need-returns
-returns c = search needs
-
-returns-2 : tie.Need-returns-2
-returns-2 c = search needs
-
 cast-result : tie.Need-cast-result
 cast-result c =
     let b = bounded (toZ w64 (ofZ w64 (c .before .before .args .end))) 1099511627776 (c .before .if1 .left) (c .if2 .left) in
@@ -32,4 +26,4 @@ returns-3 : tie.Need-returns-3
 returns-3 c = bounded (toZ w64 (ofZ w64 (c .before .before .args .end))) 1099511627776 (c .before .if1 .left) (c .if2 .left) .1
 
 pub bytes-of-spec : {M : Type 1} → statement M
-bytes-of-spec = tie.close (tie.spec returns returns-2 cast-result returns-3)
+bytes-of-spec = tie.close (tie.spec (λ c. search needs) (λ c. search needs) cast-result returns-3)

@@ -1,17 +1,10 @@
 -- `first_set` is `firstSet`: a row's head is level 2's or level 4's, by the length of its word.
 use borrow.Author.Needs.{needs}
-use native.Mathlib.Omega.{arith}
 use mathlib.Core.Path.{_≡_, _∙_, sym}
 use Rattle.levels.specs.Table.{row2, row4}
 use Rattle.levels.proofs.Ways.{same-head}
 use Rattle.levels.proofs.places.first_set.Statement.{statement}
 use Rattle.levels.proofs.places.first_set.Tie as tie
-
-add-if1 : tie.Need-add-if1
-add-if1 c = search needs
-
-head-of-ten-requires : tie.Need-head-of-ten-requires
-head-of-ten-requires c κs = search needs
 
 returns : tie.Need-returns
 returns c =
@@ -19,13 +12,10 @@ returns c =
     let e : c .before .before .before .args .row .len ≡ 10 = c .before .if1 .taken in
     c .head-of-ten .ensures ∙ sym (same-head _ row2 e (sh .ten e) _)
 
-head-of-twelve-requires : tie.Need-head-of-twelve-requires
-head-of-twelve-requires c κs = search needs
-
 returns-2 : tie.Need-returns-2
 returns-2 c =
     let e = c .before .before .before .pre .twelve (c .before .if1 .left) in
     c .head-of-twelve .ensures ∙ sym (same-head _ row4 (e .0) (e .1) _)
 
 pub first-set-spec : {M : Type 1} → statement M
-first-set-spec = tie.close (tie.spec add-if1 head-of-ten-requires returns head-of-twelve-requires returns-2)
+first-set-spec = tie.close (tie.spec (λ c. search needs) (λ c κs. search needs) returns (λ c κs. search needs) returns-2)

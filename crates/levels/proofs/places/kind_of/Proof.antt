@@ -1,6 +1,5 @@
 -- `kind_of` is `kindOf`: the first set's answer, the last set's, or that of a set between.
 use borrow.Author.Needs.{needs}
-use native.Mathlib.Omega.{arith}
 use borrow.Author.Tests.{eq-eqb, ne-eqb}
 use Rattle.levels.specs.Places.{kindOf, middleSet, lastSet}
 use Rattle.levels.proofs.places.kind_of.Statement.{statement}
@@ -13,19 +12,10 @@ returns : tie.Need-returns
 unfolding kindOf
 returns c = rw (c .first-set .ensures, eq-eqb _ _ (c .before .if1 .taken))
 
-sub-if2 : tie.Need-sub-if2
-sub-if2 c = search needs
-
-last-set-requires : tie.Need-last-set-requires
-last-set-requires c κs = search needs
-
 returns-2 : tie.Need-returns-2
 unfolding kindOf lastSet
 returns-2 c =
     rw (c .last-set .ensures, ne-eqb _ _ (c .before .before .before .before .if1 .left), eq-eqb _ _ (c .before .if2 .taken), c .before .before .before .before .before .before .pre .last-eight)
-
-middle-set-requires : tie.Need-middle-set-requires
-middle-set-requires c κs = search needs
 
 returns-3 : tie.Need-returns-3
 unfolding kindOf middleSet
@@ -33,4 +23,6 @@ returns-3 c =
     rw (c .middle-set .ensures, ne-eqb _ _ (c .before .before .before .before .if1 .left), ne-eqb _ _ (c .before .if2 .left), c .before .before .before .before .before .before .pre .middle-four)
 
 pub kind-of-spec : {M : Type 1} → statement M
-kind-of-spec = tie.close (tie.spec first-set-requires returns sub-if2 last-set-requires returns-2 middle-set-requires returns-3)
+kind-of-spec =
+    tie.close
+    (tie.spec first-set-requires returns (λ c. search needs) (λ c κs. search needs) returns-2 (λ c κs. search needs) returns-3)

@@ -6,15 +6,6 @@ use Rattle.levels.specs.Table.{levelOf}
 use Rattle.levels.proofs.table.level_of.Statement.{statement}
 use Rattle.levels.proofs.table.level_of.Tie as tie
 
-array-copy-out-t9 : tie.Need-array-copy-out-t9
-array-copy-out-t9 c = search needs
-
-array-copy-out-t16 : tie.Need-array-copy-out-t16
-array-copy-out-t16 c = search needs
-
-array-copy-out-t23 : tie.Need-array-copy-out-t23
-array-copy-out-t23 c = search needs
-
 returns : tie.Need-returns
 unfolding levelOf
 returns c = rw (c .before .match .keys1)
@@ -34,5 +25,4 @@ returns-4 c =
     rw (ne-eqb l 2 (λ e. omega arith), ne-eqb l 3 (λ e. omega arith), ne-eqb l 4 (λ e. omega arith))
 
 pub level-of-spec : {M : Type 1} → statement M
-level-of-spec =
-    tie.close (tie.spec array-copy-out-t9 array-copy-out-t16 array-copy-out-t23 returns returns-2 returns-3 returns-4)
+level-of-spec = tie.close (tie.spec (λ c. search needs) (λ c. search needs) (λ c. search needs) returns returns-2 returns-3 returns-4)

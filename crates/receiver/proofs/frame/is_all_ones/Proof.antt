@@ -49,15 +49,4 @@ returns-2 c =
     rw (end, ones-end _ (c .before .before .before .args .row .digits)) at (l .inv .2)
 
 pub is-all-ones-spec : {M : Type 1} → statement M
-is-all-ones-spec =
-    tie.close
-    (tie.spec
-    Inv-loop
-    μ-loop
-    loop-holds
-    digit-at-requires
-    returns
-    add-p
-    loop-less
-    loop-again
-    returns-2)
+is-all-ones-spec = tie.close (tie.spec Inv-loop μ-loop loop-holds digit-at-requires returns add-p loop-less loop-again returns-2)

@@ -15,9 +15,6 @@ Inv-loop row mask piece first end seen last window₀ at₀ window at = (at ≤ 
 abbrev μ-loop : tie.MeasureT-loop
 μ-loop row mask piece first end seen last window₀ at₀ window at = last - at
 
-is-hunting-requires : tie.Need-is-hunting-requires Inv-loop μ-loop
-is-hunting-requires c κs = search needs
-
 returns : tie.Need-returns Inv-loop μ-loop
 returns c = let b = c .before .before .before in hunted-none (b .args .row) (b .pre .0) _ _ _ _ (b .pre .2) (b .pre .4)
 
@@ -37,17 +34,11 @@ window-of-requires : tie.Need-window-of-requires Inv-loop μ-loop
 unfolding stillHunting
 window-of-requires c κs = (c .before .before .before .before .before .before .pre .0, c .before .before .before .before .before .before .pre .1, c .before .before .loop .inv .3 .valid .window, c .digit-at .ensures .1)
 
-is-good-requires : tie.Need-is-good-requires Inv-loop μ-loop
-is-good-requires c κs = search needs
-
 sub-still-hunting : tie.Need-sub-still-hunting Inv-loop μ-loop
 sub-still-hunting c = omega (arith, c .before .before .before .before .before .loop .inv .3 .from)
 
 add-still-hunting : tie.Need-add-still-hunting Inv-loop μ-loop
 add-still-hunting c = omega (arith, c .before .before .before .before .before .loop .inv .3 .from)
-
-still-hunting-requires : tie.Need-still-hunting-requires Inv-loop μ-loop
-still-hunting-requires c κs = search needs
 
 returns-2 : tie.Need-returns-2 Inv-loop μ-loop
 returns-2 c =
@@ -79,9 +70,6 @@ sub-still-hunting-2 c = omega (arith, c .before .loop .inv .3 .from)
 add-still-hunting-2 : tie.Need-add-still-hunting-2 Inv-loop μ-loop
 add-still-hunting-2 c = omega (arith, c .before .loop .inv .3 .from)
 
-still-hunting-requires-2 : tie.Need-still-hunting-requires-2 Inv-loop μ-loop
-still-hunting-requires-2 c κs = search needs
-
 returns-3 : tie.Need-returns-3 Inv-loop μ-loop
 returns-3 c =
     let b = c .before .before .before .before .before .before in
@@ -91,24 +79,6 @@ returns-3 c =
 pub hunt-on-spec : {M : Type 1} → statement M
 hunt-on-spec =
     tie.close
-    (tie.spec
-    Inv-loop
-    μ-loop
-    is-hunting-requires
-    returns
-    sub-last
-    loop-holds
-    digit-at-requires
-    window-of-requires
-    is-good-requires
-    sub-still-hunting
-    add-still-hunting
-    still-hunting-requires
-    returns-2
-    add-at
-    loop-less
-    loop-again
-    sub-still-hunting-2
-    add-still-hunting-2
-    still-hunting-requires-2
-    returns-3)
+    (tie.spec Inv-loop μ-loop (λ c κs. search needs) returns sub-last loop-holds digit-at-requires window-of-requires (λ c κs. search needs)
+    sub-still-hunting add-still-hunting (λ c κs. search needs) returns-2 add-at loop-less loop-again sub-still-hunting-2 add-still-hunting-2
+    (λ c κs. search needs) returns-3)

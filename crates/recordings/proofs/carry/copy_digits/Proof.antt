@@ -1,7 +1,7 @@
 -- After p turns the places passed hold the digits copied (Copies), and the slice is bytes; at the end every place of the slice that a digit
 -- was meant for is passed.
-use Prim.Native.Nat.{_≤_, _-_, _*_, _+_, min}
-use mathlib.Core.Path.{_≡_, refl, _∙_}
+use Prim.Native.Nat.{_≤_, _-_, _*_, _+_}
+use mathlib.Core.Path.{_≡_, refl}
 use native.Mathlib.Omega.{arith}
 use lib.ListN.{length}
 use Rattle.digits.specs.Digits.{digitsOf, Bytes}
@@ -71,19 +71,5 @@ returns c =
 pub copy-digits-spec : {M : Type 1} → statement M
 copy-digits-spec =
     tie.close
-    (tie.spec
-    Inv-loop
-    μ-loop
-    add-least
-    mul-least
-    least-requires
-    loop-holds
-    sub-digit-or-zero
-    add-digit-or-zero
-    digit-or-zero-requires
-    put-digit-requires
-    add-p
-    loop-less
-    loop-again
-    same-length
-    returns)
+    (tie.spec Inv-loop μ-loop add-least mul-least least-requires loop-holds sub-digit-or-zero add-digit-or-zero digit-or-zero-requires
+    put-digit-requires add-p loop-less loop-again same-length returns)

@@ -24,24 +24,6 @@ loop-holds : tie.Need-loop-holds Inv-loop μ-loop
 unfolding stuffedTo
 loop-holds c = (omega arith, omega arith, refl)
 
-shared-slice-read-is-stuffed : tie.Need-shared-slice-read-is-stuffed Inv-loop μ-loop
-shared-slice-read-is-stuffed c = search needs
-
-is-stuffed-requires : tie.Need-is-stuffed-requires Inv-loop μ-loop
-is-stuffed-requires c κs = search needs
-
-one-if-requires : tie.Need-one-if-requires Inv-loop μ-loop
-one-if-requires c κs = search needs
-
-add-stuffed : tie.Need-add-stuffed Inv-loop μ-loop
-add-stuffed c = search needs
-
-add-f : tie.Need-add-f Inv-loop μ-loop
-add-f c = search needs
-
-loop-less : tie.Need-loop-less Inv-loop μ-loop
-loop-less c = search needs
-
 loop-again : tie.Need-loop-again Inv-loop μ-loop
 loop-again c =
     let l = c .before .before .before .before .loop in
@@ -56,15 +38,5 @@ returns c =
 pub stuffed-frames-spec : {M : Type 1} → statement M
 stuffed-frames-spec =
     tie.close
-    (tie.spec
-    Inv-loop
-    μ-loop
-    loop-holds
-    shared-slice-read-is-stuffed
-    is-stuffed-requires
-    one-if-requires
-    add-stuffed
-    add-f
-    loop-less
-    loop-again
-    returns)
+    (tie.spec Inv-loop μ-loop loop-holds (λ c. search needs) (λ c κs. search needs) (λ c κs. search needs) (λ c. search needs)
+    (λ c. search needs) (λ c. search needs) loop-again returns)

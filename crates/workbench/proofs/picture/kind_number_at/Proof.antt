@@ -5,14 +5,8 @@ use borrow.Author.Needs.{needs}
 use Rattle.workbench.proofs.picture.kind_number_at.Statement.{statement}
 use Rattle.workbench.proofs.picture.kind_number_at.Tie as tie
 
-kind-at-requires : tie.Need-kind-at-requires
-kind-at-requires c κs = search needs
-
-kind-number-requires : tie.Need-kind-number-requires
-kind-number-requires c κs = search needs
-
 returns : tie.Need-returns
 returns c = c .kind-number .ensures ∙ ap kindNumber (c .before .kind-at .ensures)
 
 pub kind-number-at-spec : {M : Type 1} → statement M
-kind-number-at-spec = tie.close (tie.spec kind-at-requires kind-number-requires returns)
+kind-number-at-spec = tie.close (tie.spec (λ c κs. search needs) (λ c κs. search needs) returns)

@@ -13,17 +13,11 @@ Inv-loop row p kind q₀ q = (p < q) × (q ≤ row .digits) × Alike row p q
 abbrev μ-loop : tie.MeasureT-loop
 μ-loop row p kind q₀ q = row .digits - q
 
-kind-number-at-requires : tie.Need-kind-number-at-requires Inv-loop μ-loop
-kind-number-at-requires c κs = search needs
-
 add-q : tie.Need-add-q Inv-loop μ-loop
 add-q c = omega arith
 
 loop-holds : tie.Need-loop-holds Inv-loop μ-loop
 loop-holds c = (omega arith, omega arith, alike-start _ _)
-
-kind-number-at-requires-2 : tie.Need-kind-number-at-requires-2 Inv-loop μ-loop
-kind-number-at-requires-2 c κs = search needs
 
 returns : tie.Need-returns Inv-loop μ-loop
 returns c =
@@ -34,12 +28,6 @@ returns c =
       same = l .inv .2;
       other = λ h. unlike _ _ (l .q) (λ e. c .if2 .taken (c .before .kind-number-at2 .ensures ∙ e ∙ sym (c .before .before .before .before .before .kind-number-at .ensures)));
     }
-
-add-q-2 : tie.Need-add-q-2 Inv-loop μ-loop
-add-q-2 c = search needs
-
-loop-less : tie.Need-loop-less Inv-loop μ-loop
-loop-less c = search needs
 
 loop-again : tie.Need-loop-again Inv-loop μ-loop
 loop-again c =
@@ -57,15 +45,5 @@ returns-2 c =
 pub run-end-spec : {M : Type 1} → statement M
 run-end-spec =
     tie.close
-    (tie.spec
-    Inv-loop
-    μ-loop
-    kind-number-at-requires
-    add-q
-    loop-holds
-    kind-number-at-requires-2
-    returns
-    add-q-2
-    loop-less
-    loop-again
-    returns-2)
+    (tie.spec Inv-loop μ-loop (λ c κs. search needs) add-q loop-holds (λ c κs. search needs) returns (λ c. search needs) (λ c. search needs)
+    loop-again returns-2)
