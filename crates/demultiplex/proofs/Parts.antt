@@ -22,7 +22,9 @@ module _ (row : Row) (line notes buffer : List ℕ) (ok : sizeRefusal row (lengt
 
   pub read-and-extracted : (read ≡ notesOf row ds F) × (alignment ≡ alignmentTo row ds F) × (groups ≡ splitTo row ds F)
       → (counts ≡ countsOf row read (length read)) × (left ≡ quartersFrom row read line (length buffer / 4))
-      → (record { refusal = 0; counts = counts; alignment = alignment; groups = groups } ≡ answerOn row line F (length buffer)) × (read ≡ notesOn row line notes (length buffer)) × (left ≡ bufferOn row line F buffer)
+      → (record { refusal = 0; counts = counts; alignment = alignment; groups = groups } ≡ answerOn row line F (length buffer))
+      × (read ≡ notesOn row line notes (length buffer))
+      × (left ≡ bufferOn row line F buffer)
   read-and-extracted r e =
       let same : length read ≡ F = ap length (r .0) ∙ tab-length F 0 (noteOf row ds) in
       rw (eq-eqb (sizeRefusal row (length line) F (length buffer)) 0 ok, e .0, e .1, same, r .0, r .1, r .2) (refl, refl, refl)

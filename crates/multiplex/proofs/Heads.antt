@@ -90,7 +90,7 @@ module _ (row : Row) (sh : Shared row) (notes old : List ℕ) where
   unfolding lineDigit
   head-line tributary f r p e h =
       rw (head-pos row sh f r p e h)
-      (head-not-own row sh r h, digit-of-head row (getD notes f 0) 0 (p % 4) r 0 (getD (tributary (p % 4)) (before row (decisions notes (p % 4)) (p % 4) (p / 4)) 0) (kindOf row 0 r) (head-not-own row sh r h))
+      (head-not-own row sh r h, digit-of-head row (getD notes f 0) 0 (p % 4) r 0 _ (kindOf row 0 r) (head-not-own row sh r h))
 
   -- one frame more
   module _ (f start : ℕ) (mid new : List ℕ) (w : Heading f start mid) (one : Headed row (getD notes f 0) start (row .first) mid new) where

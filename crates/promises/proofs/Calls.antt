@@ -25,12 +25,14 @@ use Rattle.demultiplex.specs.Notes.{notesOf}
 use Rattle.demultiplex.specs.Demultiplex.{demultiplexed, received}
 use Rattle.promises.specs.Damage.{Damage, lineDigits, SameBut}
 use Rattle.promises.specs.Carried.{decisionRead, digitsRead, countRead, Returned}
-use Rattle.promises.specs.Calls.{Lent, SendAccepted, sentLine, sentCounts, sentDigits, ReadAccepted, readNotes, readCounts, readDigits, LentFor, LentAt, DamageAt, SameButAt, SendsSame, SendReturned, SendBack, ReadsSame}
+use Rattle.promises.specs.Calls.{Lent, SendAccepted, sentLine, sentCounts, sentDigits, ReadAccepted, readNotes, readCounts, readDigits}
+use Rattle.promises.specs.Calls.{LentFor, LentAt, DamageAt, SameButAt, SendsSame, SendReturned, SendBack, ReadsSame}
 use Rattle.promises.specs.Plain.{SameOutside}
 use Rattle.promises.proofs.Recovered.{damage-recovered}
 use Rattle.promises.proofs.Others.{others-untouched}
 use Rattle.promises.proofs.RoundTrip.{round-trip}
-use Rattle.promises.proofs.Accepted.{send-level, read-level, shared, count-at, tributary, send-sizes, send-places, send-sound, send-line, send-counts, send-digits, read-accepted, read-sizes, read-places, read-answer, read-notes, read-frames, read-digits}
+use Rattle.promises.proofs.Accepted.{send-level, read-level, shared, count-at, tributary, send-sizes, send-places, send-sound, send-line}
+use Rattle.promises.proofs.Accepted.{send-counts, send-digits, read-accepted, read-sizes, read-places, read-answer, read-notes, read-frames, read-digits}
 
 -- the four counts are the same where each is
 counts-same : (row : Row) (a b : List ℕ) (F : ℕ) → ((j : ℕ) → j < 4 → countOf row (decisions a j) F ≡ countOf row (decisions b j) F) → countsOf row a F ≡ countsOf row b F
@@ -155,7 +157,8 @@ module _ (level : ℕ) (row : Row) (e : levelOf level ≡ Of row) where
       let out = others-untouched row sh F j da db (digits-binary (a .line)) (digits-binary (b .line)) (λ p h. same p (omega (arith, places))) k hk other in
       let one = reads a ok F refl in
       let two = reads b (read-accepted level row e a b (read-sizes level row e a ok) (sym len) lent) F (lent .noted) in
-      let counts : (c : Lent) (ds : List ℕ) → Reads c F ds → getD (readCounts level c) k 0 ≡ countRead row F ds k = λ c ds got. ap (λ (r : Demultiplexed). getD (r .counts) k 0) (got .answered) ∙ count-at row (notesOf row ds F) F k hk in
+      let counts : (c : Lent) (ds : List ℕ) → Reads c F ds → getD (readCounts level c) k 0 ≡ countRead row F ds k =
+      λ c ds got. ap (λ (r : Demultiplexed). getD (r .counts) k 0) (got .answered) ∙ count-at row (notesOf row ds F) F k hk in
       record {
         accepted = two .accepted;
         frames = one .frames ∙ sym (two .frames);

@@ -23,14 +23,16 @@ use Rattle.multiplex.proofs.Unread.{Agree, same-line}
 use Rattle.demultiplex.specs.declared.Demultiplexed.{Demultiplexed}
 use Rattle.demultiplex.specs.Notes.{notesOf}
 use Rattle.promises.specs.Damage.{kept, libertyAt, Damage, lineDigits}
-use Rattle.promises.specs.Calls.{Lent, SendAccepted, sentLine, sentCounts, sentDigits, ReadAccepted, readCounts, readDigits, sentOn, LentAt, DamageAt, SendsSame, SendReturned, SendBack, ReadsSame}
+use Rattle.promises.specs.Calls.{Lent, SendAccepted, sentLine, sentCounts, sentDigits, ReadAccepted, readCounts, readDigits}
+use Rattle.promises.specs.Calls.{sentOn, LentAt, DamageAt, SendsSame, SendReturned, SendBack, ReadsSame}
 use Rattle.promises.proofs.Lists.{differing-self}
 use Rattle.promises.proofs.Sent.{sent-group, sent-carried}
 use Rattle.promises.proofs.Reading.{note-fits}
 use Rattle.promises.proofs.Order.{carries-same, before-same}
 use Rattle.promises.proofs.Recovered.{kept-carries}
 use Rattle.promises.proofs.RoundTrip.{line-binary}
-use Rattle.promises.proofs.Accepted.{send-level, read-level, shared, quarters-length, line-digits, send-accepted, tributary, send-whole, send-places, send-sound, send-bytes, send-line, send-counts, send-count, accepted-size, read-sizes, read-answer, read-notes, read-frames, read-buffer}
+use Rattle.promises.proofs.Accepted.{send-level, read-level, shared, quarters-length, line-digits, send-accepted, tributary, send-whole, send-places, send-sound}
+use Rattle.promises.proofs.Accepted.{send-bytes, send-line, send-counts, send-count, accepted-size, read-sizes, read-answer, read-notes, read-frames, read-buffer}
 use Rattle.promises.proofs.Calls.{on-damage, send-returned, send-back}
 
 -- two sends with the same decisions and of the same tributaries: only service digits differ

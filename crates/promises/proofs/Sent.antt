@@ -104,4 +104,6 @@ module _ (row : Row) (sh : Shared row) where
     sent-carried j x hj h c =
         let w : (4 * x + j) % 4 ≡ j = omega arith in
         let q : (4 * x + j) / 4 ≡ x = omega arith in
-        sent-at (4 * x + j) h ∙ rw (w, q) (digit-carried row (getD notes (posOf row (4 * x + j) .frame) 0) j (posOf row (4 * x + j) .place) (getD (tributary j) (before row (decisions notes j) j x) 0) (kindAt row (4 * x + j)) c)
+        let at = posOf row (4 * x + j) in
+        sent-at (4 * x + j) h
+        ∙ rw (w, q) (digit-carried row (getD notes (at .frame) 0) j (at .place) (getD (tributary j) (before row (decisions notes j) j x) 0) (kindAt row (4 * x + j)) c)

@@ -23,17 +23,26 @@ read-notes-requires c κs =
 
 extract-all-requires : tie.Need-extract-all-requires
 extract-all-requires c κs =
-    let b = c .before .before .before .before .before .before .before .before .before .before .before in
+    let c4 = c .before .before .before .before in
+    let c6 = c4 .before .before in
+    let c7 = c6 .before in
+    let c11 = c7 .before .before .before .before in
+    let b = c11 in
     let a = b .args in
-    let same : length (c .before .before .before .before .read-notes .last .1 .1 .0) ≡ length (a .notes .now) = omega arith in
-    (b .pre, rw same (accepted (a .row) (length (a .line .now)) (length (a .notes .now)) (length (a .buffer .now)) (sym (c .before .before .before .before .before .before .before .size-refusal .ensures) ∙ c .before .before .before .before .before .before .if1 .left)))
+    let same : length (c4 .read-notes .last .1 .1 .0) ≡ length (a .notes .now) = omega arith in
+    (b .pre, rw same (accepted (a .row) (length (a .line .now)) (length (a .notes .now)) (length (a .buffer .now)) (sym (c7 .size-refusal .ensures) ∙ c6 .if1 .left)))
 
 returns-2 : tie.Need-returns-2
 returns-2 c =
-    let a = c .before .before .before .before .before .before .before .before .before .before .before .before .before .before .args in
-    let read = c .before .before .before .before .before .before .before .read-notes in
-    let all = c .before .before .extract-all in
-    read-and-extracted (a .row) (a .line .now) (a .notes .now) (a .buffer .now) (sym (c .before .before .before .before .before .before .before .before .before .before .size-refusal .ensures) ∙ c .before .before .before .before .before .before .before .before .before .if1 .left)
+    let c2 = c .before .before in
+    let c7 = c2 .before .before .before .before .before in
+    let c9 = c7 .before .before in
+    let c10 = c9 .before in
+    let c14 = c10 .before .before .before .before in
+    let a = c14 .args in
+    let read = c7 .read-notes in
+    let all = c2 .extract-all in
+    read-and-extracted (a .row) (a .line .now) (a .notes .now) (a .buffer .now) (sym (c10 .size-refusal .ensures) ∙ c9 .if1 .left)
     (read .last .1 .1 .0) (all .last .1 .1 .1 .0) (all .result) (read .result .alignment) (read .result .groups) (read .ensures) (all .ensures)
 
 pub demultiplex-on-spec : {M : Type 1} → statement M

@@ -17,9 +17,11 @@ abbrev μ-loop : tie.MeasureT-loop
 
 loop-holds : tie.Need-loop-holds Inv-loop μ-loop
 loop-holds c =
-    let clear = c .before .before .clear in
-    let same : length (clear .last .0) ≡ length (c .before .before .before .before .before .before .before .args .dst .now) = omega arith in
-    (omega arith, rw same (extracting-none _ _ _ _ (length (c .before .before .before .before .before .before .before .args .dst .now)) (clear .last .0) (c .before .before .before .before .before .before .before .pre .0) (c .before .before .before .before .before .before .before .pre .1) (clear .ensures)))
+    let c2 = c .before .before in
+    let c7 = c2 .before .before .before .before .before in
+    let clear = c2 .clear in
+    let same : length (clear .last .0) ≡ length (c7 .args .dst .now) = omega arith in
+    (omega arith, rw same (extracting-none _ _ _ _ (length (c7 .args .dst .now)) (clear .last .0) (c7 .pre .0) (c7 .pre .1) (clear .ensures)))
 
 note-of-requires : tie.Need-note-of-requires Inv-loop μ-loop
 note-of-requires c κs = here-is (c .before .loop .inv .1) (c .loop-test .taken) .frame-noted
@@ -35,8 +37,12 @@ add-t20 c = omega (arith, here-is (c .before .before .before .loop .inv .1) (c .
 
 take-one-requires : tie.Need-take-one-requires Inv-loop μ-loop
 take-one-requires c κs =
-    let own = c .before .is-stuffed .ensures ∙ ap (λ (note : ℕ). stuffed note (c .before .before .before .before .before .before .before .before .before .before .before .before .args .j)) (c .before .before .note-of .ensures) in
-    take-asks (c .before .before .before .before .loop .inv .1) (c .before .before .before .loop-test .taken) (c .before .is-stuffed .result) own
+    let c2 = c .before .before in
+    let c3 = c2 .before in
+    let c4 = c3 .before in
+    let c12 = c4 .before .before .before .before .before .before .before .before in
+    let own = c .before .is-stuffed .ensures ∙ ap (λ (note : ℕ). stuffed note (c12 .args .j)) (c2 .note-of .ensures) in
+    take-asks (c4 .loop .inv .1) (c3 .loop-test .taken) (c .before .is-stuffed .result) own
 
 next-column-requires : tie.Need-next-column-requires Inv-loop μ-loop
 next-column-requires c κs = next-asks (c .before .before .before .before .before .before .before .loop .inv .1) (c .before .before .before .before .before .before .loop-test .taken)
@@ -49,9 +55,15 @@ loop-less c = omega arith
 
 loop-again : tie.Need-loop-again Inv-loop μ-loop
 loop-again c =
-    let own = c .before .before .before .before .before .is-stuffed .ensures ∙ ap (λ (note : ℕ). stuffed note (c .before .before .before .before .before .before .before .before .before .before .before .before .before .before .before .before .args .j)) (c .before .before .before .before .before .before .note-of .ensures) in
-    let one = c .before .before .before .take-one in
-    (omega arith, extracting-more (c .before .before .before .before .before .before .before .before .loop .inv .1) (c .before .before .before .before .before .before .before .loop-test .taken) (c .before .before .before .before .before .is-stuffed .result) own (one .result .0) _ (one .ensures) _ (c .next-column .ensures))
+    let c3 = c .before .before .before in
+    let c5 = c3 .before .before in
+    let c6 = c5 .before in
+    let c7 = c6 .before in
+    let c8 = c7 .before in
+    let c16 = c8 .before .before .before .before .before .before .before .before in
+    let own = c5 .is-stuffed .ensures ∙ ap (λ (note : ℕ). stuffed note (c16 .args .j)) (c6 .note-of .ensures) in
+    let one = c3 .take-one in
+    (omega arith, extracting-more (c8 .loop .inv .1) (c7 .loop-test .taken) (c5 .is-stuffed .result) own (one .result .0) _ (one .ensures) _ (c .next-column .ensures))
 
 same-length : tie.Need-same-length Inv-loop μ-loop
 same-length c = omega (arith, c .before .loop .inv .1 .size)

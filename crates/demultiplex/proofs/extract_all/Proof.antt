@@ -49,8 +49,11 @@ loop-less c = omega arith
 
 loop-again : tie.Need-loop-again Inv-loop μ-loop
 loop-again c =
-    let extract = c .before .before .extract in
-    (omega arith, quarters-more (c .before .before .before .before .before .loop .inv .1) (c .before .before .before .before .loop-test .taken) (extract .result) (extract .last .1 .1 .1 .0) (extract .ensures))
+    let c2 = c .before .before in
+    let c4 = c2 .before .before in
+    let c5 = c4 .before in
+    let extract = c2 .extract in
+    (omega arith, quarters-more (c5 .loop .inv .1) (c4 .loop-test .taken) (extract .result) (extract .last .1 .1 .1 .0) (extract .ensures))
 
 same-length : tie.Need-same-length Inv-loop μ-loop
 same-length c = omega (arith, c .before .loop .inv .1 .size, c .before .before .before .before .before .pre .1 .quarters)

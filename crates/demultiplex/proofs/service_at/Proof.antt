@@ -9,17 +9,28 @@ use Rattle.demultiplex.proofs.service_at.Statement.{statement}
 use Rattle.demultiplex.proofs.service_at.Tie as tie
 
 mul-t7 : tie.Need-mul-t7
-mul-t7 c = omega (arith, frame-end _ (c .before .before .before .before .pre .0) (c .before .before .before .before .args .f) (length (c .before .before .before .before .args .line .now)) (c .before .before .before .before .pre .2))
+mul-t7 c =
+    let c4 = c .before .before .before .before in
+    omega (arith, frame-end _ (c4 .pre .0) (c4 .args .f) (length (c4 .args .line .now)) (c4 .pre .2))
 
 add-t9 : tie.Need-add-t9
-add-t9 c = omega (arith, service-inside _ (c .before .before .before .before .before .pre .0) (c .before .before .before .before .before .args .f) (length (c .before .before .before .before .before .args .line .now)) (c .before .before .before .before .before .pre .2) (c .before .before .before .before .before .args .k) (c .before .before .if1 .taken))
+add-t9 c =
+    let c2 = c .before .before in
+    let c5 = c2 .before .before .before in
+    omega (arith, service-inside _ (c5 .pre .0) (c5 .args .f) (length (c5 .args .line .now)) (c5 .pre .2) (c5 .args .k) (c2 .if1 .taken))
 
 line-digit-requires : tie.Need-line-digit-requires
-line-digit-requires c κs = service-inside _ (c .before .before .before .before .before .pre .0) (c .before .before .before .before .before .args .f) (length (c .before .before .before .before .before .args .line .now)) (c .before .before .before .before .before .pre .2) (c .before .before .before .before .before .args .k) (c .before .before .if1 .taken)
+line-digit-requires c κs =
+    let c2 = c .before .before in
+    let c5 = c2 .before .before .before in
+    service-inside _ (c5 .pre .0) (c5 .args .f) (length (c5 .args .line .now)) (c5 .pre .2) (c5 .args .k) (c2 .if1 .taken)
 
 returns : tie.Need-returns
 unfolding serviceAt
-returns c = rw (le-leb (c .before .before .before .before .before .before .args .k) (c .before .before .before .before .before .before .args .row .nationals) (c .before .before .before .if1 .taken)) (c .line-digit .ensures)
+returns c =
+    let c3 = c .before .before .before in
+    let c6 = c3 .before .before .before in
+    rw (le-leb (c6 .args .k) (c6 .args .row .nationals) (c3 .if1 .taken)) (c .line-digit .ensures)
 
 returns-2 : tie.Need-returns-2
 unfolding serviceAt

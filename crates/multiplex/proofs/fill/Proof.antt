@@ -1,6 +1,6 @@
 -- `fill`: after x turns every own place of the tributary in the first x columns has its digit (Filling).
 use mathlib.Core.Path.{_≡_, refl}
-use Prim.Native.Nat.{_≤_, _-_, _*_}
+use Prim.Native.Nat.{_≤_, _<_, _-_, _*_}
 use native.Mathlib.Omega.{arith}
 use lib.ListN.{length}
 use Rattle.digits.specs.Digits.{digitsOf}
@@ -43,10 +43,16 @@ loop-less c = omega (arith, c .before .before .before .before .before .before .l
 
 loop-again : tie.Need-loop-again Inv-loop μ-loop
 loop-again c =
-    let note = c .before .before .before .before .before .note-of in
-    let put = c .before .before .before .put-one in
-    let more = filling-more (c .before .before .before .before .before .before .before .loop .inv .2) (omega (arith, c .before .before .before .before .before .before .loop-test .taken, c .before .before .before .before .before .before .before .loop .inv .1)) (note .result) (note .ensures) (put .result .0) _ (put .ensures) (put .kept .1 .1 .0) _ (c .next-column .ensures) in
-    (omega (arith, c .before .before .before .before .before .before .loop-test .taken), c .before .before .before .before .before .before .before .loop .inv .1, more)
+    let c3 = c .before .before .before in
+    let c5 = c3 .before .before in
+    let c6 = c5 .before in
+    let c7 = c6 .before in
+    let c11 = c7 .before .before .before .before in
+    let note = c5 .note-of in
+    let put = c3 .put-one in
+    let inside : c7 .loop .x < 2 * length (c11 .args .line .now) = omega (arith, c6 .loop-test .taken, c7 .loop .inv .1) in
+    let more = filling-more (c7 .loop .inv .2) inside (note .result) (note .ensures) (put .result .0) _ (put .ensures) (put .kept .1 .1 .0) _ (c .next-column .ensures) in
+    (omega (arith, c6 .loop-test .taken), c7 .loop .inv .1, more)
 
 same-length : tie.Need-same-length Inv-loop μ-loop
 same-length c = c .before .loop .inv .2 .kept

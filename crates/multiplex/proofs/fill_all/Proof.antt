@@ -52,12 +52,17 @@ loop-less c = omega (arith, c .before .before .before .before .before .loop-test
 
 loop-again : tie.Need-loop-again Inv-loop μ-loop
 loop-again c =
-    let b = c .before .before .before .before .before .before .before .before .before .before in
-    let l = c .before .before .before .before .before .before .loop in
-    let pass = c .before .before .fill in (
-      omega (arith, c .before .before .before .before .before .loop-test .taken),
+    let c2 = c .before .before in
+    let c5 = c2 .before .before .before in
+    let c6 = c5 .before in
+    let c10 = c6 .before .before .before .before in
+    let b = c10 in
+    let l = c6 .loop in
+    let pass = c2 .fill in (
+      omega (arith, c5 .loop-test .taken),
       refl,
-      passed-more _ _ _ _ (b .pre .0) (b .pre .1) (l .j) (c .before .before .before .before .before .loop-test .taken) (l .counts) (l .line) _ _ _ (l .inv .2) (ap digitsOf (quarter-part (b .args .buffer .now) (l .j))) (pass .ensures) (pass .kept .1 .0),
+      passed-more _ _ _ _ (b .pre .0) (b .pre .1) (l .j) (c5 .loop-test .taken) (l .counts) (l .line) _ _ _ (l .inv .2)
+          (ap digitsOf (quarter-part (b .args .buffer .now) (l .j))) (pass .ensures) (pass .kept .1 .0),
     )
 
 same-length : tie.Need-same-length Inv-loop μ-loop

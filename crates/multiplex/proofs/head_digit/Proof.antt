@@ -9,11 +9,14 @@ use Rattle.multiplex.proofs.head_digit.Tie as tie
 
 returns : tie.Need-returns
 returns c =
-    (λ j next. rw (kind-word (c .before .before .before .before .args .row) (c .before .before .before .before .pre .0) (c .before .before .before .before .args .r .0) (c .before .before .if1 .taken)), omega arith)
+    let c2 = c .before .before in
+    let c4 = c2 .before .before in
+    (λ j next. rw (kind-word (c4 .args .row) (c4 .pre .0) (c4 .args .r .0) (c2 .if1 .taken)), omega arith)
 
 returns-2 : tie.Need-returns-2
 returns-2 c =
-    (λ j next. sym (service-bit (c .before .before .before .args .row) (c .before .before .before .pre .0) (c .before .before .before .args .note) j (c .before .before .before .args .r .0) next (c .before .if1 .left) (c .before .before .before .pre .1)), omega arith)
+    let c3 = c .before .before .before in
+    (λ j next. sym (service-bit (c3 .args .row) (c3 .pre .0) (c3 .args .note) j (c3 .args .r .0) next (c .before .if1 .left) (c3 .pre .1)), omega arith)
 
 pub head-digit-spec : {M : Type 1} → statement M
 head-digit-spec =

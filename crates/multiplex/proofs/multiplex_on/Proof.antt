@@ -35,12 +35,20 @@ fill-all-requires c κs =
 
 returns-3 : tie.Need-returns-3
 returns-3 c =
-    let a = c .before .before .before .before .before .before .before .before .before .before .before .before .before .before .before .args in
-    let z = sym (c .before .before .before .before .before .before .before .before .before .before .before .size-refusal .ensures) ∙ c .before .before .before .before .before .before .before .before .before .before .if1 .left in
-    let f = c .before .before .before .before .before .before .before .before .before .first-faulty .ensures in
-    let heads = c .before .before .before .before .before .before .write-heads in
-    let filled = c .before .before .fill-all in
-    sent-whole (a .row) (a .line .now) (a .notes .now) (a .buffer .now) _ _ (heads .kept .1 .0) (filled .kept .1 .0 ∙ heads .kept .1 .0) (heads .ensures) z (rw f at (c .before .before .before .before .before .before .before .before .if2 .left)) (filled .result) (filled .ensures)
+    let c2 = c .before .before in
+    let c6 = c2 .before .before .before .before in
+    let c8 = c6 .before .before in
+    let c9 = c8 .before in
+    let c10 = c9 .before in
+    let c11 = c10 .before in
+    let c15 = c11 .before .before .before .before in
+    let a = c15 .args in
+    let z = sym (c11 .size-refusal .ensures) ∙ c10 .if1 .left in
+    let f = c9 .first-faulty .ensures in
+    let heads = c6 .write-heads in
+    let filled = c2 .fill-all in
+    sent-whole (a .row) (a .line .now) (a .notes .now) (a .buffer .now) _ _ (heads .kept .1 .0) (filled .kept .1 .0 ∙ heads .kept .1 .0)
+    (heads .ensures) z (rw f at (c8 .if2 .left)) (filled .result) (filled .ensures)
 
 pub multiplex-on-spec : {M : Type 1} → statement M
 multiplex-on-spec =

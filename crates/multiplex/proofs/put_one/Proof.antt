@@ -14,24 +14,44 @@ returns c =
 
 tributary-digit-requires : tie.Need-tributary-digit-requires
 tributary-digit-requires c κs =
-    c .before .before .before .before .before .before .before .before .before .pre .4 (ap₂ carried (sym (c .before .before .before .before .before .before .kind-of .ensures)) (sym (c .before .before .before .before .before .is-stuffed .ensures)) ∙ sym (c .before .before .carries-digit .ensures) ∙ c .before .if2 .taken)
+    let c2 = c .before .before in
+    let c5 = c2 .before .before .before in
+    let c6 = c5 .before in
+    let c9 = c6 .before .before .before in
+    c9 .pre .4 (ap₂ carried (sym (c6 .kind-of .ensures)) (sym (c5 .is-stuffed .ensures)) ∙ sym (c2 .carries-digit .ensures) ∙ c .before .if2 .taken)
 
 returns-2 : tie.Need-returns-2
 returns-2 c =
-    let k = c .before .before .before .before .before .before .before .before .before .before .before .kind-of .ensures in
-    let own = ap isOwn (sym k) ∙ sym (c .before .before .before .before .before .before .before .before .before .is-own .ensures) ∙ not-false _ (c .before .before .before .before .before .before .before .before .if1 .left) in
-    let carrying = ap₂ carried (sym k) (sym (c .before .before .before .before .before .before .before .before .before .before .is-stuffed .ensures)) ∙ sym (c .before .before .before .before .before .before .before .carries-digit .ensures) ∙ c .before .before .before .before .before .before .if2 .taken in
-    let put = c .before .before .before .put-line-digit .ensures in
-    put-carried _ _ _ _ _ _ _ _ own _ (put .1) carrying (put .0 ∙ rw (c .before .before .before .before .tributary-digit .ensures .0))
+    let c3 = c .before .before .before in
+    let c4 = c3 .before in
+    let c6 = c4 .before .before in
+    let c7 = c6 .before in
+    let c8 = c7 .before in
+    let c9 = c8 .before in
+    let c10 = c9 .before in
+    let c11 = c10 .before in
+    let k = c11 .kind-of .ensures in
+    let own = ap isOwn (sym k) ∙ sym (c9 .is-own .ensures) ∙ not-false _ (c8 .if1 .left) in
+    let carrying = ap₂ carried (sym k) (sym (c10 .is-stuffed .ensures)) ∙ sym (c7 .carries-digit .ensures) ∙ c6 .if2 .taken in
+    let put = c3 .put-line-digit .ensures in
+    put-carried _ _ _ _ _ _ _ _ own _ (put .1) carrying (put .0 ∙ rw (c4 .tributary-digit .ensures .0))
 
 returns-3 : tie.Need-returns-3
 returns-3 c =
-    let k = c .before .before .before .before .before .before .before .before .before .before .kind-of .ensures in
-    let st = c .before .before .before .before .before .before .before .before .before .is-stuffed .ensures in
-    let own = ap isOwn (sym k) ∙ sym (c .before .before .before .before .before .before .before .before .is-own .ensures) ∙ not-false _ (c .before .before .before .before .before .before .before .if1 .left) in
-    let idle = ap₂ carried (sym k) (sym st) ∙ sym (c .before .before .before .before .before .before .carries-digit .ensures) ∙ c .before .before .before .before .before .if2 .left in
-    let put = c .before .before .put-line-digit2 .ensures in
-    put-idle _ _ _ _ _ _ _ _ own _ (put .1) idle (put .0 ∙ rw (c .before .before .before .idle-digit .ensures .0, k, st))
+    let c2 = c .before .before in
+    let c3 = c2 .before in
+    let c5 = c3 .before .before in
+    let c6 = c5 .before in
+    let c7 = c6 .before in
+    let c8 = c7 .before in
+    let c9 = c8 .before in
+    let c10 = c9 .before in
+    let k = c10 .kind-of .ensures in
+    let st = c9 .is-stuffed .ensures in
+    let own = ap isOwn (sym k) ∙ sym (c8 .is-own .ensures) ∙ not-false _ (c7 .if1 .left) in
+    let idle = ap₂ carried (sym k) (sym st) ∙ sym (c6 .carries-digit .ensures) ∙ c5 .if2 .left in
+    let put = c2 .put-line-digit2 .ensures in
+    put-idle _ _ _ _ _ _ _ _ own _ (put .1) idle (put .0 ∙ rw (c3 .idle-digit .ensures .0, k, st))
 
 pub put-one-spec : {M : Type 1} → statement M
 put-one-spec =

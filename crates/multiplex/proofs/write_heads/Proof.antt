@@ -22,14 +22,20 @@ shared-slice-read-write-head c = omega arith
 
 write-head-requires : tie.Need-write-head-requires Inv-loop μ-loop
 write-head-requires c κs =
-    let l = c .before .before .before .loop in
-    let room = head-room _ (l .inv .0) _ (c .before .before .before .before .before .before .args .line .now) (c .before .before .before .before .before .before .pre .1) (c .before .before .before .before .before .before .pre .2) (l .f) (l .start .0) (l .line) (c .before .before .loop-test .taken) (l .inv .2) in
-    (c .before .before .before .before .before .before .pre .0, room .0, room .1)
+    let c2 = c .before .before in
+    let c3 = c2 .before in
+    let c6 = c3 .before .before .before in
+    let l = c3 .loop in
+    let room = head-room _ (l .inv .0) _ (c6 .args .line .now) (c6 .pre .1) (c6 .pre .2) (l .f) (l .start .0) (l .line) (c2 .loop-test .taken) (l .inv .2) in
+    (c6 .pre .0, room .0, room .1)
 
 add-t6 : tie.Need-add-t6 Inv-loop μ-loop
 add-t6 c =
-    let l = c .before .before .before .before .before .before .before .before .loop in
-    omega (arith, head-room _ (l .inv .0) _ (c .before .before .before .before .before .before .before .before .before .before .before .args .line .now) (c .before .before .before .before .before .before .before .before .before .before .before .pre .1) (c .before .before .before .before .before .before .before .before .before .before .before .pre .2) (l .f) (l .start .0) (l .line) (c .before .before .before .before .before .before .before .loop-test .taken) (l .inv .2))
+    let c7 = c .before .before .before .before .before .before .before in
+    let c8 = c7 .before in
+    let c11 = c8 .before .before .before in
+    let l = c8 .loop in
+    omega (arith, head-room _ (l .inv .0) _ (c11 .args .line .now) (c11 .pre .1) (c11 .pre .2) (l .f) (l .start .0) (l .line) (c7 .loop-test .taken) (l .inv .2))
 
 add-f : tie.Need-add-f Inv-loop μ-loop
 add-f c = omega (arith, c .before .before .before .before .before .before .before .loop-test .taken)
@@ -39,18 +45,22 @@ loop-less c = omega (arith, c .before .before .before .before .before .before .b
 
 loop-again : tie.Need-loop-again Inv-loop μ-loop
 loop-again c =
-    let l = c .before .before .before .before .before .before .before .before .loop in
-    let head = c .before .before .before .before .write-head in
-    (l .inv .0, omega (arith, c .before .before .before .before .before .before .before .loop-test .taken), heading-more _ _ _ _ (l .f) (l .start .0) (l .line) _ (l .inv .2) (head .ensures) (head .kept .1 .0))
+    let c4 = c .before .before .before .before in
+    let c7 = c4 .before .before .before in
+    let c8 = c7 .before in
+    let l = c8 .loop in
+    let head = c4 .write-head in
+    (l .inv .0, omega (arith, c7 .loop-test .taken), heading-more _ _ _ _ (l .f) (l .start .0) (l .line) _ (l .inv .2) (head .ensures) (head .kept .1 .0))
 
 same-length : tie.Need-same-length Inv-loop μ-loop
 same-length c = omega (arith, c .before .loop .inv .2 .kept)
 
 returns : tie.Need-returns Inv-loop μ-loop
 returns c =
+    let c4 = c .before .before .before .before in
     let l = c .before .loop in
-    let end : l .f ≡ length (c .before .before .before .before .args .notes .now) = omega arith in
-    heading-end (c .before .before .before .before .args .row) (l .inv .0) _ _ (l .f) (l .start .0) (l .line) (c .before .before .before .before .pre .1 ∙ ap (λ (k : ℕ). k * c .before .before .before .before .args .row .bytes) (sym end)) (l .inv .2)
+    let end : l .f ≡ length (c4 .args .notes .now) = omega arith in
+    heading-end (c4 .args .row) (l .inv .0) _ _ (l .f) (l .start .0) (l .line) (c4 .pre .1 ∙ ap (λ (k : ℕ). k * c4 .args .row .bytes) (sym end)) (l .inv .2)
 
 pub write-heads-spec : {M : Type 1} → statement M
 write-heads-spec =

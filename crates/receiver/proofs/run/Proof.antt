@@ -37,13 +37,23 @@ digit-at-requires : tie.Need-digit-at-requires Inv-loop μ-loop
 digit-at-requires c κs = omega (arith, c .hunt-on .ensures .before, c .before .before .loop .inv .within)
 
 step-requires : tie.Need-step-requires Inv-loop μ-loop
-step-requires c κs = (c .before .before .before .before .before .before .before .before .before .pre .0, c .before .before .before .before .before .before .before .mask-of .ensures, c .before .hunt-on .ensures .valid, c .digit-at .ensures .1)
+step-requires c κs =
+    let c7 = c .before .before .before .before .before .before .before in
+    let c9 = c7 .before .before in
+    (c9 .pre .0, c7 .mask-of .ensures, c .before .hunt-on .ensures .valid, c .digit-at .ensures .1)
 
 keep-requires : tie.Need-keep-requires Inv-loop μ-loop
-keep-requires c κs = (c .before .before .before .before .before .before .before .before .before .before .before .pre .0, omega arith, rw (c .before .step .ensures) (step-valid (c .before .before .before .before .before .before .before .before .before .before .before .args .row) (c .before .before .before .before .before .before .before .before .before .before .before .pre .0) _ (c .before .before .before .hunt-on .ensures .valid) (c .before .before .digit-at .result)), c .before .before .digit-at .ensures .1)
+keep-requires c κs =
+    let c2 = c .before .before in
+    let c3 = c2 .before in
+    let c11 = c3 .before .before .before .before .before .before .before .before in
+    (c11 .pre .0, omega arith, rw (c .before .step .ensures) (step-valid (c11 .args .row) (c11 .pre .0) _ (c3 .hunt-on .ensures .valid) (c2 .digit-at .result)), c2 .digit-at .ensures .1)
 
 add-p : tie.Need-add-p Inv-loop μ-loop
-add-p c = omega (arith, c .before .before .before .before .hunt-on .ensures .before, c .before .before .before .before .before .before .loop .inv .within, c .before .before .before .before .before .before .loop .inv .small)
+add-p c =
+    let c4 = c .before .before .before .before in
+    let c6 = c4 .before .before in
+    omega (arith, c4 .hunt-on .ensures .before, c6 .loop .inv .within, c6 .loop .inv .small)
 
 is-ready-requires : tie.Need-is-ready-requires Inv-loop μ-loop
 is-ready-requires c κs = c .before .before .before .before .before .before .before .before .before .before .before .before .pre .0
@@ -52,30 +62,47 @@ is-all-ones-requires : tie.Need-is-all-ones-requires Inv-loop μ-loop
 is-all-ones-requires c κs = c .before .before .before .before .before .before .before .before .before .before .before .before .before .before .before .pre .0
 
 sub-accept : tie.Need-sub-accept Inv-loop μ-loop
-sub-accept c = omega (arith, c .before .before .before .before .before .before .before .before .before .before .loop .inv .from, c .before .before .before .before .before .before .before .before .hunt-on .ensures .from)
+sub-accept c =
+    let c8 = c .before .before .before .before .before .before .before .before in
+    let c10 = c8 .before .before in
+    omega (arith, c10 .loop .inv .from, c8 .hunt-on .ensures .from)
 
 returns : tie.Need-returns Inv-loop μ-loop
 returns c =
-    let g = going-on _ _ _ _ _ _ _ _ _ _ _ _ _ (c .before .before .before .before .before .before .before .before .before .before .before .loop .inv) (c .before .before .before .before .before .before .before .before .before .hunt-on .ensures) in
-    let ready = sym (c .before .before .before .before .is-ready .ensures) ∙ c .before .before .before .if1 .taken in
-    let whole = run-ready _ _ _ _ _ _ _ _ _ _ _ g (c .before .before .before .before .before .before .before .before .before .hunt-on .ensures .before) _ _ _ (c .before .before .before .before .before .before .before .before .digit-at .ensures .0) (c .before .before .before .before .before .before .before .step .ensures) (c .before .before .before .before .before .keep .ensures) ready in
-    c .accept .ensures ∙ rw (c .before .is-all-ones .ensures) (rw (c .before .before .before .before .before .before .before .before .before .before .before .before .before .core-of .ensures) at whole)
+    let c3 = c .before .before .before in
+    let c4 = c3 .before in
+    let c5 = c4 .before in
+    let c7 = c5 .before .before in
+    let c8 = c7 .before in
+    let c9 = c8 .before in
+    let c11 = c9 .before .before in
+    let c13 = c11 .before .before in
+    let g = going-on _ _ _ _ _ _ _ _ _ _ _ _ _ (c11 .loop .inv) (c9 .hunt-on .ensures) in
+    let ready = sym (c4 .is-ready .ensures) ∙ c3 .if1 .taken in
+    let whole = run-ready _ _ _ _ _ _ _ _ _ _ _ g (c9 .hunt-on .ensures .before) _ _ _ (c8 .digit-at .ensures .0) (c7 .step .ensures) (c5 .keep .ensures) ready in
+    c .accept .ensures ∙ rw (c .before .is-all-ones .ensures) (rw (c13 .core-of .ensures) at whole)
 
 loop-less : tie.Need-loop-less Inv-loop μ-loop
 loop-less c = omega (arith, c .before .before .before .before .before .before .hunt-on .ensures .from, c .before .before .before .before .before .before .hunt-on .ensures .before)
 
 loop-again : tie.Need-loop-again Inv-loop μ-loop
 loop-again c =
-    let g = going-on _ _ _ _ _ _ _ _ _ _ _ _ _ (c .before .before .before .before .before .before .before .before .loop .inv) (c .before .before .before .before .before .before .hunt-on .ensures) in
+    let c2 = c .before .before in
+    let c4 = c2 .before .before in
+    let c5 = c4 .before in
+    let c6 = c5 .before in
+    let c8 = c6 .before .before in
+    let c14 = c8 .before .before .before .before .before .before in
+    let g = going-on _ _ _ _ _ _ _ _ _ _ _ _ _ (c8 .loop .inv) (c6 .hunt-on .ensures) in
     let on = sym (c .before .is-ready .ensures) ∙ c .if1 .left in
     record {
-      valid = rw (c .before .before .before .before .step .ensures) (step-valid (c .before .before .before .before .before .before .before .before .before .before .before .before .before .before .args .row) (c .before .before .before .before .before .before .before .before .before .before .before .before .before .before .pre .0) _ (g .valid) (c .before .before .before .before .before .digit-at .result));
+      valid = rw (c4 .step .ensures) (step-valid (c14 .args .row) (c14 .pre .0) _ (g .valid) (c5 .digit-at .result));
       from = omega (arith, g .from);
-      upto = omega (arith, c .before .before .before .before .before .before .hunt-on .ensures .before);
+      upto = omega (arith, c6 .hunt-on .ensures .before);
       ends = g .ends;
       within = g .within;
       small = g .small;
-      same = run-on _ _ _ _ _ _ _ _ _ _ _ g (c .before .before .before .before .before .before .hunt-on .ensures .before) _ _ _ (c .before .before .before .before .before .digit-at .ensures .0) (c .before .before .before .before .step .ensures) (c .before .before .keep .ensures) on;
+      same = run-on _ _ _ _ _ _ _ _ _ _ _ g (c6 .hunt-on .ensures .before) _ _ _ (c5 .digit-at .ensures .0) (c4 .step .ensures) (c2 .keep .ensures) on;
     }
 
 sub-accept-2 : tie.Need-sub-accept-2 Inv-loop μ-loop

@@ -40,8 +40,11 @@ loop-less c = omega arith
 
 loop-again : tie.Need-loop-again Inv-loop μ-loop
 loop-again c =
-    let l = c .before .before .before .before .before .before .before .loop in
-    (omega arith, omega arith, omega arith, mixing-more _ _ _ (l .line) _ (l .p) _ (l .inv .3) (omega arith) (c .before .before .before .before .late-digit .ensures .0) (c .before .before .put-digit .ensures .0), λ h. c .before .before .put-digit .ensures .1)
+    let c2 = c .before .before in
+    let c4 = c2 .before .before in
+    let c7 = c4 .before .before .before in
+    let l = c7 .loop in
+    (omega arith, omega arith, omega arith, mixing-more _ _ _ (l .line) _ (l .p) _ (l .inv .3) (omega arith) (c4 .late-digit .ensures .0) (c2 .put-digit .ensures .0), λ h. c2 .put-digit .ensures .1)
 
 same-length : tie.Need-same-length Inv-loop μ-loop
 same-length c = omega arith

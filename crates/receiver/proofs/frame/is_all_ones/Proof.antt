@@ -37,10 +37,13 @@ loop-less c = omega arith
 
 loop-again : tie.Need-loop-again Inv-loop μ-loop
 loop-again c =
-    let l = c .before .before .before .before .before .loop in
+    let c3 = c .before .before .before in
+    let c5 = c3 .before .before in
+    let c6 = c5 .before in
+    let l = c5 .loop in
     let d = c .before .digit-at in
     let right = eq-eqb (d .result) 1 (c .if2 .left) in
-    (omega arith, omega arith, rw (ones-step _ (c .before .before .before .before .before .before .args .row .digits) (l .p) (c .before .before .before .if1 .taken), ← d .ensures .0, right) at (l .inv .2))
+    (omega arith, omega arith, rw (ones-step _ (c6 .args .row .digits) (l .p) (c3 .if1 .taken), ← d .ensures .0, right) at (l .inv .2))
 
 returns-2 : tie.Need-returns-2 Inv-loop μ-loop
 returns-2 c =

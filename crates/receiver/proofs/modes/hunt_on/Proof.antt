@@ -10,7 +10,9 @@ use Rattle.receiver.proofs.modes.hunt_on.Statement.{statement}
 use Rattle.receiver.proofs.modes.hunt_on.Tie as tie
 
 abbrev Inv-loop : tie.InvT-loop
-Inv-loop row mask piece first end seen last window₀ at₀ window at = (at ≤ last) × (last + 1 ≡ end) × (seen ≤ row .len) × Hunted row piece end first (stillHunting row window₀ seen) at (stillHunting row window (seen + (at - first)))
+Inv-loop row mask piece first end seen last window₀ at₀ window at =
+    (at ≤ last) × (last + 1 ≡ end) × (seen ≤ row .len)
+    × Hunted row piece end first (stillHunting row window₀ seen) at (stillHunting row window (seen + (at - first)))
 
 abbrev μ-loop : tie.MeasureT-loop
 μ-loop row mask piece first end seen last window₀ at₀ window at = last - at
@@ -32,7 +34,10 @@ digit-at-requires c κs = omega arith
 
 window-of-requires : tie.Need-window-of-requires Inv-loop μ-loop
 unfolding stillHunting
-window-of-requires c κs = (c .before .before .before .before .before .before .pre .0, c .before .before .before .before .before .before .pre .1, c .before .before .loop .inv .3 .valid .window, c .digit-at .ensures .1)
+window-of-requires c κs =
+    let c2 = c .before .before in
+    let c6 = c2 .before .before .before .before in
+    (c6 .pre .0, c6 .pre .1, c2 .loop .inv .3 .valid .window, c .digit-at .ensures .1)
 
 sub-still-hunting : tie.Need-sub-still-hunting Inv-loop μ-loop
 sub-still-hunting c = omega (arith, c .before .before .before .before .before .loop .inv .3 .from)
@@ -54,14 +59,18 @@ loop-less c = omega (arith, c .before .before .before .before .loop-test)
 
 loop-again : tie.Need-loop-again Inv-loop μ-loop
 loop-again c =
-    let b = c .before .before .before .before .before .before .before .before .before in
-    let l = c .before .before .before .before .before .loop in
+    let c2 = c .before .before in
+    let c3 = c2 .before in
+    let c5 = c3 .before .before in
+    let c9 = c5 .before .before .before .before in
+    let b = c9 in
+    let l = c5 .loop in
     let n : b .args .c .seen + (l .at + 1 - b .args .first) ≡ b .args .c .seen + (l .at - b .args .first) + 1 = omega (arith, l .inv .3 .from) in
     let bad = sym (c .before .is-good .ensures) ∙ c .if2 .left in (
       omega arith,
       l .inv .1,
       l .inv .2,
-      rw n (hunted-more (b .args .row) (b .pre .0) _ _ _ _ (l .at) (l .window) _ _ _ (l .inv .3) (omega arith) (b .pre .5) (c .before .before .before .digit-at .ensures .0) (c .before .before .window-of .ensures) bad),
+      rw n (hunted-more (b .args .row) (b .pre .0) _ _ _ _ (l .at) (l .window) _ _ _ (l .inv .3) (omega arith) (b .pre .5) (c3 .digit-at .ensures .0) (c2 .window-of .ensures) bad),
     )
 
 sub-still-hunting-2 : tie.Need-sub-still-hunting-2 Inv-loop μ-loop

@@ -6,7 +6,10 @@ use Rattle.recordings.proofs.watch.listen.Tie as tie
 
 returns : tie.Need-returns
 returns c =
-    rw (c .change-of .ensures, c .before .before .is-aligned .ensures, c .before .is-aligned2 .ensures, c .before .before .before .before .feed .ensures, c .before .before .before .before .before .stretch .ensures)
+    let c2 = c .before .before in
+    let c4 = c2 .before .before in
+    let c5 = c4 .before in
+    rw (c .change-of .ensures, c2 .is-aligned .ensures, c .before .is-aligned2 .ensures, c4 .feed .ensures, c5 .stretch .ensures)
     (refl, refl)
 
 pub listen-spec : {M : Type 1} → statement M
