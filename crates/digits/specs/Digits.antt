@@ -2,7 +2,9 @@
 -- Document 01, "Digits and bytes": eight to a byte, first digit in the most significant bit.
 -- There is no other notion of a digit in the project: every statement on a line, a quarter or a frame goes through `digitsOf`.
 use Prim.Native.Nat.{ℕ, zero, suc, _+_, _*_, _/_, _%_, _^_, _<_}
+use mathlib.Core.Bool.{cond}
 use mathlib.Core.List.{List, [], _∷_, _++_}
+use lib.Dec.{eqb}
 use lib.ListN.{getD, drop}
 
 -- the eight digits of a byte, first digit in the most significant bit
@@ -46,3 +48,9 @@ Binary ds = (i : ℕ) → getD ds i 0 < 2
 -- the byte b with d as the digit that is worth 2 to the k: the digits above it, d, the digits below it
 unfoldable pub withDigit : ℕ → ℕ → ℕ → ℕ
 withDigit b k d = (b / 2 ^ k / 2 * 2 + d) * 2 ^ k + b % 2 ^ k
+
+-- in how many places two lists differ
+unfoldable pub differing : List ℕ → List ℕ → ℕ
+differing [] es = 0
+differing (d ∷ ds) [] = 0
+differing (d ∷ ds) (e ∷ es) = cond (eqb d e) 0 1 + differing ds es

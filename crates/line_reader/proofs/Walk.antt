@@ -11,13 +11,13 @@ use lib.Seq.{take-all, take-nil, drop-cons}
 use denote.Ref.{RefT, now}
 use Rattle.digits.specs.Digits.{digitsOf}
 use Rattle.digits.proofs.Laws.{digits-length}
-use Rattle.line_reader.specs.Step.{stepOf, ending, giving, readerAt, nextOf, movedOn}
+use Rattle.line_reader.specs.Step.{stepAt, ending, giving, readerAt, nextOf, movedOn}
 use Rattle.line_reader.specs.Walk.{readerAfter, stepsOf, digitsGiven}
 use Rattle.line_reader.proofs.Ways.{gives, past-last, over-long}
 
 -- ---- where the line has ended, nothing moves and no digit is given, however often one steps
 
-module _ (line : RefT (List ℕ)) (place : ℕ) (end : stepOf (now line) place ≡ ending place) where
+module _ (line : RefT (List ℕ)) (place : ℕ) (end : stepAt (now line) place ≡ ending place) where
   stays : movedOn (readerAt line place) ≡ readerAt line place
   stays = rw end
 

@@ -6,17 +6,17 @@ use mathlib.Core.List.{List}
 use Prim.Native.Nat.{ℕ, _*_, _≤_, _<_}
 use borrow.Author.Tests.{lt-ltb, le-ltb, le-leb, lt-leb}
 use lib.ListN.{length}
-use Rattle.line_reader.specs.Step.{hasEnded, stepOf, ending, giving}
+use Rattle.line_reader.specs.Step.{hasEnded, stepAt, ending, giving}
 
 module _ (line : List ℕ) (place : ℕ) where
-  pub gives : length line ≤ 65536 → place < 8 * length line → stepOf line place ≡ giving line place
-  unfolding stepOf hasEnded
+  pub gives : length line ≤ 65536 → place < 8 * length line → stepAt line place ≡ giving line place
+  unfolding stepAt hasEnded
   gives fits within = rw (lt-leb (8 * length line) place within, le-ltb 65536 (length line) fits)
 
-  pub past-last : 8 * length line ≤ place → stepOf line place ≡ ending place
-  unfolding stepOf hasEnded
+  pub past-last : 8 * length line ≤ place → stepAt line place ≡ ending place
+  unfolding stepAt hasEnded
   past-last past = rw (le-leb (8 * length line) place past)
 
-  pub over-long : 65536 < length line → stepOf line place ≡ ending place
-  unfolding stepOf hasEnded
+  pub over-long : 65536 < length line → stepAt line place ≡ ending place
+  unfolding stepAt hasEnded
   over-long long = rw (lt-ltb 65536 (length line) long, or-true)

@@ -24,8 +24,8 @@ ending place = record { ended = true; digit = 0; place = place }
 abbrev pub giving : List ℕ → ℕ → Step
 giving line place = record { ended = false; digit = getD (digitsOf line) place 0; place = place + 1 }
 
-unfoldable pub stepOf : List ℕ → ℕ → Step
-stepOf line place = cond (hasEnded line place) (ending place) (giving line place)
+unfoldable pub stepAt : List ℕ → ℕ → Step
+stepAt line place = cond (hasEnded line place) (ending place) (giving line place)
 
 -- ---- the reader: the lent line, and its place
 
@@ -34,7 +34,7 @@ readerAt line place = record { line = line; place = place }
 
 -- the step that a reader gives, and the reader after it
 abbrev pub nextOf : LineReader → Step
-nextOf r = stepOf (now (r .line)) (r .place)
+nextOf r = stepAt (now (r .line)) (r .place)
 
 abbrev pub movedOn : LineReader → LineReader
 movedOn r = readerAt (r .line) (nextOf r .place)
@@ -48,7 +48,7 @@ digitOrEnd s = cond (s .ended) 2 (s .digit)
 
 -- step_at: the step from a place of a line
 abbrev pub StepMet : List ℕ → ℕ → Step → Type 0
-StepMet line place step = step ≡ stepOf line place
+StepMet line place step = step ≡ stepAt line place
 
 -- new: a reader that holds the very line that was lent
 abbrev pub NewMet : RefT (List ℕ) → ℕ → LineReader → Type 0
@@ -60,4 +60,4 @@ NextMet reader step left = (step ≡ nextOf reader) × (left ≡ movedOn reader)
 
 -- line_digit: the digit, or 2 where the line has ended
 abbrev pub DigitMet : List ℕ → ℕ → ℕ → Type 0
-DigitMet line place digit = digit ≡ digitOrEnd (stepOf line place)
+DigitMet line place digit = digit ≡ digitOrEnd (stepAt line place)

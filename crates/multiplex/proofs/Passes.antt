@@ -2,12 +2,11 @@
 use mathlib.Core.Path.{_≡_, refl, sym, _∙_, ap}
 use mathlib.Core.Bool.{Bool, cond, true, false, _&&_}
 use mathlib.Core.List.{List}
-use Prim.Native.Nat.{ℕ, suc, _+_, _*_, _-_, _/_, _%_, _≤_, _<_}
+use Prim.Native.Nat.{ℕ, _+_, _*_, _/_, _%_, _<_}
 use native.Mathlib.Omega.{arith}
-use native.Mathlib.Nat.{add-mul, mul-le-mul-right, add-sub-cancel-left}
 use native.Mathlib.Decide.{ℕ-discrete}
 use lib.Dec.{eqb, ltb}
-use lib.ListN.{length, getD, set, take, drop, length-set, length-take, length-drop}
+use lib.ListN.{length, getD, set, length-set}
 use lib.Seq.{getD-set-same, getD-set-other}
 use borrow.Author.Count.{below-more}
 use borrow.Author.Tests.{lt-ltb, le-ltb, eq-eqb, ne-eqb}
@@ -18,21 +17,12 @@ use Rattle.levels.specs.Table.{Shared}
 use Rattle.levels.specs.Places.{isOwn, kindAt}
 use Rattle.levels.specs.Order.{decisions, countOf, countsOf}
 use Rattle.levels.specs.Sizes.{quarterOf, Accepted, Fits}
+use Rattle.levels.proofs.Buffers.{quarter-length}
 use Rattle.levels.proofs.Counts.{count-of}
 use Rattle.levels.proofs.Judged.{fits-quarter}
 use Rattle.multiplex.specs.Line.{lineDigit}
 use Rattle.multiplex.specs.Passes.{Filled, AllFilled}
 use Rattle.multiplex.proofs.Heads.{same-test}
-
--- quarter j lies in the buffer, and is the part that is lent
-pub quarter-in : (j n : ℕ) → j < 4 → j * (n / 4) + n / 4 ≤ n
-quarter-in j n h = omega (arith, mul-le-mul-right {m = j + 1} {n = 4} (n / 4) (omega arith), add-mul j 1 (n / 4))
-
-pub quarter-part : (buffer : List ℕ) (j : ℕ) → take (j * (length buffer / 4) + length buffer / 4 - j * (length buffer / 4)) (drop (j * (length buffer / 4)) buffer) ≡ quarterOf buffer j
-quarter-part buffer j = rw (add-sub-cancel-left (j * (length buffer / 4)) (length buffer / 4))
-
-pub quarter-length : (buffer : List ℕ) (j : ℕ) → j < 4 → length (quarterOf buffer j) ≡ length buffer / 4
-quarter-length buffer j h = simp (length-take, length-drop) (omega (arith, quarter-in j (length buffer) h))
 
 module _ (row : Row) (notes buffer old : List ℕ) where
   abbrev tributary : ℕ → List ℕ

@@ -12,6 +12,8 @@ use lib.Seq.{take-at}
 use borrow.Author.Tests.{eq-eqb, ne-eqb, le-ltb, lt-leb, ltb-false, leb-false}
 use Rattle.digits.specs.Digits.{digitsOf, Binary}
 use Rattle.digits.proofs.Laws.{digits-length, digits-binary, digits-of-bytes, bytes-length, tab-length, map-binary, binary-append, zeros-binary}
+use Rattle.digits.proofs.Lists.{of-four}
+use Rattle.levels.proofs.Buffers.{quarter-at, quarter-length}
 use Rattle.levels.specs.declared.table.Row.{Row}
 use Rattle.levels.specs.declared.table.Level.{Level}
 use Rattle.levels.specs.declared.table.Level.the-variants.{Of, NoSuchLevel}
@@ -27,7 +29,6 @@ use Rattle.multiplex.specs.declared.Multiplexed.{Multiplexed}
 use Rattle.multiplex.specs.Line.{lineDigit, lineOf}
 use Rattle.multiplex.specs.Multiplex.{firstOver, firstFaulty, refusalOn, multiplexed}
 use Rattle.multiplex.specs.Multiplex as send
-use Rattle.multiplex.proofs.Passes.{quarter-length}
 use Rattle.demultiplex.specs.declared.Demultiplexed.{Demultiplexed}
 use Rattle.demultiplex.specs.Notes.{noteOf, notesOf}
 use Rattle.demultiplex.specs.Extract.{takenTo, quarterFrom, quartersFrom}
@@ -36,7 +37,6 @@ use Rattle.demultiplex.specs.Demultiplex as read
 use Rattle.promises.specs.Damage.{lineDigits}
 use Rattle.promises.specs.Carried.{Sound, digitsSent, digitsRead}
 use Rattle.promises.specs.Calls.{Lent, SendAccepted, sentLine, sentCounts, sentDigits, ReadAccepted, readNotes, readDigits, LentFor}
-use Rattle.promises.proofs.Lists.{of-four, quarter-at}
 use Rattle.promises.proofs.RoundTrip.{line-binary}
 
 -- an answer that the call on no level does not give was given on a level's row

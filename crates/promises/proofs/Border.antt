@@ -12,8 +12,9 @@ use lib.ListN.{length, getD, replicate, length-replicate, getD-replicate}
 use lib.Seq.{ext-getD}
 use lib.Pow.{pow-mono}
 use borrow.Author.Tests.{le-leb, lt-leb}
-use Rattle.digits.specs.Digits.{digitsOf, bytesOf, tab, Binary}
+use Rattle.digits.specs.Digits.{digitsOf, bytesOf, tab, Binary, differing}
 use Rattle.digits.proofs.Laws.{by-digit, digits-binary, tab-at, tab-length, tab-binary, zeros-at, zeros-binary}
+use Rattle.digits.proofs.Lists.{of-four, differing-more}
 use Rattle.levels.specs.declared.table.Row.{Row}
 use Rattle.levels.specs.declared.places.ServiceDigit.the-variants.{RemoteAlarm, FirstNational, SecondNational, ThirdNational}
 use Rattle.levels.specs.declared.places.Kind.{Kind}
@@ -33,11 +34,10 @@ use Rattle.multiplex.specs.Multiplex.{firstOver, refusalOn}
 use Rattle.demultiplex.specs.Notes.{voteAt, serviceAt, noteOf, alignmentTo, splitIn, splitTo}
 use Rattle.demultiplex.specs.Extract.{takenTo, quarterFrom, quartersFrom}
 use Rattle.demultiplex.specs.Demultiplex.{demultiplexed, bufferAfter}
-use Rattle.promises.specs.Damage.{Liberty, at-will, counted, kept, liberty, libertyAt, groupAt, differing, allowed, DamageUpTo, Damage, lineDigits}
+use Rattle.promises.specs.Damage.{Liberty, at-will, counted, kept, liberty, libertyAt, groupAt, allowed, DamageUpTo, Damage, lineDigits}
 use Rattle.promises.specs.Carried.{Sound}
 use Rattle.promises.specs.Calls.{SendAccepted, sentLine, readNotes, LentAt, DamageAt}
 use Rattle.promises.specs.Border.{inverted, spoilt, changes, early, late, noneStuffed, allStuffed, idle, Border, exampleSend, exampleLine, exampleDamaged, exampleRead, Example}
-use Rattle.promises.proofs.Lists.{of-four, differing-more}
 use Rattle.promises.proofs.Sent.{control-place, in-line, sent-at}
 use Rattle.promises.proofs.RoundTrip.{line-binary}
 use Rattle.promises.proofs.Calls.{send-returned}

@@ -11,6 +11,7 @@ use lib.ListN.{length, getD, take, replicate}
 use lib.Seq.{getD-take, ext-getD}
 use Rattle.digits.specs.Digits.{digitsOf, Binary}
 use Rattle.digits.proofs.Laws.{digits-binary, bytes-length, tab-length}
+use Rattle.digits.proofs.Lists.{differing-self}
 use Rattle.levels.specs.declared.table.Row.{Row}
 use Rattle.levels.specs.declared.table.Level.the-variants.{Of}
 use Rattle.levels.specs.Table.{Shared, levelOf}
@@ -25,7 +26,6 @@ use Rattle.demultiplex.specs.Notes.{notesOf}
 use Rattle.promises.specs.Damage.{kept, libertyAt, Damage, lineDigits}
 use Rattle.promises.specs.Calls.{Lent, SendAccepted, sentLine, sentCounts, sentDigits, ReadAccepted, readCounts, readDigits}
 use Rattle.promises.specs.Calls.{sentOn, LentAt, DamageAt, SendsSame, SendReturned, SendBack, ReadsSame}
-use Rattle.promises.proofs.Lists.{differing-self}
 use Rattle.promises.proofs.Sent.{sent-group, sent-carried}
 use Rattle.promises.proofs.Reading.{note-fits}
 use Rattle.promises.proofs.Order.{carries-same, before-same}

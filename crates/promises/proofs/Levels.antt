@@ -13,6 +13,7 @@ use lib.Arith.{digits-lt}
 use borrow.Author.Tests.{le-leb, lt-leb, not-true}
 use Rattle.digits.specs.Digits.{digitsOf, tab}
 use Rattle.digits.proofs.Laws.{digits-binary, map-append, tab-at, tab-length}
+use Rattle.digits.proofs.Lists.{tab-more}
 use Rattle.levels.specs.declared.table.Row.{Row}
 use Rattle.levels.specs.declared.table.Level.the-variants.{Of}
 use Rattle.levels.specs.declared.places.Kind.{Kind}
@@ -28,7 +29,6 @@ use Rattle.multiplex.proofs.Own.{head-not-own, head-pos, own-past}
 use Rattle.promises.specs.Damage.{kept, liberty, libertyAt, allowed, Damage, ownPlace}
 use Rattle.promises.specs.Calls.{Lent, sentLine, DamageAt}
 use Rattle.promises.specs.Plain.{OutOfFours, digitsAfter, Changed, DemandThree}
-use Rattle.promises.proofs.Lists.{tab-more}
 use Rattle.promises.proofs.Sent.{whose}
 use Rattle.promises.proofs.Recovered.{kept-carries}
 use Rattle.promises.proofs.Accepted.{shared}

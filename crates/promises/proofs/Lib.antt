@@ -1,5 +1,4 @@
 pub mod Cases
-pub mod Lists
 pub mod Sent
 pub mod Reading
 pub mod Order

@@ -7,6 +7,7 @@ use Prim.Native.Nat.{ℕ, _+_, _*_, _%_, _<_}
 use native.Mathlib.Omega.{arith}
 use lib.ListN.{getD}
 use Rattle.digits.specs.Digits.{Binary}
+use Rattle.levels.proofs.Groups.{group-same}
 use Rattle.levels.specs.declared.table.Row.{Row}
 use Rattle.levels.specs.declared.vote.Vote.{Vote}
 use Rattle.levels.specs.Table.{Shared}
@@ -16,7 +17,6 @@ use Rattle.levels.proofs.Columns.{columns}
 use Rattle.demultiplex.specs.Notes.{voteAt, notesOf}
 use Rattle.demultiplex.specs.Extract.{takenTo}
 use Rattle.promises.specs.Carried.{decisionRead, digitsRead, SameRead}
-use Rattle.promises.proofs.Lists.{group-same}
 use Rattle.promises.proofs.Sent.{control-place, in-line, whose}
 use Rattle.promises.proofs.Reading.{decisions-read}
 use Rattle.promises.proofs.Order.{column-place, places-same, count-same, digits-same}

@@ -9,13 +9,13 @@ use lib.Dec.{leb}
 use lib.ListN.{getD}
 use Rattle.digits.specs.Digits.{Binary}
 use Rattle.digits.proofs.Laws.{tab-at}
+use Rattle.digits.proofs.Lists.{of-four}
 use Rattle.levels.specs.declared.table.Row.{Row}
 use Rattle.levels.specs.Table.{Shared}
 use Rattle.levels.specs.Order.{decisions}
 use Rattle.levels.proofs.Choice.{cond-by}
 use Rattle.demultiplex.specs.Notes.{voteAt, serviceAt, bitOf, noteOf, notesOf}
 use Rattle.demultiplex.proofs.NoteBits.{note-decision}
-use Rattle.promises.proofs.Lists.{of-four}
 
 pub decisions-read : (row : Row) (ds : List ℕ) → Binary ds → (F f j : ℕ) → f < F → j < 4 → decisions (notesOf row ds F) j f ≡ voteAt row ds f j .stuffed
 decisions-read row ds bin F f j hf hj =

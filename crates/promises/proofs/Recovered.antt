@@ -6,7 +6,8 @@ use mathlib.Core.List.{List}
 use Prim.Native.Nat.{ℕ, _+_, _*_, _%_, _<_}
 use native.Mathlib.Omega.{arith}
 use lib.ListN.{length, getD, take}
-use Rattle.digits.specs.Digits.{Binary}
+use Rattle.digits.specs.Digits.{Binary, differing}
+use Rattle.levels.proofs.Groups.{group-binary, differing-votes}
 use Rattle.levels.specs.declared.table.Row.{Row}
 use Rattle.levels.specs.declared.vote.Vote.{Vote}
 use Rattle.levels.specs.declared.places.Kind.{Kind}
@@ -20,9 +21,8 @@ use Rattle.levels.proofs.Counts.{line-count, count-room}
 use Rattle.levels.proofs.Majority.{group-length, vote-stands}
 use Rattle.demultiplex.specs.Notes.{voteAt, notesOf}
 use Rattle.demultiplex.specs.Extract.{takenTo}
-use Rattle.promises.specs.Damage.{kept, liberty, libertyAt, groupAt, differing, Damage, lineDigits}
+use Rattle.promises.specs.Damage.{kept, liberty, libertyAt, groupAt, Damage, lineDigits}
 use Rattle.promises.specs.Carried.{digitsRead, digitsSent, countSent, Room, Returned}
-use Rattle.promises.proofs.Lists.{group-binary, differing-votes}
 use Rattle.promises.proofs.Sent.{sent-group, sent-carried}
 use Rattle.promises.proofs.Reading.{decisions-read}
 use Rattle.promises.proofs.Order.{column-place, places-same, count-same, digits-back}

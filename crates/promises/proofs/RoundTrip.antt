@@ -12,6 +12,7 @@ use lib.Pow.{pow-mono}
 use borrow.Author.Tests.{le-leb, lt-leb, eq-eqb}
 use Rattle.digits.specs.Digits.{Binary}
 use Rattle.digits.proofs.Laws.{tab-of, tab-length, tab-binary}
+use Rattle.digits.proofs.Lists.{differing-self, byte-of-bits}
 use Rattle.levels.specs.declared.table.Row.{Row}
 use Rattle.levels.specs.declared.places.Kind.{Kind}
 use Rattle.levels.specs.declared.places.Kind.the-variants.{Word, Service, Control, Justification, Tributary}
@@ -25,7 +26,6 @@ use Rattle.multiplex.specs.Line.{digitBy, lineDigit}
 use Rattle.demultiplex.specs.Notes.{voteAt, serviceAt, bitOf, noteOf, alignmentTo, splitIn, splitTo}
 use Rattle.promises.specs.Damage.{Damage, groupAt, lineDigits}
 use Rattle.promises.specs.Carried.{Sound, CameBack}
-use Rattle.promises.proofs.Lists.{differing-self, byte-of-bits}
 use Rattle.promises.proofs.Sent.{sent-word, sent-service}
 use Rattle.promises.proofs.Recovered.{vote-kept, damage-recovered}
 

@@ -8,6 +8,7 @@ use native.Mathlib.Nat.{zero-add, add-mul}
 use lib.ListN.{getD, replicate}
 use lib.Arith.{digits-lt}
 use Rattle.digits.proofs.Laws.{tab-at}
+use Rattle.levels.proofs.Groups.{group-all}
 use Rattle.levels.specs.declared.table.Row.{Row}
 use Rattle.levels.specs.declared.places.Kind.the-variants.{Tributary}
 use Rattle.levels.specs.Table.{Shared}
@@ -21,7 +22,6 @@ use Rattle.levels.proofs.Ways.{kind-word, kind-control, kind-justification}
 use Rattle.multiplex.specs.Line.{digitBy, lineDigit}
 use Rattle.multiplex.proofs.Own.{digit-carried, service-bit}
 use Rattle.promises.specs.Damage.{lineDigits, groupAt}
-use Rattle.promises.proofs.Lists.{group-all}
 
 module _ (row : Row) (sh : Shared row) where
   -- place r of set s of frame f is a place of a line of F frames; whose it is goes by r alone

@@ -6,12 +6,12 @@ use mathlib.Core.List.{List, [], _∷_, _++_}
 use Prim.Native.Nat.{ℕ, zero, suc, _+_, _*_, _-_, _<_}
 use lib.Dec.{leb}
 use lib.ListN.{getD, replicate}
-use Rattle.digits.specs.Digits.{tab, digitsOf}
+use Rattle.digits.specs.Digits.{tab, digitsOf, differing}
 use Rattle.levels.specs.declared.table.Row.{Row}
 use Rattle.levels.specs.Places.{posOf}
 use Rattle.levels.specs.Order.{decisions}
 use Rattle.demultiplex.specs.Demultiplex.{demultiplexed, bufferAfter}
-use Rattle.promises.specs.Damage.{Liberty, at-will, counted, kept, libertyAt, allowed, differing, DamageUpTo, Damage, lineDigits}
+use Rattle.promises.specs.Damage.{Liberty, at-will, counted, kept, libertyAt, allowed, DamageUpTo, Damage, lineDigits}
 use Rattle.promises.specs.Carried.{Sound}
 use Rattle.promises.specs.Calls.{Lent, SendAccepted, sentLine, readNotes, DamageAt, SendReturned}
 

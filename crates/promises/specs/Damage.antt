@@ -3,11 +3,11 @@
 -- most one of three digits, or two of five at 139264." Lines are lists of digits here; a line of F frames has F * N of them.
 use mathlib.Core.Path.{_≡_}
 use mathlib.Core.Bool.{Bool, cond, false, _&&_}
-use mathlib.Core.List.{List, [], _∷_}
+use mathlib.Core.List.{List}
 use Prim.Native.Nat.{ℕ, _+_, _*_, _/_, _%_, _≤_, _<_}
 use lib.Dec.{eqb}
 use lib.ListN.{length, getD}
-use Rattle.digits.specs.Digits.{tab, Binary}
+use Rattle.digits.specs.Digits.{tab, Binary, differing}
 use Rattle.levels.specs.declared.table.Row.{Row}
 use Rattle.levels.specs.declared.places.Kind.{Kind}
 use Rattle.levels.specs.declared.places.Kind.the-variants.{Word, Service, Control, Justification, Tributary}
@@ -34,12 +34,6 @@ libertyAt row notes p = liberty (kindAt row p) (decisions notes (p % 4) (posOf r
 -- the control group of tributary j (from 0) in frame f
 abbrev pub groupAt : Row → List ℕ → ℕ → ℕ → List ℕ
 groupAt row ds f j = groupOf ds (f * row .digits + (row .set + j)) (row .set) (row .control)
-
--- in how many places two lists differ
-unfoldable pub differing : List ℕ → List ℕ → ℕ
-differing [] es = 0
-differing (d ∷ ds) [] = 0
-differing (d ∷ ds) (e ∷ es) = cond (eqb d e) 0 1 + differing ds es
 
 -- "at most one of three digits, or two of five"
 abbrev pub allowed : Row → ℕ

@@ -7,9 +7,8 @@ use mathlib.Core.Bool.{false}
 use mathlib.Core.List.{List, map}
 use Prim.Native.Nat.{ℕ, _+_, _*_, _-_, _%_, _≤_, _<_}
 use lib.ListN.{length, getD}
-use Rattle.digits.specs.Digits.{digitsOf}
+use Rattle.digits.specs.Digits.{digitsOf, differing}
 use Rattle.levels.specs.Order.{decisions}
-use Rattle.promises.specs.Damage.{differing}
 use Rattle.promises.specs.Calls.{Lent, SendAccepted, sentLine, ReadAccepted, LentFor, SendsSame, SendReturned, ReadsSame}
 
 -- place r is none of the four that begin at one of these numbers

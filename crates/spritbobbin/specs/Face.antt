@@ -15,7 +15,7 @@ use Rattle.receiver.specs.declared.Fed.{Fed}
 use Rattle.multiplex.specs.Multiplex.{multiplexed, lineAfter}
 use Rattle.demultiplex.specs.Demultiplex.{demultiplexed, notesAfter, bufferAfter}
 use Rattle.receiver.specs.Feed.{freshOf, feedOf}
-use Rattle.line_reader.specs.Step.{stepOf, digitOrEnd}
+use Rattle.line_reader.specs.Step.{stepAt, digitOrEnd}
 
 -- answer: four digit counts, named frame
 abbrev pub sentAnswer : Multiplexed → List ℕ
@@ -38,8 +38,8 @@ unfoldable pub modeOf : ℕ → Mode
 modeOf n = cond (eqb n 0) Hunting (cond (eqb n 1) OneFound (cond (eqb n 2) TwoFound (cond (leb n 6) (Aligned (n - 3)) (Aligned 4))))
 
 -- state: level, window, digits seen, mode, place; the frame in hand beside it
-abbrev pub stateOf : List ℕ → List ℕ → State
-stateOf s frame =
+abbrev pub stateFrom : List ℕ → List ℕ → State
+stateFrom s frame =
     record { level = getD s 0 0; window = getD s 1 0; seen = getD s 2 0; mode = modeOf (getD s 3 0); place = getD s 4 0; frame = frame }
 
 abbrev pub stateNumbers : State → List ℕ
@@ -79,9 +79,9 @@ FreshMet level returned stateLeft frameLeft =
 -- spritbobbin_receiver_feed returns the refusal number, and leaves the state's numbers, its frame and the answer
 abbrev pub FeedMet : List ℕ → List ℕ → List ℕ → ℕ → ℕ → ℕ → List ℕ → List ℕ → List ℕ → Type 0
 FeedMet state frame piece first count returned stateLeft frameLeft answerLeft =
-    let f = feedOf (stateOf state frame) piece first count in
+    let f = feedOf (stateFrom state frame) piece first count in
     (returned ≡ f .refusal) × (stateLeft ≡ fedState f state) × (frameLeft ≡ fedFrame f frame) × (answerLeft ≡ fedAnswer f)
 
 -- spritbobbin_line_digit returns the digit, or 2 where the line has ended; nothing is lent for writing
 abbrev pub LineDigitMet : List ℕ → ℕ → ℕ → Type 0
-LineDigitMet line place returned = returned ≡ digitOrEnd (stepOf line place)
+LineDigitMet line place returned = returned ≡ digitOrEnd (stepAt line place)

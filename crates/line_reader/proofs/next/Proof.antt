@@ -44,7 +44,7 @@ use denote.Triple.Spec.{Meets, tripleOf}
 use denote.Triple.Table.{entered, cited}
 use denote.Triple.Walked.{says, Stays, stay-ref, walkOf, goes-ref, Walks, ends-at, walked, walk-meets}
 use denote.Triple.Clauses.{ensured, lasts}
-use Rattle.line_reader.specs.Step.{stepOf}
+use Rattle.line_reader.specs.Step.{stepAt}
 use Rattle.line_reader.specs.declared.LineReader.{LineReader}
 use Rattle.line_reader.specs.declared.Step.{Step}
 use Rattle.line_reader.proofs.LineReader as T
@@ -99,7 +99,7 @@ module _ {M : Type 1} (𝓤 : URA M) (H : Heap 𝓤) (A : Atoms 𝓤) (W : Given
   v = sliceVal (h .line .ptr) (length (h .line .now))
 
   abbrev found : Step
-  found = stepOf (now (h .line)) (h .place)
+  found = stepAt (now (h .line)) (h .place)
 
   abbrev Post : Val → SProp 𝓤
   Post = walkOf 𝓤 H A next.ended stayed (next.clauses 𝓤 H A at-mem run) .post (((κ, (κ′, tt)), (q, (q′, tt)), bounds, x, at), tt)

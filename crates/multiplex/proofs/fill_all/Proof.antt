@@ -4,7 +4,8 @@ use Prim.Native.Nat.{_≤_, _-_, _/_}
 use native.Mathlib.Omega.{arith}
 use lib.ListN.{length}
 use Rattle.digits.specs.Digits.{digitsOf}
-use Rattle.multiplex.proofs.Passes.{Passed, passed-start, passed-more, passed-end, quarter-in, quarter-part, pass-asks}
+use Rattle.levels.proofs.Buffers.{quarter-in, quarter-part}
+use Rattle.multiplex.proofs.Passes.{Passed, passed-start, passed-more, passed-end, pass-asks}
 use Rattle.multiplex.proofs.fill_all.Statement.{statement}
 use Rattle.multiplex.proofs.fill_all.Tie as tie
 
