@@ -58,16 +58,7 @@ fn refused(refusal: u64) -> Demultiplexed
     }
 }
 
-// 1 where the vote is stuffed, and where it is not unanimous.
-fn bit_of(v: Vote) -> u8
-    ensures { λ r. ⌜ (r ≡ bitOf (v .stuffed)) × (r < 2) ⌝ }
-{
-    if v.stuffed {
-        return 1;
-    }
-    0
-}
-
+// 1 where a vote is not unanimous.
 fn split_by(v: Vote) -> usize
     ensures { λ r. ⌜ (r ≡ splitBy v) × (r < 2) ⌝ }
 {
@@ -90,7 +81,7 @@ fn read_group(row: Row, line: &[u8], f: usize, j: usize) -> Noted
     let first = FramePlace(f * row.digits + (row.set + j));
     let v = vote::group_vote(line, first, row.set, row.control);
     Noted {
-        note: bit_of(v),
+        note: digits::digit_of(v.stuffed),
         split: split_by(v),
     }
 }

@@ -2,6 +2,7 @@
 // Digits stand eight to a byte, first digit in the most significant bit. Every crate above speaks of lists of digits
 // (specs/Digits.antt) and of the laws in proofs/Laws.antt, and of bytes no more.
 ghost use mathlib.Core.Path.{_≡_};
+ghost use mathlib.Core.Bool.{cond};
 ghost use Prim.Native.Nat.{_*_, _<_};
 ghost use lib.ListN.{length, getD, set};
 ghost use Rattle.digits.specs.Digits.{digitsOf, withDigit, Bytes};
@@ -39,4 +40,14 @@ fn with_digit(b: u8, k: usize, d: u8) -> u8
     ensures { λ r. ⌜ r ≡ withDigit b k d ⌝ }
 {
     b - (((b >> k) % 2) << k) + (d << k)
+}
+
+// 1 for yes, 0 for no.
+pub fn digit_of(t: bool) -> u8
+    ensures { λ d. ⌜ (d ≡ cond t 1 0) × (d < 2) ⌝ }
+{
+    if t {
+        return 1;
+    }
+    0
 }

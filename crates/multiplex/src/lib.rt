@@ -12,7 +12,7 @@ use levels::table;
 use levels::table::Level;
 use levels::table::Row;
 ghost use mathlib.Core.Path.{_≡_};
-ghost use mathlib.Core.Bool.{true, cond};
+ghost use mathlib.Core.Bool.{true};
 ghost use Prim.Native.Nat.{ℕ, _+_, _*_, _<_, _≤_};
 ghost use lib.ListN.{length};
 ghost use Rattle.digits.specs.Digits.{digitsOf};
@@ -135,19 +135,10 @@ fn idle_digit(kind: Kind, st: bool) -> u8
     match kind {
         Kind::Word => 1,
         Kind::Service(_) => 1,
-        Kind::Control => as_digit(st),
+        Kind::Control => digits::digit_of(st),
         Kind::Justification => 1,
         Kind::Tributary => 1,
     }
-}
-
-fn as_digit(t: bool) -> u8
-    ensures { λ d. ⌜ (d ≡ cond t 1 0) × (d < 2) ⌝ }
-{
-    if t {
-        return 1;
-    }
-    0
 }
 
 // One tributary's pass over a line: every own place of tributary j (from 0) gets its digit. Answers how many digits it took.

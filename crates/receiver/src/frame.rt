@@ -1,12 +1,11 @@
 // The frame in hand: what a digit does to it, when it is handed over, and its mark.
-use crate::Mode;
 use crate::modes::Core;
 use levels::table::Row;
 ghost use mathlib.Core.Path.{_≡_};
 ghost use Prim.Native.Nat.{_+_, _-_, _^_, _<_};
 ghost use Rattle.levels.specs.Table.{Shared};
 ghost use Rattle.receiver.specs.Feed.{Valid};
-ghost use Rattle.receiver.specs.Frame.{begun, put, keepOf, aligned, readyOf, markOf};
+ghost use Rattle.receiver.specs.Frame.{begun, put, keepOf, readyOf, markOf};
 
 // Cleared, with the L digits of the window first: they are the first digits of the first two bytes.
 fn begin(row: Row, shift: usize, window: usize, f: &mut [u8; 366])
@@ -33,7 +32,7 @@ pub fn keep(row: Row, shift: usize, c: Core, d: u8, f: &mut [u8; 366])
     ensures { λ _. ⌜ now (f .exit) ≡ keepOf row c d (now (f .entry)) ⌝ }
 {
     let mode = c.mode;
-    if crate::modes::is_hunting(mode) {
+    if crate::is_hunting(mode) {
         return;
     }
     if c.place == 0 {
@@ -45,24 +44,13 @@ pub fn keep(row: Row, shift: usize, c: Core, d: u8, f: &mut [u8; 366])
     }
 }
 
-fn is_aligned(mode: Mode) -> bool
-    ensures { λ r. ⌜ r ≡ aligned mode ⌝ }
-{
-    match mode {
-        Mode::Hunting => false,
-        Mode::OneFound => false,
-        Mode::TwoFound => false,
-        Mode::Aligned(_) => true,
-    }
-}
-
 // Whether a frame is handed over.
 pub fn is_ready(row: Row, c: Core) -> bool
     requires { ⌜ Shared row ⌝ }
     ensures { λ r. ⌜ r ≡ readyOf row c ⌝ }
 {
     let mode = c.mode;
-    if is_aligned(mode) {
+    if crate::is_aligned(mode) {
         return c.place == row.digits - row.len;
     }
     false

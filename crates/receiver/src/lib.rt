@@ -11,6 +11,8 @@ ghost use mathlib.Core.Path.{_≡_};
 ghost use Prim.Native.Nat.{_+_, _*_, _-_, _<_, _≤_};
 ghost use lib.ListN.{length};
 ghost use Rattle.levels.specs.Table.{Shared};
+ghost use Rattle.receiver.specs.Modes.{hunting};
+ghost use Rattle.receiver.specs.Frame.{aligned};
 ghost use Rattle.receiver.specs.Feed.{Valid, coreOf, stateOf, pieceOf, invalid, refusalOf, refused};
 ghost use Rattle.receiver.specs.Feed.{accepted, runOf, feedRow, freshState, FreshMet, FeedMet};
 
@@ -19,6 +21,28 @@ pub enum Mode {
     OneFound,
     TwoFound,
     Aligned(u8),
+}
+
+pub fn is_hunting(mode: Mode) -> bool
+    ensures { λ r. ⌜ r ≡ hunting mode ⌝ }
+{
+    match mode {
+        Mode::Hunting => true,
+        Mode::OneFound => false,
+        Mode::TwoFound => false,
+        Mode::Aligned(_) => false,
+    }
+}
+
+pub fn is_aligned(mode: Mode) -> bool
+    ensures { λ r. ⌜ r ≡ aligned mode ⌝ }
+{
+    match mode {
+        Mode::Hunting => false,
+        Mode::OneFound => false,
+        Mode::TwoFound => false, // only the third good word aligns
+        Mode::Aligned(_) => true,
+    }
 }
 
 // The level, the last L digits (the newest worth 1), how many digits came since reset (stopping at L), the mode, the
@@ -106,7 +130,7 @@ fn is_invalid(row: Row, c: Core) -> bool
     if row.digits <= c.place {
         return true;
     }
-    if modes::is_hunting(mode) {
+    if is_hunting(mode) {
         return c.place != 0;
     }
     c.seen < row.len

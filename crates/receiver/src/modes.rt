@@ -5,7 +5,7 @@ ghost use mathlib.Core.Path.{_≡_};
 ghost use Prim.Native.Nat.{_+_, _*_, _-_, _^_, _<_, _≤_};
 ghost use lib.ListN.{length};
 ghost use Rattle.levels.specs.Table.{Shared};
-ghost use Rattle.receiver.specs.Modes.{hunting, missed, windowOf, seenOf, good, asks, judged, placeAfter, stepOf};
+ghost use Rattle.receiver.specs.Modes.{missed, windowOf, seenOf, good, asks, judged, placeAfter, stepOf};
 ghost use Rattle.receiver.specs.Feed.{Valid};
 ghost use Rattle.receiver.specs.Hunt.{stillHunting, Hunted};
 
@@ -15,17 +15,6 @@ pub struct Core {
     pub seen: usize,
     pub mode: Mode,
     pub place: usize,
-}
-
-pub fn is_hunting(mode: Mode) -> bool
-    ensures { λ r. ⌜ r ≡ hunting mode ⌝ }
-{
-    match mode {
-        Mode::Hunting => true,
-        Mode::OneFound => false,
-        Mode::TwoFound => false,
-        Mode::Aligned(_) => false,
-    }
 }
 
 // How many words in a row are missed.
@@ -84,7 +73,7 @@ fn asks_word(row: Row, seen: usize, mode: Mode, place: usize) -> bool
     requires { ⌜ Shared row × (place < row .digits) ⌝ }
     ensures { λ r. ⌜ r ≡ asks row seen mode place ⌝ }
 {
-    if is_hunting(mode) {
+    if crate::is_hunting(mode) {
         return row.len <= seen;
     }
     place + 1 == row.digits
@@ -122,7 +111,7 @@ fn place_after(mode: Mode, place: usize) -> usize
     requires { ⌜ place < 2928 ⌝ }
     ensures { λ r. ⌜ r ≡ placeAfter mode place ⌝ }
 {
-    if is_hunting(mode) {
+    if crate::is_hunting(mode) {
         return 0;
     }
     place + 1
@@ -187,7 +176,7 @@ pub fn hunt_on(row: Row, mask: usize, c: Core, piece: &[u8], first: usize, end: 
     ensures { λ r. ⌜ Hunted row (now (piece .entry)) end first c (r .at) (r .core) ⌝ }
 {
     let mode = c.mode;
-    if !is_hunting(mode) {
+    if !crate::is_hunting(mode) {
         return Hunt { core: c, at: first };
     }
     let seen = c.seen;

@@ -79,15 +79,6 @@ pub fn join(out: &mut [u8], kept: Kept, from: &[u8], first: usize, count: usize)
     }
 }
 
-fn one_if(b: bool) -> usize
-    ensures { λ r. ⌜ (r ≡ cond b 1 0) × (r < 2) ⌝ }
-{
-    if b {
-        return 1;
-    }
-    0
-}
-
 // In how many of these frames tributary j (from 0) is stuffed.
 pub fn stuffed_frames(notes: &[u8], j: usize) -> usize
     requires { ⌜ j < 4 ⌝ }
@@ -96,7 +87,7 @@ pub fn stuffed_frames(notes: &[u8], j: usize) -> usize
     let mut stuffed: usize = 0;
     let mut f: usize = 0;
     while f < notes.len() {
-        stuffed += one_if(order::is_stuffed(notes[f], j));
+        stuffed += digits::digit_of(order::is_stuffed(notes[f], j)) as usize;
         f += 1;
     }
     stuffed

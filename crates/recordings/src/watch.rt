@@ -6,8 +6,6 @@ use receiver::Mode;
 use receiver::State;
 ghost use mathlib.Core.Path.{_≡_};
 ghost use Prim.Native.Nat.{_-_, min};
-ghost use Rattle.receiver.specs.Modes.{hunting};
-ghost use Rattle.receiver.specs.Frame.{aligned};
 ghost use Rattle.recordings.specs.Watch.{changeOf, stretchOf, ListenMet};
 
 pub enum Change {
@@ -19,17 +17,6 @@ pub enum Change {
 pub struct Heard {
     pub fed: Fed,
     pub change: Change,
-}
-
-fn is_aligned(mode: Mode) -> bool
-    ensures { λ r. ⌜ r ≡ aligned mode ⌝ }
-{
-    match mode {
-        Mode::Hunting => false,
-        Mode::OneFound => false,
-        Mode::TwoFound => false,
-        Mode::Aligned(_) => true,
-    }
 }
 
 fn change_of(before: bool, after: bool) -> Change
@@ -47,22 +34,11 @@ fn change_of(before: bool, after: bool) -> Change
     Change::Nothing
 }
 
-fn is_hunting(mode: Mode) -> bool
-    ensures { λ r. ⌜ r ≡ hunting mode ⌝ }
-{
-    match mode {
-        Mode::Hunting => true,
-        Mode::OneFound => false,
-        Mode::TwoFound => false,
-        Mode::Aligned(_) => false,
-    }
-}
-
 // The digits up to the end of the next word that is judged, of those that are left. Hunting, all of them.
 fn stretch(row: Row, mode: Mode, place: usize, left: usize) -> usize
     ensures { λ r. ⌜ r ≡ stretchOf row mode place left ⌝ }
 {
-    if is_hunting(mode) {
+    if receiver::is_hunting(mode) {
         return left;
     }
     to_word(row, place, left)
@@ -89,6 +65,6 @@ pub fn listen(row: Row, s: State, piece: &[u8], first: usize, left: usize) -> He
     let fed = receiver::feed(s, piece, first, count);
     let state = fed.state;
     let after = state.mode;
-    let change = change_of(is_aligned(mode), is_aligned(after));
+    let change = change_of(receiver::is_aligned(mode), receiver::is_aligned(after));
     Heard { fed, change }
 }

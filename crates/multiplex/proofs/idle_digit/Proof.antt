@@ -4,7 +4,7 @@ use Rattle.multiplex.proofs.idle_digit.Statement.{statement}
 use Rattle.multiplex.proofs.idle_digit.Tie as tie
 
 returns-3 : tie.Need-returns-3
-returns-3 c = rw (c .before .enum-told3 .given .1) (c .as-digit .ensures)
+returns-3 c = rw (c .before .enum-told3 .given .1) (c .digit-of .ensures)
 
 pub idle-digit-spec : {M : Type 1} → statement M
 idle-digit-spec =

@@ -27,8 +27,8 @@ loop-holds c = (omega arith, omega arith, refl)
 loop-again : tie.Need-loop-again Inv-loop μ-loop
 loop-again c =
     let l = c .before .before .before .before .loop in
-    let decided = c .one-if .ensures .0 ∙ ap (λ (b : Bool). cond b 1 0) (c .before .is-stuffed .ensures) in
-    (omega arith, omega (arith, c .one-if .ensures .1), ap (λ (n : ℕ). n + c .one-if .result) (l .inv .2) ∙ one-more _ (l .f) _ decided)
+    let decided = c .digit-of .ensures .0 ∙ ap (λ (b : Bool). cond b 1 0) (c .before .is-stuffed .ensures) in
+    (omega arith, omega (arith, c .digit-of .ensures .1), ap (λ (n : ℕ). n + c .digit-of .result) (l .inv .2) ∙ one-more _ (l .f) _ decided)
 
 returns : tie.Need-returns Inv-loop μ-loop
 returns c =
@@ -39,4 +39,4 @@ pub stuffed-frames-spec : {M : Type 1} → statement M
 stuffed-frames-spec =
     tie.close
     (tie.spec Inv-loop μ-loop loop-holds (λ c. search needs) (λ c κs. search needs) (λ c κs. search needs) (λ c. search needs)
-    (λ c. search needs) (λ c. search needs) loop-again returns)
+    (λ c. search needs) (λ c. search needs) (λ c. search needs) loop-again returns)
