@@ -1,6 +1,6 @@
 // The demo: eight frames at level 2 from a right multiplexer and from one that acts on its decisions a frame late, taken apart and compared
 // with what was sent. Tributary 1 is stuffed in every frame, the others alternate.
-use crate::say;
+use console::say;
 use workbench::Compared;
 ghost use Prim.Native.Nat.{_<_};
 

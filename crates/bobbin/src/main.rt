@@ -1,21 +1,17 @@
 // Spritbobbin on the command line: reads the arguments and hands on to a command. The last line of a refused or failed command begins with
 // `refused` or `failed`, which ./spritbobbin turns into an exit status.
-mod apart;
 mod demo;
-mod files;
-mod find;
-mod frame;
-mod help;
-mod say;
-mod send;
-mod svg;
-mod take;
-mod words;
 
-use frame::Noted;
+use console::help;
+use console::words;
 use levels::table;
 use levels::table::Level;
 use levels::table::Row;
+use passages::find;
+use passages::send;
+use passages::take;
+use pictures::frame;
+use pictures::frame::Noted;
 ghost use Rattle.levels.specs.Table.{Shared};
 
 // The commands that take a level.

@@ -1,0 +1,17 @@
+-- The tributary stays inside the counts.
+use Prim.Native.Nat.{_≤_, _-_}
+use borrow.Author.Needs.{needs}
+use Rattle.passages.proofs.apart.write.Statement.{statement}
+use Rattle.passages.proofs.apart.write.Tie as tie
+
+abbrev Inv-loop : tie.InvT-loop
+Inv-loop notes frames buffer counts s₀ j₀ s j = j ≤ 4
+
+abbrev μ-loop : tie.MeasureT-loop
+μ-loop notes frames buffer counts s₀ j₀ s j = 4 - j
+
+pub write-spec : {M : Type 1} → statement M
+write-spec =
+    tie.close
+    (tie.spec Inv-loop μ-loop (λ c. search needs) (λ c κs. search needs) (λ c. search needs) (λ c. search needs) (λ c. search needs)
+    (λ c κs. search needs) (λ c. search needs) (λ c. search needs) (λ c. search needs) (λ c. search needs))
