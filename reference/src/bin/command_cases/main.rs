@@ -1,4 +1,4 @@
-//! `recordings DIR` writes into DIR the cases on which the commands of the program are
+//! `command_cases DIR` writes into DIR the cases on which the commands of the program are
 //! tried. What the program must print and write is worked out by this package alone.
 //!
 //! A case is a folder, and the file `list` in DIR names every one of them, a line each:
@@ -36,7 +36,7 @@ fn main() -> io::Result<()> {
     let folder = match env::args().nth(1) {
         Some(folder) => folder,
         None => {
-            eprintln!("recordings DIR: the folder to write the cases into is missing");
+            eprintln!("command_cases DIR: the folder to write the cases into is missing");
             process::exit(2);
         }
     };
