@@ -1,6 +1,7 @@
 // The demo: eight frames at level 2 from a right multiplexer and from one that acts on its decisions a frame late, taken apart and compared
 // with what was sent. Tributary 1 is stuffed in every frame, the others alternate.
 use console::say;
+use recordings::sizes;
 use workbench::Compared;
 ghost use Prim.Native.Nat.{_<_};
 
@@ -124,18 +125,11 @@ fn table(sent: &[u8; 824], back: &[u8; 824], counts: [usize; 4], came: [usize; 4
 
 // One tributary: as many digits are compared as were sent and came back.
 fn row(sent: &[u8; 824], back: &[u8; 824], j: usize, count: usize, came: usize) {
-    let r = workbench::compare_quarter(sent, back, j, least(count, came));
+    let r = workbench::compare_quarter(sent, back, j, sizes::least(count, came));
     say::column(b"     ", j % 4 + 1);
     say::column(b"        ", count);
     say::column(b"      ", came);
     verdict(r);
-}
-
-fn least(a: usize, b: usize) -> usize {
-    if a < b {
-        return a;
-    }
-    b
 }
 
 fn verdict(r: Compared) {

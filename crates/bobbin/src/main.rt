@@ -4,15 +4,27 @@ mod demo;
 
 use console::help;
 use console::words;
+use console::words::NO_NOTE;
+use finding::find;
 use levels::table;
 use levels::table::Level;
 use levels::table::Row;
-use passages::find;
 use passages::send;
 use passages::take;
 use pictures::frame;
 use pictures::frame::Noted;
+use recordings::sizes;
 ghost use Rattle.levels.specs.Table.{Shared};
+
+// The words of every call by number; word 0 is the program's own name.
+const COMMAND: usize = 1;
+
+const LEVEL: usize = 2;
+
+// Those of frame: the first after the level is a note or the picture's file, and the second is its file.
+const NOTE: usize = 3;
+
+const PICTURE: usize = 4;
 
 // The commands that take a level.
 const FRAME: u8 = 0;
@@ -23,20 +35,23 @@ const TAKE: u8 = 2;
 
 const FIND: u8 = 3;
 
+// Beside NO_NOTE, where there is none: a word that should be a note and is none.
+const WRONG_NOTE: u16 = 257;
+
 fn main() {
     let mut word = [0u8; 16];
-    let n = os::arg(1, &mut word);
-    command(&word[..n], os::arg_count());
+    let n = os::arg(COMMAND, &mut word);
+    command(&word[..n], sizes::minus(os::arg_count(), 1));
 }
 
-// `count` has the program's own name and the command in it.
-fn command(word: &[u8], count: usize) {
-    if words::same(word, b"help") {
+// `last` is the number of the call's last word.
+fn command(word: &[u8], last: usize) {
+    if check::same(word, b"help") {
         help::forms();
         return;
     }
-    if words::same(word, b"demo") {
-        if count != 2 {
+    if check::same(word, b"demo") {
+        if last != COMMAND {
             help::wrong_call(b"demo takes no further word.");
             return;
         }
@@ -48,29 +63,29 @@ fn command(word: &[u8], count: usize) {
         help::wrong_call(b"there is no such command, or it is missing.");
         return;
     }
-    counted(which, count);
+    counted(which, last);
 }
 
 fn which_command(word: &[u8]) -> u8 {
-    if words::same(word, b"frame") {
+    if check::same(word, b"frame") {
         return FRAME;
     }
-    if words::same(word, b"send") {
+    if check::same(word, b"send") {
         return SEND;
     }
-    if words::same(word, b"take") {
+    if check::same(word, b"take") {
         return TAKE;
     }
-    if words::same(word, b"find") {
+    if check::same(word, b"find") {
         return FIND;
     }
     FIND + 1
 }
 
 // Whether the command has as many words as it takes.
-fn counted(which: u8, count: usize) {
+fn counted(which: u8, last: usize) {
     if which == FRAME {
-        if count < 3 || 5 < count {
+        if last < LEVEL || PICTURE < last {
             help::wrong_call(
                 b"frame takes a level, then a note and a file for the picture where wanted.",
             );
@@ -78,95 +93,87 @@ fn counted(which: u8, count: usize) {
         }
     }
     if which == SEND || which == TAKE {
-        if count != 6 {
+        if last != send::LINE {
             help::wrong_call(b"send and take take a level and three files.");
             return;
         }
     }
     if which == TAKE {
-        if words::one_name(4, 5) {
+        if words::one_name(take::NOTES, take::TRIBUTARIES) {
             help::wrong_call(b"NOTES and TRIBUTARIES are two files: give two names.");
             return;
         }
     }
     if which == FIND {
-        if count < 4 || 5 < count {
+        if last < find::STREAM || find::PREFIX < last {
             help::wrong_call(
                 b"find takes a level and a file, and a prefix where files are wanted.",
             );
             return;
         }
     }
-    levelled(which, count);
+    levelled(which, last);
 }
 
-fn levelled(which: u8, count: usize) {
+fn levelled(which: u8, last: usize) {
     let mut word = io::buffer();
-    let n = os::arg(2, &mut word);
+    let n = os::arg(LEVEL, &mut word);
     let level = words::level(&word[..n]);
     let found = table::level_of(level);
     match found {
-        Level::Of(row) => started(which, count, row, level),
+        Level::Of(row) => started(which, last, row, level),
         Level::NoSuchLevel => help::no_level(&word[..n]),
     }
 }
 
-fn started(which: u8, count: usize, row: Row, level: u64)
+fn started(which: u8, last: usize, row: Row, level: u64)
     requires { ⌜ Shared row ⌝ }
 {
     match which {
-        FRAME => picture(row, level, count),
+        FRAME => picture(row, level, last),
         SEND => send::run(row, level),
         TAKE => take::run(row, level),
-        _ => find::run(row, level, count == 5),
+        _ => find::run(row, level, last == find::PREFIX),
     }
 }
 
 // frame LEVEL [NOTE] [FILE.svg]: the last word is a file where it ends in .svg, and a word before it is a note.
-fn picture(row: Row, level: u64, count: usize)
+fn picture(row: Row, level: u64, last: usize)
     requires { ⌜ Shared row ⌝ }
 {
     let mut word = io::buffer();
-    let n = os::arg(least_word(count), &mut word);
-    let drawn = 3 < count && words::is_svg(&word[..n]);
-    let noted = read_note(count, drawn);
-    if 256 < noted {
+    let n = os::arg(last, &mut word);
+    let drawn = LEVEL < last && words::is_svg(&word[..n]);
+    let noted = read_note(last, drawn);
+    if noted == WRONG_NOTE {
         help::wrong_call(
             b"a note is two hexadecimal digits, as 3F, and a picture's file ends in .svg.",
         );
         return;
     }
     let one = Noted {
-        given: noted < 256,
+        given: noted < NO_NOTE,
         note: (noted % 256) as u8,
     };
-    frame::run(row, level, one, drawn, least_word(count));
+    frame::run(row, level, one, drawn, last);
 }
 
-// The number of the last word.
-fn least_word(count: usize) -> usize {
-    if count == 0 {
-        return 0;
+// The note of a picture; a wrong one too where more words stand there than a note and a file.
+fn read_note(last: usize, drawn: bool) -> u16 {
+    if last == LEVEL {
+        return NO_NOTE;
     }
-    count - 1
-}
-
-// The note that word 3 is: 256 where there is none, 257 where it is no note, or more words stand there than a note and a file.
-fn read_note(count: usize, drawn: bool) -> u16 {
-    if count == 3 {
-        return 256;
+    if last == NOTE && drawn {
+        return NO_NOTE;
     }
-    if count == 4 && drawn {
-        return 256;
-    }
-    if count == 5 && !drawn {
-        return 257;
+    if last == PICTURE && !drawn {
+        return WRONG_NOTE;
     }
     let mut word = [0u8; 16];
-    let n = os::arg(3, &mut word);
+    let n = os::arg(NOTE, &mut word);
     let note = words::note(&word[..n]);
-    if 255 < note {
-        return 257;
+    if NO_NOTE <= note {
+        return WRONG_NOTE;
     }
     note
 }

@@ -1,13 +1,18 @@
 // Files by the words of the call. An input is opened, measured and read at places; an output is written beside its name, as NAME.part, and
 // takes its name only when the whole command is done: no output file is touched where a command is refused or fails.
+use crate::page::Page;
 use crate::say;
 use recordings::carry;
+use recordings::sizes;
 ghost use Prim.Native.Nat.{_≤_};
 ghost use lib.ListN.{length};
 ghost use Rattle.io.specs.Counts.{Counts};
+ghost use Rattle.recordings.specs.Sizes.{longest};
 
-// The longest input, 2 to the 40 bytes, and a place that no file reaches.
-const MOST: i64 = 1099511627776;
+// The longest input, as a place in a file, and a place that no file reaches.
+const MOST: i64 = sizes::MOST as i64;
+
+const PAST_ALL: usize = 4611686018427387904;
 
 pub struct Input {
     pub ok: bool,
@@ -16,7 +21,7 @@ pub struct Input {
 }
 
 fn no_input() -> Input
-    ensures { λ r. ⌜ r .bytes ≤ 1099511627776 ⌝ }
+    ensures { λ r. ⌜ r .bytes ≤ longest ⌝ }
 {
     Input {
         ok: false,
@@ -40,8 +45,18 @@ pub fn failed(k: usize, ending: &[u8], what: &[u8]) {
     say::text(what);
 }
 
+// The same where an output is not whole: what else it may be, and what to do.
+pub fn not_whole(k: usize, or: &[u8]) {
+    failed(k, b" cannot be written whole", or);
+    say::text(b", and nothing is kept; make room on its disk");
+    if or.len() != 0 {
+        say::text(b" or see to the input");
+    }
+    say::text(b", and call again.\n");
+}
+
 fn bytes_of(end: i64) -> usize
-    ensures { λ r. ⌜ r ≤ 1099511627776 ⌝ }
+    ensures { λ r. ⌜ r ≤ longest ⌝ }
 {
     if end < 0 {
         return 0;
@@ -54,7 +69,7 @@ fn bytes_of(end: i64) -> usize
 
 // Opens the file that word k names, and measures it. A folder or a pipe cannot be read at a place.
 pub fn open(k: usize) -> Input
-    ensures { λ r. ⌜ r .bytes ≤ 1099511627776 ⌝ }
+    ensures { λ r. ⌜ r .bytes ≤ longest ⌝ }
 {
     let mut path = io::buffer();
     let m = os::arg(k, &mut path);
@@ -81,28 +96,26 @@ pub fn open(k: usize) -> Input
     }
 }
 
-fn place(at: usize) -> i64 {
-    if 4611686018427387904 < at {
-        return 4611686018427387904;
-    }
-    at as i64
+// A place in a file as the C library takes it.
+fn offset(at: usize) -> i64 {
+    sizes::least(at, PAST_ALL) as i64
 }
 
 // Fills the slice from this place of a file on, and answers whether it is full.
 pub fn read_at(fd: i32, buf: &mut [u8], at: usize) -> bool {
-    let got = libc::pread(fd, buf, place(at));
+    let got = libc::pread(fd, buf, offset(at));
     io::count(got, buf) == buf.len()
 }
 
 // Writes the slice at this place of a file, and answers whether it is written.
 pub fn write_at(fd: i32, bytes: &[u8], at: usize) -> bool {
-    let put = libc::pwrite(fd, bytes, place(at));
+    let put = libc::pwrite(fd, bytes, offset(at));
     io::count(put, bytes) == bytes.len()
 }
 
 // Makes a file so long, with zeros where nothing was written.
 pub fn set_length(fd: i32, bytes: usize) -> bool {
-    libc::ftruncate(fd, place(bytes)) == 0
+    libc::ftruncate(fd, offset(bytes)) == 0
 }
 
 // The path of an output: word k and an ending. 0 where there is none.
@@ -153,6 +166,17 @@ pub fn create(k: usize, ending: &[u8]) -> i32 {
     fd
 }
 
+// Opens an output that is written piece by piece. It is not whole where it cannot be opened.
+pub fn page(k: usize) -> Page {
+    let fd = create(k, b"");
+    Page { fd, whole: 0 <= fd }
+}
+
+// Closes a written file, and answers whether the system took all that was written.
+pub fn close(fd: i32) -> bool {
+    libc::close(fd) == 0
+}
+
 // Gives a written output its name.
 pub fn keep(k: usize, ending: &[u8]) -> bool {
     let mut from = io::buffer();
@@ -160,6 +184,7 @@ pub fn keep(k: usize, ending: &[u8]) -> bool {
     let mut to = io::buffer();
     let n = output(&mut to, k, ending);
     if os::rename(&from[..m], &to[..n]) != 0 {
+        os::unlink(&from[..m]);
         failed(k, ending, b" cannot be written.\n");
         return false;
     }

@@ -41,15 +41,6 @@ pub fn wrong_call(what: &[u8]) {
     say::text(b"\n");
 }
 
-// The first line of what a command found.
-pub fn heading(level: u64, frames: usize, what: &[u8]) {
-    say::text(b"Level ");
-    io::print_decimal(libc::STDOUT_FILENO, level);
-    say::text(b": ");
-    say::number(frames);
-    say::text(what);
-}
-
 pub fn no_level(word: &[u8]) {
     say::text(b"refused 1: no level ");
     say::text(word);

@@ -1,5 +1,6 @@
 // What the program's commands share: words printed, files opened, read, written and renamed, the words of a call, and help.
 pub mod files;
 pub mod help;
+pub mod page;
 pub mod say;
 pub mod words;

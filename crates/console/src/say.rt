@@ -10,6 +10,13 @@ pub fn number(n: usize) {
     io::print_decimal(STDOUT_FILENO, n as u64);
 }
 
+// The first words of a line about a level.
+pub fn level(n: u64) {
+    text(b"Level ");
+    io::print_decimal(STDOUT_FILENO, n);
+    text(b": ");
+}
+
 // One of the two digits.
 pub fn digit(d: u8) {
     if d == 0 {

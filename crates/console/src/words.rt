@@ -1,16 +1,4 @@
-// Arguments: whether two words are the same, and the numbers that words are.
-
-pub fn same(a: &[u8], b: &[u8]) -> bool {
-    let n = a.len();
-    if n != b.len() {
-        return false;
-    }
-    if 4096 < n {
-        return false;
-    }
-    let r = workbench::compare(a, b, 8 * n);
-    r.wrong == 0
-}
+// The words of a call: the numbers that they are, whether one names a picture, and whether two are the same.
 
 // The level that a word of one character is, or 0.
 pub fn level(word: &[u8]) -> u64 {
@@ -35,18 +23,21 @@ fn hex(c: u8) -> u16 {
     }
 }
 
-// The note that a word of two hexadecimal digits is, or 256.
+// What a word is that is no note.
+pub const NO_NOTE: u16 = 256;
+
+// The note that a word of two hexadecimal digits is, or NO_NOTE.
 pub fn note(word: &[u8]) -> u16 {
     if word.len() != 2 {
-        return 256;
+        return NO_NOTE;
     }
     let high = hex(word[0]);
     let low = hex(word[1]);
     if 15 < high {
-        return 256;
+        return NO_NOTE;
     }
     if 15 < low {
-        return 256;
+        return NO_NOTE;
     }
     16 * high + low
 }
@@ -58,7 +49,7 @@ pub fn is_svg(word: &[u8]) -> bool {
         return false;
     }
     let first = n - 4;
-    same(&word[first..n], b".svg")
+    check::same(&word[first..n], b".svg")
 }
 
 // Whether two words of the call are the same.
@@ -67,5 +58,5 @@ pub fn one_name(j: usize, k: usize) -> bool {
     let m = os::arg(j, &mut a);
     let mut b = io::buffer();
     let n = os::arg(k, &mut b);
-    same(&a[..m], &b[..n])
+    check::same(&a[..m], &b[..n])
 }

@@ -1,5 +1,6 @@
-// The commands by which a recording passes through the calls: send, take and find.
-mod apart;
-pub mod find;
+// The commands by which frames pass between files and the calls, 64 at a time: send and take. The command find takes frames apart as here.
+pub mod apart;
+pub mod passage;
+mod runs;
 pub mod send;
 pub mod take;

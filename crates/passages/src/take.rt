@@ -1,6 +1,9 @@
-// take LEVEL LINE NOTES TRIBUTARIES: takes a line of any number of frames apart, 64 at a time.
+// take LEVEL LINE NOTES TRIBUTARIES: takes a line of any number of frames apart.
 use crate::apart;
-use crate::apart::Apart;
+use crate::passage;
+use crate::passage::OpenFiles;
+use crate::passage::Passage;
+use crate::runs;
 use console::files;
 use console::help;
 use levels::table::Row;
@@ -9,98 +12,72 @@ ghost use Prim.Native.Nat.{_≤_};
 ghost use lib.ListN.{length};
 ghost use Rattle.levels.specs.Table.{Shared};
 
+// The words of the call by number.
+const LINE: usize = 3;
+
+pub const NOTES: usize = 4;
+
+pub const TRIBUTARIES: usize = 5;
+
 pub fn run(row: Row, level: u64)
     requires { ⌜ Shared row ⌝ }
 {
-    let input = files::open(3);
-    if !input.ok {
+    let line = files::open(LINE);
+    if !line.ok {
         return;
     }
-    if input.bytes % row.bytes != 0 {
-        help::no_whole_frames(3, input.bytes, level, row.bytes);
+    if line.bytes % row.bytes != 0 {
+        help::no_whole_frames(LINE, line.bytes, level, row.bytes);
         return;
     }
-    let notes = files::create(4, b"");
+    let notes = files::create(NOTES, b"");
     if notes < 0 {
         return;
     }
-    let fd = files::create(5, b"");
-    if fd < 0 {
-        files::discard(4, b"");
+    let tributaries = files::create(TRIBUTARIES, b"");
+    if tributaries < 0 {
+        files::discard(NOTES, b"");
         return;
     }
-    let frames = input.bytes / row.bytes;
-    let quarter = sizes::quarter_bytes(row, frames);
-    let t = runs(
-        row,
-        level,
-        input.fd,
-        frames,
-        apart::start(notes, fd, quarter),
-    );
-    end(level, t);
+    let frames = line.bytes / row.bytes;
+    let start = passage::start(OpenFiles {
+        line: line.fd,
+        notes,
+        tributaries,
+        quarter: sizes::quarter_bytes(row, frames),
+    });
+    end(level, runs::all(row, level, false, frames, start));
 }
 
-fn runs(row: Row, level: u64, fd: i32, frames: usize, t: Apart) -> Apart
-    requires { ⌜ Shared row × (frames ≤ 1099511627776) ⌝ }
-{
-    let mut u = t;
-    let mut k: usize = 0;
-    while k < (frames + 63) / 64 {
-        u = one_run(row, level, fd, k, sizes::frames_in(k, frames), u);
-        k += 1;
-    }
-    u
-}
-
-fn one_run(row: Row, level: u64, fd: i32, k: usize, f: usize, t: Apart) -> Apart
-    requires { ⌜ Shared row × (f ≤ 64) × (k ≤ 17179869184) ⌝ }
-{
-    let mut line = io::large_buffer();
-    let mut notes = [0u8; 64];
-    let mut buffer = io::large_buffer();
-    let n = sizes::frame_bytes(row, f);
-    let b = 4 * sizes::quarter_bytes(row, f);
-    let at = sizes::frame_bytes(row, 64 * k);
-    run_on(
-        level,
-        fd,
-        at,
-        &mut line[..n],
-        &mut notes[..f],
-        &mut buffer[..b],
-        t,
-    )
-}
-
-// The same, with the line, the notes and the four quarters of one run.
-fn run_on(
+// Takes one run of frames apart: reads the line from this place of its file on.
+pub fn one_run(
     level: u64,
-    fd: i32,
     at: usize,
     line: &mut [u8],
     notes: &mut [u8],
     buffer: &mut [u8],
-    t: Apart,
-) -> Apart
+    t: Passage,
+) -> Passage
     requires { ⌜ length (now buffer) ≤ 65536 ⌝ }
 {
-    let whole = files::read_at(fd, line, at);
-    apart::only_if(whole, apart::run(level, line, notes, buffer, t))
+    let from = t.open;
+    let whole = files::read_at(from.line, line, at);
+    passage::only_if(whole, apart::run(level, line, notes, buffer, t))
 }
 
-fn end(level: u64, t: Apart) {
-    let sink = t.sink;
-    if !apart::finish(sink) {
-        files::discard(4, b"");
-        files::discard(5, b"");
-        files::failed(5, b"", b" cannot be written, or the line cannot be read.\n");
+fn end(level: u64, t: Passage) {
+    if !apart::finish(t) {
+        files::discard(NOTES, b"");
+        files::discard(TRIBUTARIES, b"");
+        files::not_whole(TRIBUTARIES, b", or the line cannot be read");
         return;
     }
     let totals = t.totals;
-    help::heading(level, totals.frames, b" frames taken apart.\n");
-    apart::say_totals(totals);
-    if files::keep(4, b"") {
-        files::keep(5, b"");
+    passage::say_frames(level, totals.frames, b" frames taken apart.\n");
+    passage::say_totals(totals);
+    if files::keep(NOTES, b"") {
+        files::keep(TRIBUTARIES, b"");
+        return;
     }
+    files::discard(TRIBUTARIES, b"");
 }

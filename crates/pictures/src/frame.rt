@@ -1,14 +1,12 @@
-// The frame of a level as a picture in text, set by set: runs of places of one kind, as the calls classify them. With a note it shows what
-// the multiplex call puts there for that note.
+// The frame of a level as a picture: one walk over its runs of places of one kind, as the calls classify them. Each run is said in text, and
+// drawn where a picture is wanted. With a note it shows what the multiplex call puts there for that note.
 use crate::svg;
+use crate::text;
 use console::files;
+use console::page::Page;
 use console::say;
-use levels::order;
-use levels::places;
-use levels::places::FramePlace;
 use levels::table::Row;
 use workbench::picture;
-ghost use Prim.Native.Nat.{_<_, _≤_};
 ghost use Rattle.levels.specs.Table.{Shared};
 
 // Whether there is a note, and the note.
@@ -17,6 +15,7 @@ pub struct Noted {
     pub note: u8,
 }
 
+// Where drawn, word k of the call names the picture's file.
 pub fn run(row: Row, level: u64, noted: Noted, drawn: bool, k: usize)
     requires { ⌜ Shared row ⌝ }
 {
@@ -31,133 +30,37 @@ pub fn run(row: Row, level: u64, noted: Noted, drawn: bool, k: usize)
         );
         return;
     }
-    let mut fd: i32 = -1;
-    if drawn {
-        fd = files::create(k, b"");
-        if fd < 0 {
-            return;
-        }
+    if !drawn {
+        shown(row, level, &line, noted, Page::none());
+        return;
     }
-    heading(row, level);
-    runs(row, &line, noted);
-    if drawn {
-        svg::draw(fd, row, level, &line, noted, k);
+    let page = files::page(k);
+    if page.whole {
+        svg::end(shown(row, level, &line, noted, page), k);
     }
 }
 
-fn heading(row: Row, level: u64) {
-    say::text(b"Level ");
-    io::print_decimal(libc::STDOUT_FILENO, level);
-    say::text(b": a frame of ");
-    say::number(row.digits);
-    say::text(b" digits, places 0 on, in ");
-    say::number(row.sets);
-    say::text(b" sets; each tributary has ");
-    say::number(row.n);
-    say::text(b" digits, one fewer where stuffed.");
-}
-
-fn runs(row: Row, line: &[u8; 366], noted: Noted)
+// The frame in text, and on the page.
+fn shown(row: Row, level: u64, line: &[u8; 366], noted: Noted, page: Page) -> Page
     requires { ⌜ Shared row ⌝ }
 {
+    text::title(row, level);
+    let drawn = runs(row, line, noted, svg::title(page, row, level));
+    say::text(b"\n");
+    drawn
+}
+
+fn runs(row: Row, line: &[u8; 366], noted: Noted, page: Page) -> Page
+    requires { ⌜ Shared row ⌝ }
+{
+    let mut drawn = page;
     let mut p: usize = 0;
     while p < row.digits {
+        let kind = picture::kind_number_at(row, p);
         let end = picture::run_end(row, p);
-        one_run(row, line, noted, p, end);
+        text::one_run(row, line, noted, kind, p, end);
+        drawn = svg::one_run(drawn, row, line, noted, kind, p, end);
         p = end;
     }
-    say::text(b"\n");
-}
-
-// A run of places of one kind: a set begins with the word or with control digits.
-fn one_run(row: Row, line: &[u8; 366], noted: Noted, p: usize, end: usize)
-    requires { ⌜ Shared row × (p < row .digits) × (p < end) × (end ≤ row .digits) ⌝ }
-{
-    let kind = picture::kind_number_at(row, p);
-    if kind <= picture::CONTROL {
-        say::text(b"\n  set ");
-        say::number(p / row.set + 1);
-        say::text(b": ");
-    } else {
-        say::text(b", ");
-    }
-    span(p, end);
-    name(kind);
-    if kind <= picture::TRIBUTARY {
-        if kind != picture::WORD {
-            whose(p);
-        }
-    }
-    if noted.given {
-        values(line, noted.note, kind, p, end);
-    }
-}
-
-fn span(p: usize, end: usize)
-    requires { ⌜ p < end ⌝ }
-{
-    say::number(p);
-    if p + 1 < end {
-        say::text(b"-");
-        say::number(end - 1);
-    }
-}
-
-fn name(kind: u8) {
-    match kind {
-        picture::WORD => say::text(b" alignment word"),
-        picture::CONTROL => say::text(b" control"),
-        picture::JUSTIFICATION => say::text(b" justification"),
-        picture::TRIBUTARY => say::text(b" tributary digits in turn"),
-        picture::REMOTE_ALARM => say::text(b" remote alarm"),
-        _ => say::text(b" national"),
-    }
-}
-
-// The tributaries of the first four places of a run.
-fn whose(p: usize)
-    requires { ⌜ p < 65536 ⌝ }
-{
-    let mut k: usize = 0;
-    while k < 4 {
-        let j = places::tributary_at(FramePlace(p + k));
-        say::text(b" ");
-        say::number(j % 4 + 1);
-        k += 1;
-    }
-}
-
-// What a run's places hold: tributary digits are the tributaries' own, and a justification digit is one or is stuffing.
-fn values(line: &[u8; 366], note: u8, kind: u8, p: usize, end: usize)
-    requires { ⌜ (p < end) × (end < 65536) ⌝ }
-{
-    if kind == picture::TRIBUTARY {
-        return;
-    }
-    say::text(b" =");
-    if kind == picture::JUSTIFICATION {
-        stuffings(note, p, end);
-        return;
-    }
-    say::text(b" ");
-    let mut q = p;
-    while q < end {
-        say::digit(digits::digit_or_zero(line, q));
-        q += 1;
-    }
-}
-
-fn stuffings(note: u8, p: usize, end: usize)
-    requires { ⌜ (p < end) × (end < 65536) ⌝ }
-{
-    let mut q = p;
-    while q < end {
-        let j = places::tributary_at(FramePlace(q));
-        if order::is_stuffed(note, j % 4) {
-            say::text(b" stuffing");
-        } else {
-            say::text(b" digit");
-        }
-        q += 1;
-    }
+    drawn
 }

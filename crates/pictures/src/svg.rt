@@ -1,7 +1,7 @@
 // The frame of a level as a picture in SVG: a row of cells to a set, a cell to each place of its head, one long cell to its tributary digits.
-// The places are classified as the calls classify them.
 use crate::frame::Noted;
 use console::files;
+use console::page::Page;
 use levels::order;
 use levels::places;
 use levels::places::FramePlace;
@@ -18,85 +18,66 @@ const RIGHT: usize = 940;
 
 const CELL: usize = 34;
 
-fn put(fd: i32, words: &[u8]) {
-    io::write_all(fd, words);
-}
-
-fn number(fd: i32, n: usize) {
-    io::print_decimal(fd, n as u64);
-}
-
-// The cells of a frame, written to the file that is open; word k of the call names it.
-pub fn draw(fd: i32, row: Row, level: u64, line: &[u8; 366], noted: Noted, k: usize)
-    requires { ⌜ Shared row ⌝ }
-{
-    head(fd, row, level);
-    runs(fd, row, line, noted);
-    put(fd, b"</svg>\n");
-    libc::close(fd);
-    files::keep(k, b"");
-}
-
-fn head(fd: i32, row: Row, level: u64) {
+pub fn title(page: Page, row: Row, level: u64) -> Page {
     let height = 76 + 66 * sizes::least(row.sets, 16);
-    put(
-        fd,
-        b"<svg xmlns=\"http://www.w3.org/2000/svg\" viewBox=\"0 0 960 ",
-    );
-    number(fd, height);
-    put(fd, b"\" width=\"960\" height=\"");
-    number(fd, height);
-    put(fd, b"\" font-family=\"sans-serif\" font-size=\"13\">\n");
-    put(
-        fd,
-        b"<style>rect{stroke:#fff}.k0{fill:#1f4e79}.k1{fill:#c55a11}.k2{fill:#bf9000}.k3{fill:#deebf7}.k4,.k5,.k6,.k7{fill:#707070}",
-    );
-    put(
-        fd,
-        b".c{fill:#fff;text-anchor:middle}.p{fill:#555;font-size:10px}</style>\n",
-    );
-    put(
-        fd,
-        b"<rect width=\"100%\" height=\"100%\" fill=\"#fff\"/>\n<text x=\"12\" y=\"26\" font-size=\"16\">Level ",
-    );
-    io::print_decimal(fd, level);
-    put(fd, b": a frame of ");
-    number(fd, row.digits);
-    put(
-        fd,
-        b" digits. Alignment word, A remote alarm, N national, C control, J justification digits</text>\n",
-    );
+    page.put(b"<svg xmlns=\"http://www.w3.org/2000/svg\" viewBox=\"0 0 960 ")
+        .number(height)
+        .put(b"\" width=\"960\" height=\"")
+        .number(height)
+        .put(b"\" font-family=\"sans-serif\" font-size=\"13\">\n")
+        .put(
+            b"<style>rect{stroke:#fff}.k0{fill:#1f4e79}.k1{fill:#c55a11}.k2{fill:#bf9000}.k3{fill:#deebf7}.k4,.k5,.k6,.k7{fill:#707070}",
+        )
+        .put(b".c{fill:#fff;text-anchor:middle}.p{fill:#555;font-size:10px}</style>\n")
+        .put(
+            b"<rect width=\"100%\" height=\"100%\" fill=\"#fff\"/>\n<text x=\"12\" y=\"26\" font-size=\"16\">Level ",
+        )
+        .number(level as usize)
+        .put(b": a frame of ")
+        .number(row.digits)
+        .put(
+            b" digits. Alignment word, A remote alarm, N national, C control, J justification digits</text>\n",
+        )
 }
 
-fn runs(fd: i32, row: Row, line: &[u8; 366], noted: Noted)
-    requires { ⌜ Shared row ⌝ }
-{
-    let mut p: usize = 0;
-    while p < row.digits {
-        let end = picture::run_end(row, p);
-        one_run(fd, row, line, noted, p, end);
-        p = end;
-    }
-}
-
-fn one_run(fd: i32, row: Row, line: &[u8; 366], noted: Noted, p: usize, end: usize)
-    requires { ⌜ Shared row × (p < row .digits) × (p < end) × (end ≤ row .digits) ⌝ }
-{
-    let kind = picture::kind_number_at(row, p);
-    let x = x_of(row, p);
-    let y = y_of(row, p);
-    if kind <= picture::CONTROL {
-        label(fd, b"", 12, y + 24);
-        put(fd, b"set ");
-        number(fd, set_of(row, p) + 1);
-        put(fd, b"</text>\n");
-    }
-    places_of(fd, x, y + 50, p, end);
-    if kind == picture::TRIBUTARY {
-        long_cell(fd, x, y);
+// The picture's end. Word k of the call names its file, which is kept where all of it is written.
+pub fn end(page: Page, k: usize) {
+    let last = page.put(b"</svg>\n");
+    let closed = files::close(last.fd);
+    if last.whole && closed {
+        files::keep(k, b"");
         return;
     }
-    cells(fd, row, line, noted, kind, p, end);
+    files::discard(k, b"");
+    files::not_whole(k, b"");
+}
+
+// The run from place p up to `end`. A set begins with the word or with control digits.
+pub fn one_run(
+    page: Page,
+    row: Row,
+    line: &[u8; 366],
+    noted: Noted,
+    kind: u8,
+    p: usize,
+    end: usize,
+) -> Page
+    requires { ⌜ Shared row × (p < row .digits) × (p < end) × (end ≤ row .digits) ⌝ }
+{
+    let x = x_of(row, p);
+    let y = y_of(row, p);
+    let mut drawn = page;
+    if kind <= picture::CONTROL {
+        drawn = label(drawn, b"", 12, y + 24)
+            .put(b"set ")
+            .number(set_of(row, p) + 1)
+            .put(b"</text>\n");
+    }
+    drawn = places_of(drawn, x, y + 50, p, end);
+    if kind == picture::TRIBUTARY {
+        return long_cell(drawn, x, y);
+    }
+    cells(drawn, row, line, noted, kind, p, end)
 }
 
 // Which set a place is in, from 0, and where its cell stands.
@@ -121,104 +102,100 @@ fn y_of(row: Row, p: usize) -> usize
     44 + 66 * set_of(row, p)
 }
 
-fn label(fd: i32, class: &[u8], x: usize, y: usize) {
-    put(fd, b"<text class=\"");
-    put(fd, class);
-    put(fd, b"\" x=\"");
-    number(fd, x);
-    put(fd, b"\" y=\"");
-    number(fd, y);
-    put(fd, b"\">");
+fn label(page: Page, class: &[u8], x: usize, y: usize) -> Page {
+    page.put(b"<text class=\"")
+        .put(class)
+        .put(b"\" x=\"")
+        .number(x)
+        .put(b"\" y=\"")
+        .number(y)
+        .put(b"\">")
 }
 
 // The first and the last place of a run, under its first cell.
-fn places_of(fd: i32, x: usize, y: usize, p: usize, end: usize)
+fn places_of(page: Page, x: usize, y: usize, p: usize, end: usize) -> Page
     requires { ⌜ p < end ⌝ }
 {
-    label(fd, b"p", x, y);
-    number(fd, p);
+    let mut drawn = label(page, b"p", x, y).number(p);
     if p + 1 < end {
-        put(fd, b"-");
-        number(fd, end - 1);
+        drawn = drawn.put(b"-").number(end - 1);
     }
-    put(fd, b"</text>\n");
+    drawn.put(b"</text>\n")
 }
 
-fn rect(fd: i32, kind: u8, x: usize, y: usize, width: usize) {
-    put(fd, b"<rect class=\"k");
-    io::print_decimal(fd, kind as u64);
-    put(fd, b"\" x=\"");
-    number(fd, x);
-    put(fd, b"\" y=\"");
-    number(fd, y);
-    put(fd, b"\" width=\"");
-    number(fd, width);
-    put(fd, b"\" height=\"38\"/>\n");
+fn rect(page: Page, kind: u8, x: usize, y: usize, width: usize) -> Page {
+    page.put(b"<rect class=\"k")
+        .number(kind as usize)
+        .put(b"\" x=\"")
+        .number(x)
+        .put(b"\" y=\"")
+        .number(y)
+        .put(b"\" width=\"")
+        .number(width)
+        .put(b"\" height=\"38\"/>\n")
 }
 
-fn long_cell(fd: i32, x: usize, y: usize)
+fn long_cell(page: Page, x: usize, y: usize) -> Page
     requires { ⌜ (x ≤ 700) × (y ≤ 1200) ⌝ }
 {
-    rect(fd, picture::TRIBUTARY, x, y, RIGHT - x);
-    label(fd, b"", x + 12, y + 24);
-    put(
-        fd,
-        b"tributary digits in turn: 1 2 3 4 1 2 3 4 ...</text>\n",
-    );
+    let cell = rect(page, picture::TRIBUTARY, x, y, RIGHT - x);
+    label(cell, b"", x + 12, y + 24).put(b"tributary digits in turn: 1 2 3 4 1 2 3 4 ...</text>\n")
 }
 
-fn cells(fd: i32, row: Row, line: &[u8; 366], noted: Noted, kind: u8, p: usize, end: usize)
+fn cells(
+    page: Page,
+    row: Row,
+    line: &[u8; 366],
+    noted: Noted,
+    kind: u8,
+    p: usize,
+    end: usize,
+) -> Page
     requires { ⌜ Shared row × (p < end) × (end ≤ row .digits) ⌝ }
 {
+    let mut drawn = page;
     let mut q = p;
     while q < end {
-        cell(fd, row, line, noted, kind, q);
+        drawn = cell(drawn, row, line, noted, kind, q);
         q += 1;
     }
+    drawn
 }
 
-fn cell(fd: i32, row: Row, line: &[u8; 366], noted: Noted, kind: u8, q: usize)
+fn cell(page: Page, row: Row, line: &[u8; 366], noted: Noted, kind: u8, q: usize) -> Page
     requires { ⌜ Shared row × (q < row .digits) ⌝ }
 {
     let x = x_of(row, q);
     let y = y_of(row, q);
-    rect(fd, kind, x, y, CELL);
-    label(fd, b"c", x + 17, y + 16);
-    name(fd, kind, places::tributary_at(FramePlace(q)) % 4 + 1);
-    put(fd, b"</text>\n");
+    let named = label(rect(page, kind, x, y, CELL), b"c", x + 17, y + 16);
+    let tributary = places::tributary_at(FramePlace(q)) % 4 + 1;
+    let drawn = name(named, kind, tributary).put(b"</text>\n");
     if kind == picture::WORD || noted.given {
-        label(fd, b"c", x + 17, y + 32);
-        value(fd, line, noted.note, kind, q);
-        put(fd, b"</text>\n");
+        let valued = label(drawn, b"c", x + 17, y + 32);
+        return value(valued, line, noted.note, kind, q).put(b"</text>\n");
     }
+    drawn
 }
 
-fn name(fd: i32, kind: u8, tributary: usize) {
+fn name(page: Page, kind: u8, tributary: usize) -> Page {
     match kind {
-        picture::WORD => put(fd, b"w"),
-        picture::CONTROL => numbered(fd, b"C", tributary),
-        picture::JUSTIFICATION => numbered(fd, b"J", tributary),
-        picture::REMOTE_ALARM => put(fd, b"A"),
-        _ => put(fd, b"N"),
+        picture::WORD => page.put(b"w"),
+        picture::CONTROL => page.put(b"C").number(tributary),
+        picture::JUSTIFICATION => page.put(b"J").number(tributary),
+        picture::REMOTE_ALARM => page.put(b"A"),
+        _ => page.put(b"N"),
     }
-}
-
-fn numbered(fd: i32, letter: &[u8], n: usize) {
-    put(fd, letter);
-    number(fd, n);
 }
 
 // What a place holds: a justification digit is stuffing, or the tributary's own.
-fn value(fd: i32, line: &[u8; 366], note: u8, kind: u8, q: usize)
+fn value(page: Page, line: &[u8; 366], note: u8, kind: u8, q: usize) -> Page
     requires { ⌜ q < 65536 ⌝ }
 {
     if kind == picture::JUSTIFICATION {
         if order::is_stuffed(note, places::tributary_at(FramePlace(q)) % 4) {
-            put(fd, b"stuff");
-        } else {
-            put(fd, b"digit");
+            return page.put(b"stuff");
         }
-        return;
+        return page.put(b"digit");
     }
-    number(fd, digits::digit_or_zero(line, q) as usize);
+    page.number(digits::digit_or_zero(line, q) as usize)
 }

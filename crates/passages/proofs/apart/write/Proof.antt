@@ -5,13 +5,13 @@ use Rattle.passages.proofs.apart.write.Statement.{statement}
 use Rattle.passages.proofs.apart.write.Tie as tie
 
 abbrev Inv-loop : tie.InvT-loop
-Inv-loop notes frames buffer counts s₀ j₀ s j = j ≤ 4
+Inv-loop notes buffer counts written u₀ j₀ u j = j ≤ 4
 
 abbrev μ-loop : tie.MeasureT-loop
-μ-loop notes frames buffer counts s₀ j₀ s j = 4 - j
+μ-loop notes buffer counts written u₀ j₀ u j = 4 - j
 
 pub write-spec : {M : Type 1} → statement M
 write-spec =
     tie.close
-    (tie.spec Inv-loop μ-loop (λ c. search needs) (λ c κs. search needs) (λ c. search needs) (λ c. search needs) (λ c. search needs)
-    (λ c κs. search needs) (λ c. search needs) (λ c. search needs) (λ c. search needs) (λ c. search needs))
+    (tie.spec Inv-loop μ-loop (λ c. search needs) (λ c κs. search needs) (λ c κs. search needs) (λ c. search needs) (λ c. search needs)
+    (λ c. search needs) (λ c κs. search needs) (λ c. search needs) (λ c. search needs) (λ c. search needs) (λ c. search needs))

@@ -5,6 +5,7 @@ use borrow.Author.Needs.{needs}
 use Rattle.passages.proofs.apart.write_quarter.Statement.{statement}
 use Rattle.passages.proofs.apart.write_quarter.Tie as tie
 
+-- src/apart.rt:63:46
 slice-aggregate-write-at : tie.Need-slice-aggregate-write-at
 slice-aggregate-write-at c = simp length-take (omega arith)
 
@@ -15,4 +16,4 @@ write-quarter-spec =
     (λ c. search needs) (λ c κs. search needs) (λ c κs. search needs) (λ c κs. search needs) (λ c. search needs) (λ c. search needs)
     (λ c κs. search needs) (λ c. search needs) slice-aggregate-write-at (λ c κs. search needs) (λ c. search needs) (λ c. search needs)
     (λ c κs. search needs) (λ c. search needs) (λ c. search needs) (λ c. search needs) (λ c. search needs) (λ c. search needs)
-    (λ c. search needs) (λ c. search needs))
+    (λ c κs. search needs) (λ c. search needs))

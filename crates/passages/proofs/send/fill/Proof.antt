@@ -7,10 +7,10 @@ use Rattle.passages.proofs.send.fill.Statement.{statement}
 use Rattle.passages.proofs.send.fill.Tie as tie
 
 abbrev Inv-loop : tie.InvT-loop
-Inv-loop row from f buffer₀ digits ok₀ j₀ buffer ok j = (j ≤ 4) × (length buffer ≡ length buffer₀)
+Inv-loop row f buffer₀ from done ok₀ j₀ buffer ok j = (j ≤ 4) × (length buffer ≡ length buffer₀)
 
 abbrev μ-loop : tie.MeasureT-loop
-μ-loop row from f buffer₀ digits ok₀ j₀ buffer ok j = 4 - j
+μ-loop row f buffer₀ from done ok₀ j₀ buffer ok j = 4 - j
 
 pub fill-spec : {M : Type 1} → statement M
 fill-spec =

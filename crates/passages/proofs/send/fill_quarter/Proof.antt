@@ -5,9 +5,11 @@ use borrow.Author.Needs.{needs}
 use Rattle.passages.proofs.send.fill_quarter.Statement.{statement}
 use Rattle.passages.proofs.send.fill_quarter.Tie as tie
 
+-- src/send.rt:139:47
 slice-aggregate-read-at : tie.Need-slice-aggregate-read-at
 slice-aggregate-read-at c = simp length-take (omega arith)
 
+-- src/send.rt:140:44
 tributary-digits-requires : tie.Need-tributary-digits-requires
 tributary-digits-requires c κs = let b = c .before .before .before .before .before .before .before .before .before in (b .pre .0, omega (arith, b .pre .1))
 

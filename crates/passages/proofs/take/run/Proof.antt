@@ -1,19 +1,25 @@
--- Every part that is lent has the length asked for, since its array is longer.
+-- The line is no longer than the longest file, and has fewer frames than bytes.
 use native.Mathlib.Nat.{le-trans, div-le-self}
 use borrow.Author.Needs.{needs}
 use Rattle.passages.proofs.take.run.Statement.{statement}
 use Rattle.passages.proofs.take.run.Tie as tie
 
+-- src/take.rt:47:18
 quarter-bytes-requires : tie.Need-quarter-bytes-requires
-quarter-bytes-requires c κs = (c .before .before .before .before .before .before .before .before .before .before .before .before .before .before .pre, le-trans (div-le-self _ _) (c .before .before .before .before .before .before .before .before .before .before .before .before .before .«open» .ensures))
+quarter-bytes-requires c κs =
+    let o = c .before .before .before .before .before .before .before .before .before .before .before .before .before in
+    (o .before .pre, le-trans (div-le-self _ _) (o .«open» .ensures))
 
-runs-requires : tie.Need-runs-requires
-runs-requires c κs = (c .before .before .before .before .before .before .before .before .before .before .before .before .before .before .before .before .before .pre, le-trans (div-le-self _ _) (c .before .before .before .before .before .before .before .before .before .before .before .before .before .before .before .before .«open» .ensures))
+-- src/take.rt:49:16
+all-requires : tie.Need-all-requires
+all-requires c κs =
+    let o = c .before .before .before .before .before .before .before .before .before .before .before .before .before .before .before .before in
+    (o .before .pre, le-trans (div-le-self _ _) (o .«open» .ensures))
 
 pub run-spec : {M : Type 1} → statement M
 run-spec =
     tie.close
     (tie.spec (λ c κs. search needs) (λ c. search needs) (λ c. search needs) (λ c κs. search needs) (λ c. search needs) (λ c. search needs)
     (λ c κs. search needs) (λ c. search needs) (λ c. search needs) (λ c κs. search needs) (λ c. search needs) (λ c κs. search needs)
-    (λ c. search needs) (λ c. search needs) quarter-bytes-requires (λ c κs. search needs) runs-requires (λ c κs. search needs)
+    (λ c. search needs) (λ c. search needs) quarter-bytes-requires (λ c κs. search needs) all-requires (λ c κs. search needs)
     (λ c. search needs))

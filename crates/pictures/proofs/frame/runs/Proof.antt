@@ -5,13 +5,13 @@ use Rattle.pictures.proofs.frame.runs.Statement.{statement}
 use Rattle.pictures.proofs.frame.runs.Tie as tie
 
 abbrev Inv-loop : tie.InvT-loop
-Inv-loop row line noted p₀ t6 p = p ≤ row .digits
+Inv-loop row line noted drawn₀ p₀ drawn p = p ≤ row .digits
 
 abbrev μ-loop : tie.MeasureT-loop
-μ-loop row line noted p₀ t6 p = row .digits - p
+μ-loop row line noted drawn₀ p₀ drawn p = row .digits - p
 
 pub runs-spec : {M : Type 1} → statement M
 runs-spec =
     tie.close
-    (tie.spec Inv-loop μ-loop (λ c. search needs) (λ c κs. search needs) (λ c κs. search needs) (λ c. search needs) (λ c. search needs)
-    (λ c. search needs) (λ c κs. search needs) (λ c. search needs))
+    (tie.spec Inv-loop μ-loop (λ c. search needs) (λ c κs. search needs) (λ c κs. search needs) (λ c κs. search needs)
+    (λ c κs. search needs) (λ c. search needs) (λ c. search needs) (λ c. search needs))

@@ -1,0 +1,18 @@
+-- The recording is no longer than the longest file, and has fewer frames than bytes.
+use native.Mathlib.Nat.{le-trans, div-le-self}
+use borrow.Author.Needs.{needs}
+use Rattle.finding.proofs.find.run.Statement.{statement}
+use Rattle.finding.proofs.find.run.Tie as tie
+
+-- src/find.rt:64:18
+quarter-bytes-requires : tie.Need-quarter-bytes-requires
+quarter-bytes-requires c κs =
+    let o = c .before .before .before .before .before .before in
+    (o .before .pre, le-trans (div-le-self _ _) (o .«open» .ensures))
+
+pub run-spec : {M : Type 1} → statement M
+run-spec =
+    tie.close
+    (tie.spec (λ c κs. search needs) (λ c. search needs) (λ c. search needs) (λ c κs. search needs) (λ c. search needs) (λ c. search needs)
+    (λ c κs. search needs) (λ c. search needs) (λ c κs. search needs) (λ c. search needs) (λ c κs. search needs) (λ c. search needs)
+    quarter-bytes-requires (λ c κs. search needs) (λ c κs. search needs) (λ c κs. search needs) (λ c. search needs))

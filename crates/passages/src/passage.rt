@@ -1,0 +1,139 @@
+// A passage through the calls: which files it goes between, how far it is, and the tables that are said of it.
+use console::say;
+use recordings::carry;
+use recordings::sizes;
+ghost use Prim.Native.Nat.{_≤_};
+
+// The files, or a number below 0 for none, and the bytes of a quarter of the tributaries' file.
+pub struct OpenFiles {
+    pub line: i32,
+    pub notes: i32,
+    pub tributaries: i32,
+    pub quarter: usize,
+}
+
+// What was found so far.
+pub struct Totals {
+    pub frames: usize,
+    pub digits: [usize; 4],
+    pub stuffed: [usize; 4],
+    pub alignment: usize,
+    pub groups: usize,
+}
+
+// Of each tributary's quarter that is written: its whole bytes so far, and the digits that do not fill a byte yet.
+pub struct Quarters {
+    pub written: [usize; 4],
+    pub byte: [u8; 4],
+    pub kept: [usize; 4],
+}
+
+// How far it is, and whether all was read and written; or else the refusal number and the frame that it names.
+pub struct Passage {
+    pub open: OpenFiles,
+    pub totals: Totals,
+    pub quarters: Quarters,
+    pub whole: bool,
+    pub refusal: u64,
+    pub frame: usize,
+}
+
+pub fn start(open: OpenFiles) -> Passage {
+    Passage {
+        open,
+        totals: Totals {
+            frames: 0,
+            digits: [0usize; 4],
+            stuffed: [0usize; 4],
+            alignment: 0,
+            groups: 0,
+        },
+        quarters: Quarters {
+            written: [0usize; 4],
+            byte: [0u8; 4],
+            kept: [0usize; 4],
+        },
+        whole: true,
+        refusal: 0,
+        frame: 0,
+    }
+}
+
+// Where byte `at` of quarter j (from 0) of the tributaries' file stands.
+pub fn in_quarter(quarter: usize, j: usize, at: usize) -> usize
+    requires { ⌜ j ≤ 4 ⌝ }
+{
+    sizes::plus(
+        sizes::quarter_start(sizes::least(quarter, sizes::MOST), j),
+        at,
+    )
+}
+
+// The totals with those of one run of frames: its notes, the digits of each tributary, and what was wrong.
+pub fn add(t: Totals, notes: &[u8], counts: [usize; 4], alignment: usize, groups: usize) -> Totals {
+    let digits = t.digits;
+    let stuffed = t.stuffed;
+    Totals {
+        frames: sizes::plus(t.frames, notes.len()),
+        digits: four_sums(digits, counts),
+        stuffed: four_sums(stuffed, four_stuffed(notes)),
+        alignment: sizes::plus(t.alignment, alignment),
+        groups: sizes::plus(t.groups, groups),
+    }
+}
+
+fn four_sums(a: [usize; 4], b: [usize; 4]) -> [usize; 4] {
+    [
+        sizes::plus(a[0], b[0]),
+        sizes::plus(a[1], b[1]),
+        sizes::plus(a[2], b[2]),
+        sizes::plus(a[3], b[3]),
+    ]
+}
+
+fn four_stuffed(notes: &[u8]) -> [usize; 4] {
+    [
+        carry::stuffed_frames(notes, 0),
+        carry::stuffed_frames(notes, 1),
+        carry::stuffed_frames(notes, 2),
+        carry::stuffed_frames(notes, 3),
+    ]
+}
+
+// What went well, if what it rests on did too.
+pub fn only_if(whole: bool, t: Passage) -> Passage {
+    let mut u = t;
+    if !whole {
+        u.whole = false;
+    }
+    u
+}
+
+// The first line of what a command did with so many frames.
+pub fn say_frames(level: u64, frames: usize, what: &[u8]) {
+    say::level(level);
+    say::number(frames);
+    say::text(what);
+}
+
+// The table of the four tributaries.
+pub fn say_table(t: Totals) {
+    let digits = t.digits;
+    let stuffed = t.stuffed;
+    say::text(b"tributary        digits      stuffed\n");
+    let mut j: usize = 0;
+    while j < 4 {
+        say::right(9, j + 1);
+        say::right(14, digits[j]);
+        say::right(13, stuffed[j]);
+        say::text(b"\n");
+        j += 1;
+    }
+}
+
+// The same, and what was wrong in all frames.
+pub fn say_totals(t: Totals) {
+    say_table(t);
+    say::line(b"alignment digits wrong: ", t.alignment);
+    say::line(b"control groups not unanimous: ", t.groups);
+}
