@@ -13,6 +13,7 @@ pub mod frame;
 pub mod history;
 pub mod level;
 mod multiplexing;
+pub mod random;
 mod receiver;
 
 pub use multiplexing::{demultiplex, length_refusal, multiplex, Demultiplexed, Multiplexed};

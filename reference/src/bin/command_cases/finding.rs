@@ -2,11 +2,11 @@
 
 use crate::case::{in_turn, words, Case, OLD};
 use crate::inputs::{level, levels, room};
-use crate::random::Random;
 use crate::stream::Stream;
 use crate::texts::{self, cannot, no_level, written};
 use crate::worked::{self, Event, Found};
 use reference::level::Row;
+use reference::random::Random;
 
 const OUTPUTS: [&str; 2] = ["back.notes", "back.tributaries"];
 

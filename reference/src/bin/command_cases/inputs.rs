@@ -1,10 +1,10 @@
 //! Notes, tributaries and lines.
 
-use crate::random::Random;
 use crate::worked;
 use reference::digits::{pack, unpack};
 use reference::frame::{layout, stuffed, Place};
 use reference::level::{row, Row};
+use reference::random::Random;
 
 /// The rows of the three levels.
 pub fn levels() -> [&'static Row; 3] {
@@ -56,16 +56,16 @@ pub fn damaged(row: &Row, line: &[u8], seed: u64) -> Vec<u8> {
 
 fn damaged_frame(row: &Row, frame: &[u8], random: &mut Random) -> Vec<u8> {
     let mut digits = unpack(frame, row.frame_digits);
-    for _ in 0..random.below(3) {
-        digits[random.below(row.word_length())] ^= 1;
+    for _ in 0..random.index(3) {
+        digits[random.index(row.word_length())] ^= 1;
     }
     for j in 0..4 {
         let group = places(row, Place::Control(j));
         if stuffed(&group.iter().map(|&place| digits[place]).collect::<Vec<u8>>()) {
             digits[places(row, Place::Justification(j))[0]] = random.digit();
         }
-        let first = random.below(group.len());
-        let wrong = random.below((group.len() + 1) / 2);
+        let first = random.index(group.len());
+        let wrong = random.index((group.len() + 1) / 2);
         for k in first..first + wrong {
             digits[group[k % group.len()]] ^= 1;
         }

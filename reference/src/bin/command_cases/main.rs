@@ -21,7 +21,6 @@ mod case;
 mod finding;
 mod inputs;
 mod pictures;
-mod random;
 mod sending;
 mod stream;
 mod taking;

@@ -2,10 +2,10 @@
 
 use crate::case::{in_turn, words, Case, OLD};
 use crate::inputs::{level, levels, notes, room, tributaries};
-use crate::random::Random;
 use crate::texts::{self, cannot, no_level, no_room, no_such_digits, written};
 use crate::worked;
 use reference::level::Row;
+use reference::random::Random;
 
 const OUTPUT: [&str; 1] = ["line"];
 

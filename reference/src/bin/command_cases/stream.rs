@@ -1,10 +1,10 @@
 //! A recording for find, put together piece by piece.
 
 use crate::inputs::known_bits;
-use crate::random::Random;
 use reference::digits::pack;
 use reference::frame::{fill, Waiting};
 use reference::level::Row;
+use reference::random::Random;
 
 pub struct Stream {
     row: &'static Row,
@@ -46,7 +46,7 @@ impl Stream {
     pub fn wrong(mut self, frames: usize) -> Stream {
         for _ in 0..frames {
             let mut frame = self.frame();
-            frame[self.random.below(self.row.word_length())] ^= 1;
+            frame[self.random.index(self.row.word_length())] ^= 1;
             self.digits.extend(frame);
         }
         self

@@ -2,10 +2,10 @@
 
 use crate::case::{in_turn, words, Case, OLD};
 use crate::inputs::{damaged, level, levels, line, notes, room};
-use crate::random::Random;
 use crate::texts::{self, cannot, no_level, no_whole_frames, written};
 use crate::worked;
 use reference::level::Row;
+use reference::random::Random;
 
 const OUTPUTS: [&str; 2] = ["notes", "tributaries"];
 

@@ -13,11 +13,10 @@ mod call;
 mod face;
 mod lengths;
 mod multiplexing;
-mod random;
 mod receiver;
 
 use call::{Call, Outcome, NAMES};
-use random::Random;
+use reference::random::Random;
 use std::process::exit;
 
 /// A run: its numbers, and how many calls of each kind it has made.

@@ -1,9 +1,9 @@
 //! Multiplex and demultiplex calls: sound ones, damaged lines, and every set of faults.
 
 use crate::call::{Call, Lending};
-use crate::random::Random;
 use crate::Run;
 use reference::level::{row, Row};
+use reference::random::Random;
 
 /// Faults by refusal number: number 1 is the lowest bit, number 5 the highest.
 type Faults = u64;

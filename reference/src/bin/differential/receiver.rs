@@ -1,11 +1,11 @@
 //! Calls of the receiver and of the reader: any state, streams from fresh, any place.
 
 use crate::call::{Call, Outcome, Piece};
-use crate::random::Random;
 use crate::Run;
 use reference::digits::{of_number, pack};
 use reference::history::{self, HandedOver};
 use reference::level::{row, Row};
+use reference::random::Random;
 use reference::{fresh, multiplex, State};
 
 pub fn part(run: &mut Run) {

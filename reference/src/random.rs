@@ -70,6 +70,14 @@ impl Random {
         }
     }
 
+    pub fn digit(&mut self) -> u8 {
+        (self.number() >> 63) as u8
+    }
+
+    pub fn digits(&mut self, count: usize) -> Vec<u8> {
+        (0..count).map(|_| self.digit()).collect()
+    }
+
     pub fn bytes(&mut self, count: usize) -> Vec<u8> {
         (0..count).map(|_| self.number() as u8).collect()
     }
