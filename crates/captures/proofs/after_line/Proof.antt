@@ -1,7 +1,8 @@
 -- `after_line` is `afterLine`: the file ends, or a label follows, or the field at fault is named.
-use mathlib.Core.Path.{sym, _∙_}
+use mathlib.Core.Path.{_≡_, sym, _∙_}
+use mathlib.Core.Bool.{false}
 use borrow.Author.Tests.{eq-eqb, ne-eqb, not-true, not-false}
-use Rattle.captures.specs.Captures.{afterLine}
+use Rattle.captures.specs.Captures.{fieldAt, afterLine}
 use borrow.Author.Needs.{needs}
 use Rattle.captures.proofs.after_line.Statement.{statement}
 use Rattle.captures.proofs.after_line.Tie as tie
@@ -12,7 +13,10 @@ returns c = rw (eq-eqb _ _ (c .if1 .taken), c .before .part-at .ensures, c .befo
 
 returns-2 : tie.Need-returns-2
 unfolding afterLine
-returns-2 c = rw (ne-eqb _ _ (c .before .before .before .if1 .left), sym (c .before .before .field-at .ensures) ∙ not-true _ (c .before .if2 .taken), c .unread-at .ensures)
+returns-2 c =
+    let a = c .before .before .before .before .before .before .before .args in
+    let no-label : fieldAt (a .file .now) (a .p) 3 0 32 ≡ false = sym (c .before .before .field-at .ensures) ∙ not-true _ (c .before .if2 .taken) in
+    rw (ne-eqb _ _ (c .before .before .before .if1 .left), no-label, c .unread-at .ensures)
 
 returns-3 : tie.Need-returns-3
 unfolding afterLine

@@ -1,9 +1,10 @@
 -- `write_refusal` is `writeRefusal`: each return rewrites with the tests that lead to it.
 use mathlib.Core.Path.{sym, _∙_}
 use native.Mathlib.Omega.{arith}
+use lib.ListN.{length}
 use borrow.Author.Tests.{lt-ltb, le-ltb}
 use Rattle.captures.proofs.Judging.{short-enough}
-use Rattle.captures.specs.Captures.{writeRefusal}
+use Rattle.captures.specs.Captures.{fileOf, writeRefusal}
 use Rattle.captures.proofs.Putting.{file-length}
 use borrow.Author.Needs.{needs}
 use Rattle.captures.proofs.write_refusal.Statement.{statement}
@@ -24,13 +25,13 @@ returns-3 : tie.Need-returns-3
 unfolding writeRefusal
 returns-3 c =
     let a = c .before .before .before .before .before .before .before .before .args in
-    rw (sym (c .before .before .before .before .before .bad-line .ensures) ∙ c .before .before .before .before .if1 .left, sym (c .before .before .before .long-label .ensures) ∙ c .before .before .if2 .left, file-length (a .level) (a .line .now) (a .label .now) (a .labelled), ← c .before .file-bytes .ensures, lt-ltb _ _ (c .if3 .taken))
+    rw (sym (c .before .before .before .before .before .bad-line .ensures) ∙ c .before .before .before .before .if1 .left, sym (c .before .before .before .long-label .ensures) ∙ c .before .before .if2 .left, lt-ltb (a .room) (length (fileOf (a .level) (a .line .now) (a .label .now) (a .labelled))) (omega (arith, c .if3 .taken, c .before .file-bytes .ensures, file-length (a .level) (a .line .now) (a .label .now) (a .labelled))))
 
 returns-4 : tie.Need-returns-4
 unfolding writeRefusal
 returns-4 c =
     let a = c .before .before .before .before .before .before .before .before .args in
-    rw (sym (c .before .before .before .before .before .bad-line .ensures) ∙ c .before .before .before .before .if1 .left, sym (c .before .before .before .long-label .ensures) ∙ c .before .before .if2 .left, file-length (a .level) (a .line .now) (a .label .now) (a .labelled), ← c .before .file-bytes .ensures, le-ltb _ _ (c .if3 .left))
+    rw (sym (c .before .before .before .before .before .bad-line .ensures) ∙ c .before .before .before .before .if1 .left, sym (c .before .before .before .long-label .ensures) ∙ c .before .before .if2 .left, le-ltb (a .room) (length (fileOf (a .level) (a .line .now) (a .label .now) (a .labelled))) (omega (arith, c .if3 .left, c .before .file-bytes .ensures, file-length (a .level) (a .line .now) (a .label .now) (a .labelled))))
 
 pub write-refusal-spec : {M : Type 1} → statement M
 write-refusal-spec =
