@@ -2,9 +2,9 @@
 //! with a byte changed, cut or added, and files of any fields.
 
 use crate::call::{Call, Writing};
-use crate::random::Random;
 use crate::Run;
 use reference::level::{row, Row};
+use reference::random::Random;
 
 /// Numbers that say that there is a label.
 const YES: [u64; 5] = [1, 2, 256, 1 << 32, u64::MAX];
