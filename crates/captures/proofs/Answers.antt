@@ -113,7 +113,7 @@ read-back level line label labelled buffer w left r met z reads =
     let short = short-enough row (shared-row level row (well .has-row)) (length line) (ok .line-good) in
     let wrote : w .bytes ≡ length file = ap (λ (v : Written). v .bytes) (met .0) ∙ rw (well .has-row, eq-eqb _ _ (well .unrefused)) refl in
     let leaves : left ≡ filed file buffer = met .1 ∙ rw (well .has-row, eq-eqb _ _ (well .unrefused)) refl in
-    let cut : take (w .bytes) left ≡ file = rw (wrote, leaves) (take-append-seam file (drop (0 + length file) buffer)) in
+    let cut : take (w .bytes) left ≡ file = rw (wrote, leaves) (take-append-seam file (drop (length file) buffer)) in
     let fields = fields-found level line label short labelled (short-label labelled label (ok .label-short)) in
     let is : r ≡ found level line label labelled
     = reads ∙ ap readOf cut ∙ read-found file (found level line label labelled) fields refl row (well .has-row) (ok .line-good) in

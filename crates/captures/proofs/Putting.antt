@@ -78,6 +78,12 @@ module _ (p tag : ℕ) (body old : List ℕ) (h : p + 3 + length body ≤ length
 
 -- ---- the fields of a file, one behind the other
 
+-- what is put behind no bytes stands first
+put-first : (xs old : List ℕ) → putAt 0 xs old ≡ filed xs old
+put-first xs old =
+    let e : 0 + length xs ≡ length xs = omega arith in
+    ap (λ (n : ℕ). xs ++ drop n old) e
+
 module _ (level : ℕ) (line label : List ℕ) where
   abbrev first-two : List ℕ
   first-two = fieldOf 1 (level ∷ []) ++ fieldOf 2 line
@@ -92,12 +98,12 @@ module _ (level : ℕ) (line label : List ℕ) where
 
   module _ (old : List ℕ) (h : 7 + length line ≤ length old) (f₁ f₂ : List ℕ) (p₁ : ℕ) (e₁ : p₁ ≡ 4) (is₁ : f₁ ≡ putAt 0 (fieldOf 1 (level ∷ [])) old)
       (is₂ : f₂ ≡ putAt p₁ (fieldOf 2 line) f₁) where
-    two-put : f₂ ≡ filed first-two old
+    two-put : f₂ ≡ putAt 0 first-two old
     two-put = is₂ ∙ rw (e₁, is₁) (put-behind 0 (fieldOf 1 (level ∷ [])) old (omega arith) (fieldOf 2 line))
 
     pub unlabelled-put : f₂ ≡ filed (fileOf level line label false) old
     unfolding fileOf
-    unlabelled-put = two-put ∙ ap (λ (l : List ℕ). filed (fieldOf 1 (level ∷ []) ++ l) old) (sym (append-nil (fieldOf 2 line)))
+    unlabelled-put = two-put ∙ put-first first-two old ∙ ap (λ (l : List ℕ). filed (fieldOf 1 (level ∷ []) ++ l) old) (sym (append-nil (fieldOf 2 line)))
 
     pub labelled-put : (p₂ : ℕ) → p₂ ≡ 7 + length line → (f₃ : List ℕ) → f₃ ≡ putAt p₂ (fieldOf 3 label) f₂ → f₃ ≡ filed (fileOf level line label true) old
     unfolding fileOf
@@ -105,4 +111,5 @@ module _ (level : ℕ) (line label : List ℕ) where
         let at : p₂ ≡ 0 + length first-two = omega arith in
         is₃
         ∙ rw (at, two-put) (put-behind 0 first-two old (omega arith) (fieldOf 3 label))
+        ∙ put-first (first-two ++ fieldOf 3 label) old
         ∙ ap (λ (l : List ℕ). filed l old) (append-assoc (fieldOf 1 (level ∷ [])) (fieldOf 2 line) (fieldOf 3 label))

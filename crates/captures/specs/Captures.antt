@@ -46,13 +46,9 @@ writtenOn row level line label labelled room =
 abbrev pub writtenOf : ℕ → List ℕ → List ℕ → Bool → ℕ → Written
 writtenOf level line label labelled room = onLevel (levelOf level) (λ (row : Row). writtenOn row level line label labelled room) (unwritten 1)
 
--- bytes put behind the first p of a lent buffer; those after them stay
-abbrev pub putAt : ℕ → List ℕ → List ℕ → List ℕ
-putAt p bytes old = take p old ++ (bytes ++ drop (p + length bytes) old)
-
--- a file put into the buffer that is lent for it: "bytes after the file stay"
+-- a file in the buffer that was lent for it: "bytes after the file stay"
 abbrev pub filed : List ℕ → List ℕ → List ℕ
-filed file old = putAt 0 file old
+filed file old = file ++ drop (length file) old
 
 -- the lent bytes at the end
 abbrev pub leftOn : Row → ℕ → List ℕ → List ℕ → Bool → List ℕ → List ℕ
@@ -63,6 +59,10 @@ leftOn row level line label labelled file =
 
 abbrev pub leftOf : ℕ → List ℕ → List ℕ → Bool → List ℕ → List ℕ
 leftOf level line label labelled file = onLevel (levelOf level) (λ (row : Row). leftOn row level line label labelled file) file
+
+-- on the way there a field is put behind the first p bytes, and those after it stay
+abbrev pub putAt : ℕ → List ℕ → List ℕ → List ℕ
+putAt p bytes old = take p old ++ (bytes ++ drop (p + length bytes) old)
 
 -- the whole statement of `write`: its answer, and the file it leaves
 abbrev pub WriteMet : ℕ → List ℕ → List ℕ → Bool → List ℕ → Written → List ℕ → Type 0
