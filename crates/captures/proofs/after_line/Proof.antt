@@ -20,11 +20,31 @@ returns-2 c =
 
 returns-3 : tie.Need-returns-3
 unfolding afterLine
-returns-3 c = rw (ne-eqb _ _ (c .before .before .before .before .before .if1 .left), sym (c .before .before .before .before .field-at .ensures) ∙ not-false _ (c .before .before .before .if2 .left), ← c .before .before .end-at .ensures .0, ne-eqb _ _ (c .before .if3 .taken), c .unread-at2 .ensures)
+returns-3 c =
+    let c2 = c .before .before in
+    let c3 = c2 .before in
+    let c4 = c3 .before in
+    let c5 = c4 .before in
+    rw (ne-eqb _ _ (c5 .if1 .left), sym (c4 .field-at .ensures) ∙ not-false _ (c3 .if2 .left), ← c2 .end-at .ensures .0, ne-eqb _ _ (c .before .if3 .taken), c .unread-at2 .ensures)
 
 returns-4 : tie.Need-returns-4
 unfolding afterLine
-returns-4 c = rw (ne-eqb _ _ (c .before .before .before .before .before .if1 .left), sym (c .before .before .before .before .field-at .ensures) ∙ not-false _ (c .before .before .before .if2 .left), ← c .before .before .end-at .ensures .0, eq-eqb _ _ (c .before .if3 .left), c .before .before .before .before .before .before .part-at .ensures, c .before .before .before .before .before .before .before .byte-at .ensures, c .part-at2 .ensures)
+returns-4 c =
+    let c2 = c .before .before in
+    let c3 = c2 .before in
+    let c4 = c3 .before in
+    let c5 = c4 .before in
+    let c6 = c5 .before in
+    let c7 = c6 .before in
+    rw (
+      ne-eqb _ _ (c5 .if1 .left),
+      sym (c4 .field-at .ensures) ∙ not-false _ (c3 .if2 .left),
+      ← c2 .end-at .ensures .0,
+      eq-eqb _ _ (c .before .if3 .left),
+      c6 .part-at .ensures,
+      c7 .byte-at .ensures,
+      c .part-at2 .ensures,
+    )
 
 pub after-line-spec : {M : Type 1} → statement M
 after-line-spec =

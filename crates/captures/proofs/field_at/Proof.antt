@@ -16,11 +16,20 @@ returns-2 c = rw (← c .before .before .before .byte-at .ensures, eq-eqb _ _ (c
 
 returns-3 : tie.Need-returns-3
 unfolding fieldAt
-returns-3 c = rw (← c .before .before .before .before .byte-at .ensures, eq-eqb _ _ (c .before .before .before .if1 .left), ← c .before .before .length-at .ensures .0, le-leb _ _ (c .before .if2 .left), lt-leb _ _ (c .if3 .taken))
+returns-3 c =
+    let c2 = c .before .before in
+    let c3 = c2 .before in
+    let c4 = c3 .before in
+    rw (← c4 .byte-at .ensures, eq-eqb _ _ (c3 .if1 .left), ← c2 .length-at .ensures .0, le-leb _ _ (c .before .if2 .left), lt-leb _ _ (c .if3 .taken))
 
 returns-4 : tie.Need-returns-4
 unfolding fieldAt
-returns-4 c = rw (← c .before .before .before .before .before .byte-at .ensures, eq-eqb _ _ (c .before .before .before .before .if1 .left), c .end-at .ensures .0, ← c .before .before .before .length-at .ensures .0, le-leb _ _ (c .before .before .if2 .left), le-leb _ _ (c .before .if3 .left)) refl
+returns-4 c =
+    let c2 = c .before .before in
+    let c3 = c2 .before in
+    let c4 = c3 .before in
+    let c5 = c4 .before in
+    rw (← c5 .byte-at .ensures, eq-eqb _ _ (c4 .if1 .left), c .end-at .ensures .0, ← c3 .length-at .ensures .0, le-leb _ _ (c2 .if2 .left), le-leb _ _ (c .before .if3 .left)) refl
 
 pub field-at-spec : {M : Type 1} → statement M
 field-at-spec =

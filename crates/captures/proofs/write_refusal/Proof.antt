@@ -24,14 +24,24 @@ file-bytes-requires c κs = (short-enough _ (c .before .before .before .before .
 returns-3 : tie.Need-returns-3
 unfolding writeRefusal
 returns-3 c =
-    let a = c .before .before .before .before .before .before .before .before .args in
-    rw (sym (c .before .before .before .before .before .bad-line .ensures) ∙ c .before .before .before .before .if1 .left, sym (c .before .before .before .long-label .ensures) ∙ c .before .before .if2 .left, lt-ltb (a .room) (length (fileOf (a .level) (a .line .now) (a .label .now) (a .labelled))) (omega (arith, c .if3 .taken, c .before .file-bytes .ensures, file-length (a .level) (a .line .now) (a .label .now) (a .labelled))))
+    let c2 = c .before .before in
+    let c3 = c2 .before in
+    let c4 = c3 .before in
+    let c5 = c4 .before in
+    let c8 = c5 .before .before .before in
+    let a = c8 .args in
+    rw (sym (c5 .bad-line .ensures) ∙ c4 .if1 .left, sym (c3 .long-label .ensures) ∙ c2 .if2 .left, lt-ltb (a .room) (length (fileOf (a .level) (a .line .now) (a .label .now) (a .labelled))) (omega (arith, c .if3 .taken, c .before .file-bytes .ensures, file-length (a .level) (a .line .now) (a .label .now) (a .labelled))))
 
 returns-4 : tie.Need-returns-4
 unfolding writeRefusal
 returns-4 c =
-    let a = c .before .before .before .before .before .before .before .before .args in
-    rw (sym (c .before .before .before .before .before .bad-line .ensures) ∙ c .before .before .before .before .if1 .left, sym (c .before .before .before .long-label .ensures) ∙ c .before .before .if2 .left, le-ltb (a .room) (length (fileOf (a .level) (a .line .now) (a .label .now) (a .labelled))) (omega (arith, c .if3 .left, c .before .file-bytes .ensures, file-length (a .level) (a .line .now) (a .label .now) (a .labelled))))
+    let c2 = c .before .before in
+    let c3 = c2 .before in
+    let c4 = c3 .before in
+    let c5 = c4 .before in
+    let c8 = c5 .before .before .before in
+    let a = c8 .args in
+    rw (sym (c5 .bad-line .ensures) ∙ c4 .if1 .left, sym (c3 .long-label .ensures) ∙ c2 .if2 .left, le-ltb (a .room) (length (fileOf (a .level) (a .line .now) (a .label .now) (a .labelled))) (omega (arith, c .if3 .left, c .before .file-bytes .ensures, file-length (a .level) (a .line .now) (a .label .now) (a .labelled))))
 
 pub write-refusal-spec : {M : Type 1} → statement M
 write-refusal-spec =
