@@ -1,6 +1,6 @@
 /*
  * spritbobbin.h: frames of 8448, 34368 and 139264 kbit/s (G.742, G.751), built, taken apart,
- * and found in a stream of digits.
+ * found in a stream of digits, and kept in files.
  *
  * Link with libspritbobbin.a, which is for x86-64 Linux and asks for memcpy, memset and the like
  * and nothing else.
@@ -21,6 +21,7 @@
  *             tributary j. A tributary's digits are the first of its quarter and run on from
  *             frame to frame without a gap.
  * note        one byte for each frame: which tributaries are stuffed, and the service digits.
+ * capture     a file that keeps a line: see spritbobbin_capture_write.
  *
  *                           level 2    level 3    level 4
  *   frame, digits N             848       1536       2928
@@ -64,10 +65,16 @@
  *      or more, over L digits seen, a mode over 6, a place of N or more, hunting at a place
  *      other than 0, or not hunting with fewer than L digits seen
  *   7  first + count is more than the digits of the slice
+ *   9  writing a capture: the label is over 32 bytes; reading one: the bytes are no run of a
+ *      capture's fields, and the answer names the byte where the field at fault begins or should
+ *      begin, counted from 0
+ *
+ * For a capture 4 means that the file's buffer is shorter than the file.
  *
  * Where several apply, the first in this order is returned: 1, 2, 3, 4, 5 for the two multiplex
- * calls, 6, 2, 7 for a piece. A refused call writes nothing that it was lent, but the answer: all
- * its numbers are 0, except the named frame under 5. (A fresh state is an answer too.)
+ * calls, 6, 2, 7 for a piece, 1, 2, 9, 4 for writing a capture, 9, 1, 2 for reading one. A refused
+ * call writes nothing that it was lent, but the answer: all its numbers are 0, except the named
+ * frame under 5 and the named byte under 9. (A fresh state is an answer too.)
  *
  *
  * EXAMPLE
@@ -140,7 +147,8 @@ enum {
     SPRITBOBBIN_REFUSED_BUFFER = 4,
     SPRITBOBBIN_REFUSED_NOTE_BITS = 5,
     SPRITBOBBIN_REFUSED_STATE = 6,
-    SPRITBOBBIN_REFUSED_DIGITS = 7
+    SPRITBOBBIN_REFUSED_DIGITS = 7,
+    SPRITBOBBIN_REFUSED_FIELD = 9
 };
 
 /* Sizes, by level where they differ. */
@@ -156,13 +164,18 @@ enum {
     SPRITBOBBIN_TRIBUTARY_DIGITS_4 = 723,
     SPRITBOBBIN_FRAME_STORE_BYTES = 366, /* the receiver's frame in hand, at every level */
     SPRITBOBBIN_MOST_FRAMES = 64,        /* in a line */
-    SPRITBOBBIN_MOST_BYTES = 65536       /* in a piece, or in a line that is read digit by digit */
+    SPRITBOBBIN_MOST_BYTES = 65536,      /* in a piece, or in a line that is read digit by digit */
+    SPRITBOBBIN_MOST_LABEL_BYTES = 32    /* in a capture */
 };
 
 /* The fewest bytes of a quarter for so many frames, tributary_digits being n of the level. The
    buffer is four times as long. */
 #define SPRITBOBBIN_QUARTER_BYTES(frames, tributary_digits) \
     (((frames) * (tributary_digits) + 7) / 8)
+
+/* The bytes of a capture of a line of so many bytes, without a label and with one. */
+#define SPRITBOBBIN_CAPTURE_BYTES(line_bytes) (7 + (line_bytes))
+#define SPRITBOBBIN_LABELLED_CAPTURE_BYTES(line_bytes, label_bytes) (10 + (line_bytes) + (label_bytes))
 
 /* The bits of a note. */
 enum {
@@ -184,7 +197,15 @@ enum {
     SPRITBOBBIN_GROUPS = 6,      /* demultiplexing: control groups that were not unanimous */
     SPRITBOBBIN_TAKEN = 0,       /* receiver: digits taken */
     SPRITBOBBIN_READY = 1,       /* receiver: 1 if a frame is ready */
-    SPRITBOBBIN_ALL_ONES = 2     /* receiver: 1 if that frame is marked all-ones */
+    SPRITBOBBIN_ALL_ONES = 2,    /* receiver: 1 if that frame is marked all-ones */
+    SPRITBOBBIN_FILE_BYTES = 0,  /* writing a capture: bytes of the file; then the named byte, 0 */
+    SPRITBOBBIN_FILE_LEVEL = 0,  /* reading a capture: the level */
+    SPRITBOBBIN_LINE_START = 1,  /* the line's first byte in the file */
+    SPRITBOBBIN_LINE_BYTES = 2,  /* how many it has */
+    SPRITBOBBIN_LABELLED = 3,    /* 1 if there is a label */
+    SPRITBOBBIN_LABEL_START = 4, /* the label's first byte in the file */
+    SPRITBOBBIN_LABEL_BYTES = 5, /* how many it has */
+    SPRITBOBBIN_NAMED_BYTE = 6   /* under 9: where the field at fault begins or should begin */
 };
 
 /* What stands where in a receiver's state, and the mode numbers. */
@@ -260,6 +281,29 @@ enum { SPRITBOBBIN_LINE_ENDED = 2 };
  * any place past the last digit, and at every place of a line over 65,536 bytes.
  */
 uint64_t spritbobbin_line_digit(const uint8_t *line, size_t line_bytes, uint64_t place);
+
+/*
+ * Writes a capture of a line at the beginning of file; bytes after it stay as they were.
+ *
+ * A capture is fields, each of a one-byte tag, a two-byte length (high byte first) and that many
+ * bytes: tag 1, the level, length 1; tag 2, the line; tag 3, the label, 0 to 32 bytes of any
+ * kind. Where labelled is 0 there is no tag 3 and the label is not looked at; any other number
+ * writes one, also of 0 bytes, which is not the same as none.
+ *
+ * answer: bytes of the file, named byte (0). Returns 0, 1, 2, 9 or 4.
+ */
+uint64_t spritbobbin_capture_write(uint64_t level, const uint8_t *line, size_t line_bytes,
+                                   const uint8_t *label, size_t label_bytes, uint64_t labelled,
+                                   uint8_t *file, size_t file_bytes, uint64_t answer[2]);
+
+/*
+ * Reads a capture, which file must hold whole and with nothing after it. Nothing is copied: the
+ * answer says where in the file line and label stand.
+ *
+ * answer: level, first byte of the line, its bytes, 1 if there is a label, first byte of the
+ * label, its bytes (both 0 without one), named byte. Returns 0, 9, 1 or 2.
+ */
+uint64_t spritbobbin_capture_read(const uint8_t *file, size_t file_bytes, uint64_t answer[7]);
 
 #ifdef __cplusplus
 }

@@ -8,6 +8,7 @@
 
 #![forbid(unsafe_code)]
 
+mod captures;
 pub mod digits;
 pub mod frame;
 pub mod history;
@@ -16,5 +17,6 @@ mod multiplexing;
 pub mod random;
 mod receiver;
 
+pub use captures::{read_capture, write_capture, Read, Written};
 pub use multiplexing::{demultiplex, length_refusal, multiplex, Demultiplexed, Multiplexed};
 pub use receiver::{feed, feed_refusal, fresh, line_digit, Fed, State};

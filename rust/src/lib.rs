@@ -9,6 +9,7 @@
 //! - A [`Receiver`] finds frames in a stream that comes in pieces of any size; a [`FrameStream`]
 //!   reads the stream too.
 //! - [`digits`] walks over the digits of a line.
+//! - [`write_capture`] keeps a line in a file, [`read_capture`] reads it back.
 //!
 //! # Digits, quarters, notes
 //!
@@ -57,6 +58,7 @@
 
 #![warn(missing_docs)]
 
+mod capture;
 mod level;
 mod line;
 mod multiplexing;
@@ -65,6 +67,7 @@ mod receiver;
 mod refusal;
 mod stream;
 
+pub use capture::{capture_bytes, read_capture, write_capture, Capture, MOST_LABEL_BYTES};
 pub use level::{Level, MOST_BYTES, MOST_FRAMES};
 pub use line::{digits, line_digit, Digits};
 pub use multiplexing::{demultiplex, multiplex, Received, Sent};

@@ -54,6 +54,27 @@ extern "C" {
 
     /// 0 or 1, or 2 where the line has ended.
     pub fn spritbobbin_line_digit(line: *const u8, line_bytes: usize, place: u64) -> u64;
+
+    /// Answer: bytes of the file, named byte.
+    pub fn spritbobbin_capture_write(
+        level: u64,
+        line: *const u8,
+        line_bytes: usize,
+        label: *const u8,
+        label_bytes: usize,
+        labelled: u64,
+        file: *mut u8,
+        file_bytes: usize,
+        answer: &mut [u64; 2],
+    ) -> u64;
+
+    /// Answer: level, first byte of the line, its bytes, 1 if there is a label, first byte of the
+    /// label, its bytes, named byte.
+    pub fn spritbobbin_capture_read(
+        file: *const u8,
+        file_bytes: usize,
+        answer: &mut [u64; 7],
+    ) -> u64;
 }
 
 /// A count that the library answers, as Rust counts. None is over eight times the bytes that were

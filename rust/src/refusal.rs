@@ -3,6 +3,7 @@
 use std::error::Error;
 use std::fmt;
 
+use crate::capture::MOST_LABEL_BYTES;
 use crate::level::{Level, MOST_BYTES, MOST_FRAMES};
 
 /// Why a call was refused. A refused call has written nothing that it was lent.
@@ -75,6 +76,23 @@ pub enum Refusal {
         /// The slice's bytes.
         bytes: usize,
     },
+    /// A capture's label is over 32 bytes.
+    Label {
+        /// The label's bytes.
+        bytes: usize,
+    },
+    /// A buffer is shorter than the file that is to be written into it.
+    File {
+        /// The buffer's bytes.
+        bytes: usize,
+        /// The file's bytes.
+        needed: usize,
+    },
+    /// What is read is no run of a capture's fields.
+    Field {
+        /// Where the field at fault begins or should begin, counted from 0.
+        byte: usize,
+    },
     /// A number that this crate does not know: the library is of another version.
     Unknown {
         /// The number that the library returned.
@@ -89,10 +107,11 @@ impl Refusal {
             Refusal::Level { .. } => 1,
             Refusal::Line { .. } | Refusal::Slice { .. } => 2,
             Refusal::Notes { .. } => 3,
-            Refusal::Buffer { .. } => 4,
+            Refusal::Buffer { .. } | Refusal::File { .. } => 4,
             Refusal::NoteBits { .. } => 5,
             Refusal::State => 6,
             Refusal::Digits { .. } => 7,
+            Refusal::Label { .. } | Refusal::Field { .. } => 9,
             Refusal::Unknown { number } => *number,
         }
     }
@@ -130,6 +149,20 @@ impl fmt::Display for Refusal {
                 out,
                 "{count} digits from digit {first} on do not fit in a slice of {bytes} bytes: \
                  ask for no digit past the slice's end"
+            ),
+            Refusal::Label { bytes } => write!(
+                out,
+                "a label of {bytes} bytes is too long: give at most {MOST_LABEL_BYTES} bytes"
+            ),
+            Refusal::File { bytes, needed } => write!(
+                out,
+                "the file has {} and there is room for {bytes}: give a buffer of {needed}",
+                counted(needed, "byte")
+            ),
+            Refusal::Field { byte } => write!(
+                out,
+                "this is no capture: a field is wrong, missing or cut off at byte {byte} \
+                 (counted from 0), or bytes follow there"
             ),
             Refusal::Unknown { number } => write!(
                 out,

@@ -1,6 +1,6 @@
 /*
  * Calls every function of the library through its header, from C: worked cases 1, 9, 10 and 11
- * of the specification, each refusal, the digits of a line. Prints "face: ok", or what failed.
+ * of the specification, each refusal, the digits of a line, captures. Prints "face: ok", or what failed.
  *
  * All bytes that are lent come from malloc in their exact number, so that valgrind sees a read or
  * a write of the library one byte beside them.
@@ -166,6 +166,81 @@ static void line_digits(void)
     free(line);
 }
 
+/* Writes a capture of a line of one value into a file that holds 0xA5, and reads it back. A label
+   of SIZE_MAX bytes is none. */
+static void capture(uint64_t level, size_t line_bytes, size_t label_bytes, size_t file_bytes, uint64_t refusal)
+{
+    uint64_t labelled = label_bytes != SIZE_MAX, wrote[2], read[7];
+    uint8_t *line = lend(line_bytes, 0x5A), *label = lend(labelled ? label_bytes : 0, 0xC3), *file = lend(file_bytes, 0xA5);
+    size_t size = labelled ? SPRITBOBBIN_LABELLED_CAPTURE_BYTES(line_bytes, label_bytes) : SPRITBOBBIN_CAPTURE_BYTES(line_bytes);
+
+    memset(wrote, 0xA5, sizeof wrote);
+    memset(read, 0xA5, sizeof read);
+    check(spritbobbin_capture_write(level, line, line_bytes, label, labelled ? label_bytes : 0, labelled,
+                                    file, file_bytes, wrote) == refusal,
+          "the refusal of a capture");
+    if (refusal) {
+        check(all_zero(wrote, 2) && all(file, file_bytes, 0xA5), "a refused capture is not written");
+    } else {
+        check(wrote[SPRITBOBBIN_FILE_BYTES] == size && wrote[1] == 0, "the bytes of the file");
+        check(all(file + size, file_bytes - size, 0xA5), "bytes after the file stay");
+        check(spritbobbin_capture_read(file, size, read) == SPRITBOBBIN_ACCEPTED, "what is written is read");
+        check(read[SPRITBOBBIN_FILE_LEVEL] == level && read[SPRITBOBBIN_LINE_BYTES] == line_bytes, "level and line come back");
+        check(all(file + read[SPRITBOBBIN_LINE_START], line_bytes, 0x5A), "the line's bytes");
+        check(read[SPRITBOBBIN_LABELLED] == labelled && read[SPRITBOBBIN_NAMED_BYTE] == 0, "a label or none");
+        if (labelled)
+            check(read[SPRITBOBBIN_LABEL_BYTES] == label_bytes && all(file + read[SPRITBOBBIN_LABEL_START], label_bytes, 0xC3), "the label");
+        else
+            check(all_zero(read + SPRITBOBBIN_LABEL_START, 2), "no label stands nowhere");
+    }
+    free(line);
+    free(label);
+    free(file);
+}
+
+/* A file of these bytes is refused, and the answer names a byte. */
+static void refused_file(const char *bytes, size_t length, uint64_t refusal, uint64_t byte)
+{
+    uint8_t *file = lend(length, 0);
+    uint64_t read[7];
+
+    if (length)
+        memcpy(file, bytes, length);
+    memset(read, 0xA5, sizeof read);
+    check(spritbobbin_capture_read(file, length, read) == refusal, "the refusal of a file");
+    check(all_zero(read, 6) && read[SPRITBOBBIN_NAMED_BYTE] == byte, "the byte that it names");
+    free(file);
+}
+
+/* The example of request 1, and the refusals of both calls. */
+static void captures(void)
+{
+    static const uint8_t head[] = {0x01, 0x00, 0x01, 0x02, 0x02, 0x00, 0x6A, 0xF4};
+    uint8_t line[106] = {0xF4}, file[113];
+    uint64_t wrote[2];
+
+    check(spritbobbin_capture_write(2, line, 106, NULL, 0, 0, file, 113, wrote) == 0 && wrote[0] == 113, "113 bytes whole");
+    check(!memcmp(file, head, sizeof head) && all(file + 8, 105, 0), "the bytes of the example");
+
+    capture(2, 106, SIZE_MAX, 113, 0);
+    capture(2, 0, SIZE_MAX, 7, 0);
+    capture(2, 0, 0, 10, 0); /* a label of no bytes is not none */
+    capture(3, 64 * 192, 32, 12400, 0);
+    capture(4, 64 * 366, 1, 23435, 0);
+    capture(2, 106, SIZE_MAX, 112, SPRITBOBBIN_REFUSED_BUFFER);
+    capture(2, 106, 33, 0, SPRITBOBBIN_REFUSED_FIELD);
+    capture(2, 105, 33, 0, SPRITBOBBIN_REFUSED_LINE);
+    capture(5, 105, 33, 0, SPRITBOBBIN_REFUSED_LEVEL);
+
+    refused_file("", 0, SPRITBOBBIN_REFUSED_FIELD, 0);
+    refused_file("\1\0\1\2", 4, SPRITBOBBIN_REFUSED_FIELD, 4);
+    refused_file("\1\0\1\2\2\0\1", 7, SPRITBOBBIN_REFUSED_FIELD, 4);
+    refused_file("\1\0\1\11\2\0\0\0", 8, SPRITBOBBIN_REFUSED_FIELD, 7);
+    refused_file("\1\0\1\2\2\0\0\3\0\0\0", 11, SPRITBOBBIN_REFUSED_FIELD, 10);
+    refused_file("\1\0\1\11\2\0\1\0", 8, SPRITBOBBIN_REFUSED_LEVEL, 0);
+    refused_file("\1\0\1\2\2\0\1\0", 8, SPRITBOBBIN_REFUSED_LINE, 0);
+}
+
 int main(void)
 {
     both_ways(2, 106, 1, 1, 0, 104, 0, 0);      /* case 1; case 9: a quarter of 26 bytes */
@@ -184,6 +259,7 @@ int main(void)
     names_the_frame();
     receiver();
     line_digits();
+    captures();
     if (failures)
         return 1;
     puts("face: ok");

@@ -1,5 +1,6 @@
-// Runs worked cases 9, 10 and 11 of document 01 and more of the kind: each refusal at its border, and each pair of faults that tells the
-// order. What it must write was worked out by the separate program of reference/, which shares nothing with the crates.
+// Runs worked cases 9, 10 and 11 of document 01, the example of request 1 and more of the kind: each refusal at its border, and each pair
+// of faults that tells the order. What it must write was worked out by the separate program of reference/, which shares nothing with the crates.
+mod capture;
 mod inputs;
 mod say;
 mod stream;
@@ -337,6 +338,9 @@ fn main() {
     stream::case_11(1);
     stream::case_11(7);
     stream::case_11(1000);
+    capture::example();
+    capture::write_all();
+    capture::read_all();
 }
 
 fn receive_all() {

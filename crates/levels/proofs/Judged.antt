@@ -25,7 +25,7 @@ line-frames row line e =
     (eqb-true (line % row .bytes) 0 (both .0), ltb-false 64 (framesOf row line) (both .1))
 
 -- a refusal number that is 0 was given by no test
-unrefused : (t : Bool) (a b : ℕ) → (a ≡ 0 → ⊥) → cond t a b ≡ 0 → (t ≡ false) × (b ≡ 0)
+pub unrefused : (t : Bool) (a b : ℕ) → (a ≡ 0 → ⊥) → cond t a b ≡ 0 → (t ≡ false) × (b ≡ 0)
 unrefused true a b n e = absurd (n e)
 unrefused false a b n e = (refl, e)
 

@@ -1,8 +1,10 @@
 -- Every row of the table has the facts that all rows share: shown of each by computation, and handed out by the level's number.
-use mathlib.Core.Path.{_≡_, subst}
-use Prim.Native.Nat.{ℕ}
+use mathlib.Core.Path.{_≡_, refl, subst}
+use mathlib.Core.Bool.{Bool, cond, true, false}
+use Prim.Native.Nat.{ℕ, _<_}
 use native.Mathlib.Omega.{arith}
-use lib.Dec.{eqb}
+use lib.Dec.{eqb, lit<}
+use borrow.Author.Tests.{eqb-true}
 use Rattle.levels.specs.declared.table.Row.{Row}
 use Rattle.levels.specs.declared.table.Level.{Level}
 use Rattle.levels.specs.declared.table.Level.the-variants.{Of, NoSuchLevel}
@@ -29,3 +31,19 @@ known level = cond-by Known (eqb level 2) shared2 (cond-by Known (eqb level 3) s
 
 pub shared-row : (level : ℕ) (row : Row) → levelOf level ≡ Of row → Shared row
 shared-row level row e = subst Known e (known level)
+
+-- the number of a level, where it is one, is below 256: a byte holds it
+abbrev Byte : ℕ → Level → Type 0
+Byte level (Of row) = level < 256
+Byte level NoSuchLevel = Unit {0}
+
+byte-by : (level n : ℕ) → n < 256 → (row : Row) (other : Level) → Byte level other → Byte level (cond (eqb level n) (Of row) other)
+byte-by level n h row other b = go (eqb level n) refl
+  where
+    go : (t : Bool) → eqb level n ≡ t → Byte level (cond t (Of row) other)
+    go true e = omega (arith, eqb-true level n e)
+    go false e = b
+
+pub level-byte : (level : ℕ) (row : Row) → levelOf level ≡ Of row → level < 256
+unfolding levelOf
+level-byte level row e = subst (Byte level) e (byte-by level 2 (lit< tt) row2 _ (byte-by level 3 (lit< tt) row3 _ (byte-by level 4 (lit< tt) row4 NoSuchLevel tt)))

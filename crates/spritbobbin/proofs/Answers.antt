@@ -8,7 +8,7 @@ use contract.Lifetimes.{Lfts}
 use denote.Ref.{now}
 use denote.Triple.Clauses.{AtExit}
 use borrow.Fn.World.{ArgsD, ResD}
-use Rattle.spritbobbin.specs.Face.{MultiplexMet, DemultiplexMet, FreshMet, FeedMet, LineDigitMet}
+use Rattle.spritbobbin.specs.Face.{MultiplexMet, DemultiplexMet, FreshMet, FeedMet, LineDigitMet, CaptureWriteMet, CaptureReadMet}
 use Rattle.spritbobbin.proofs.spritbobbin_multiplex as multiplex
 use Rattle.spritbobbin.proofs.spritbobbin_multiplex.Reads as multiplex-reads
 use Rattle.spritbobbin.proofs.spritbobbin_demultiplex as demultiplex
@@ -19,6 +19,10 @@ use Rattle.spritbobbin.proofs.spritbobbin_receiver_feed as feed
 use Rattle.spritbobbin.proofs.spritbobbin_receiver_feed.Reads as feed-reads
 use Rattle.spritbobbin.proofs.spritbobbin_line_digit as line-digit
 use Rattle.spritbobbin.proofs.spritbobbin_line_digit.Reads as line-digit-reads
+use Rattle.spritbobbin.proofs.spritbobbin_capture_write as capture-write
+use Rattle.spritbobbin.proofs.spritbobbin_capture_write.Reads as capture-write-reads
+use Rattle.spritbobbin.proofs.spritbobbin_capture_read as capture-read
+use Rattle.spritbobbin.proofs.spritbobbin_capture_read.Reads as capture-read-reads
 
 -- ---- no second answer
 
@@ -39,6 +43,13 @@ feed-one-answer state frame piece first count r s t u f g a b x y = (cc, cc, cc,
 
 pub line-digit-one-answer : (line : List ℕ) (place r s : ℕ) → LineDigitMet line place r → LineDigitMet line place s → r ≡ s
 line-digit-one-answer line place r s x y = cc
+
+pub capture-write-one-answer : (level : ℕ) (line label : List ℕ) (labelled : ℕ) (file : List ℕ) (r s : ℕ) (f g a b : List ℕ)
+    → CaptureWriteMet level line label labelled file r f a → CaptureWriteMet level line label labelled file s g b → (r ≡ s) × (f ≡ g) × (a ≡ b)
+capture-write-one-answer level line label labelled file r s f g a b x y = (cc, cc, cc)
+
+pub capture-read-one-answer : (file : List ℕ) (r s : ℕ) (a b : List ℕ) → CaptureReadMet file r a → CaptureReadMet file s b → (r ≡ s) × (a ≡ b)
+capture-read-one-answer file r s a b x y = (cc, cc)
 
 -- ---- what each call ensures is its statement; a : what it is given, r : what it returns, e : what it leaves
 
@@ -64,6 +75,15 @@ pub line-digit-met : (κs : Lfts 1) (a : ArgsD line-digit.signature κs) (r : Re
     → line-digit-reads.Learnt κs a r e → LineDigitMet (now (a .0)) (a .1 .0) r
 line-digit-met κs a r e met = met
 
+pub capture-write-met : (κs : Lfts 4) (a : ArgsD capture-write.signature κs) (r : ResD capture-write.signature κs) (e : AtExit capture-write.ended κs)
+    → capture-write-reads.Learnt κs a r e
+    → CaptureWriteMet (a .0) (now (a .1 .0)) (now (a .1 .1 .0)) (a .1 .1 .1 .0) (now (a .1 .1 .1 .1 .0)) r (now (e .1 .1 .1 .1 .0)) (now (e .1 .1 .1 .1 .1 .0))
+capture-write-met κs a r e met = met
+
+pub capture-read-met : (κs : Lfts 2) (a : ArgsD capture-read.signature κs) (r : ResD capture-read.signature κs) (e : AtExit capture-read.ended κs)
+    → capture-read-reads.Learnt κs a r e → CaptureReadMet (now (a .0)) r (now (e .1 .0))
+capture-read-met κs a r e met = met
+
 -- ---- no call asks anything of its caller
 
 pub multiplex-asks-nothing : (κs : Lfts 4) (a : ArgsD multiplex.signature κs) → multiplex-reads.Asked κs a
@@ -80,3 +100,9 @@ feed-asks-nothing κs a = tt
 
 pub line-digit-asks-nothing : (κs : Lfts 1) (a : ArgsD line-digit.signature κs) → line-digit-reads.Asked κs a
 line-digit-asks-nothing κs a = tt
+
+pub capture-write-asks-nothing : (κs : Lfts 4) (a : ArgsD capture-write.signature κs) → capture-write-reads.Asked κs a
+capture-write-asks-nothing κs a = tt
+
+pub capture-read-asks-nothing : (κs : Lfts 2) (a : ArgsD capture-read.signature κs) → capture-read-reads.Asked κs a
+capture-read-asks-nothing κs a = tt

@@ -1,7 +1,7 @@
 -- The C face: how answers and states pass as numbers in fixed arrays, and the whole statement of each call. The definitions of the calls
 -- behind the face say what the numbers are.
 use mathlib.Core.Path.{_≡_}
-use mathlib.Core.Bool.{Bool, cond, true, false}
+use mathlib.Core.Bool.{Bool, cond, true, false, not}
 use mathlib.Core.List.{List, [], _∷_}
 use Prim.Native.Nat.{ℕ, zero, suc, _+_, _-_}
 use lib.Dec.{eqb, leb}
@@ -12,10 +12,13 @@ use Rattle.receiver.specs.declared.Mode.{Mode}
 use Rattle.receiver.specs.declared.Mode.the-variants.{Hunting, OneFound, TwoFound, Aligned}
 use Rattle.receiver.specs.declared.State.{State}
 use Rattle.receiver.specs.declared.Fed.{Fed}
+use Rattle.captures.specs.declared.Written.{Written}
+use Rattle.captures.specs.declared.Reading.{Reading}
 use Rattle.multiplex.specs.Multiplex.{multiplexed, lineAfter}
 use Rattle.demultiplex.specs.Demultiplex.{demultiplexed, notesAfter, bufferAfter}
 use Rattle.receiver.specs.Feed.{freshOf, feedOf}
 use Rattle.line_reader.specs.Step.{stepAt, digitOrEnd}
+use Rattle.captures.specs.Captures.{writtenOf, leftOf, readOf}
 
 -- answer: four digit counts, named frame
 abbrev pub sentAnswer : Multiplexed → List ℕ
@@ -56,6 +59,19 @@ fedState f state = cond (eqb (f .refusal) 0) (stateNumbers (f .state)) state
 abbrev pub fedFrame : Fed → List ℕ → List ℕ
 fedFrame f frame = cond (eqb (f .refusal) 0) (f .state .frame) frame
 
+-- answer: bytes of the file, named byte
+abbrev pub writtenAnswer : Written → List ℕ
+writtenAnswer w = w .bytes ∷ w .byte ∷ []
+
+-- answer: level, first byte of the line, its bytes, 1 if there is a label, first byte of the label, its bytes, named byte
+abbrev pub readAnswer : Reading → List ℕ
+readAnswer r =
+    r .level ∷ r .line .start ∷ r .line .bytes ∷ cond (r .labelled) 1 0 ∷ r .label .start ∷ r .label .bytes ∷ r .byte ∷ []
+
+-- a number that says whether there is a label: 0 is no
+abbrev pub isYes : ℕ → Bool
+isYes n = not (eqb n 0)
+
 -- ---- the whole statement of each call: what it is given, the number that it returns, and what it leaves in everything lent for writing
 
 -- spritbobbin_multiplex returns the refusal number, and leaves the line and the answer
@@ -85,3 +101,13 @@ FeedMet state frame piece first count returned stateLeft frameLeft answerLeft =
 -- spritbobbin_line_digit returns the digit, or 2 where the line has ended; nothing is lent for writing
 abbrev pub LineDigitMet : List ℕ → ℕ → ℕ → Type 0
 LineDigitMet line place returned = returned ≡ digitOrEnd (stepAt line place)
+
+-- spritbobbin_capture_write returns the refusal number, and leaves the file and the answer
+abbrev pub CaptureWriteMet : ℕ → List ℕ → List ℕ → ℕ → List ℕ → ℕ → List ℕ → List ℕ → Type 0
+CaptureWriteMet level line label labelled file returned fileLeft answerLeft =
+    let w = writtenOf level line label (isYes labelled) (length file) in
+    (returned ≡ w .refusal) × (fileLeft ≡ leftOf level line label (isYes labelled) file) × (answerLeft ≡ writtenAnswer w)
+
+-- spritbobbin_capture_read returns the refusal number, and leaves the answer
+abbrev pub CaptureReadMet : List ℕ → ℕ → List ℕ → Type 0
+CaptureReadMet file returned answerLeft = (returned ≡ readOf file .refusal) × (answerLeft ≡ readAnswer (readOf file))

@@ -1,5 +1,7 @@
 // The C face: the calls over numbers, slices and fixed arrays, nothing else. A slice passes as a pointer and then a length, a fixed array as
 // a pointer. include/spritbobbin.h declares these functions for C; nothing checks that header against this file but the tests.
+use captures::Reading;
+use captures::Written;
 use demultiplex::Demultiplexed;
 use multiplex::Multiplexed;
 use receiver::Fed;
@@ -8,6 +10,7 @@ use receiver::State;
 ghost use mathlib.Core.Path.{_≡_};
 ghost use mathlib.Core.Bool.{cond};
 ghost use Rattle.spritbobbin.specs.Face.{sentAnswer, receivedAnswer, modeNumber, modeOf, stateNumbers, fedAnswer};
+ghost use Rattle.spritbobbin.specs.Face.{writtenAnswer, readAnswer, CaptureWriteMet, CaptureReadMet};
 ghost use Rattle.spritbobbin.specs.Face.{MultiplexMet, DemultiplexMet, FreshMet, FeedMet, LineDigitMet};
 
 // An answer as the numbers of the array that C lends for it.
@@ -189,4 +192,55 @@ pub extern "C" fn spritbobbin_line_digit(line: &[u8], place: u64) -> u64
     ensures { λ r. ⌜ LineDigitMet (now (line .entry)) place r ⌝ }
 {
     line_reader::line_digit(line, place as usize)
+}
+
+fn written_numbers(w: Written) -> [u64; 2]
+    ensures { λ r. ⌜ r ≡ writtenAnswer w ⌝ }
+{
+    [w.bytes as u64, w.byte as u64]
+}
+
+// Writes a capture into a file; answer: bytes of the file, named byte (0). Where labelled is 0 there is no label.
+#[no_mangle]
+pub extern "C" fn spritbobbin_capture_write(
+    level: u64,
+    line: &[u8],
+    label: &[u8],
+    labelled: u64,
+    file: &mut [u8],
+    answer: &mut [u64; 2],
+) -> u64
+    ensures { λ r. ⌜
+        CaptureWriteMet level (now (line .entry)) (now (label .entry)) labelled (now (file .entry)) r (now (file .exit)) (now (answer .exit))
+        ⌝ }
+{
+    let written = captures::write(level, line, label, labelled != 0, file);
+    *answer = written_numbers(written);
+    written.refusal
+}
+
+fn read_numbers(r: Reading) -> [u64; 7]
+    ensures { λ a. ⌜ a ≡ readAnswer r ⌝ }
+{
+    let line = r.line;
+    let label = r.label;
+    [
+        r.level,
+        line.start as u64,
+        line.bytes as u64,
+        as_number(r.labelled),
+        label.start as u64,
+        label.bytes as u64,
+        r.byte as u64,
+    ]
+}
+
+// Reads a capture; answer: level, first byte of the line, its bytes, 1 if there is a label, first byte of the label, its bytes, named byte.
+#[no_mangle]
+pub extern "C" fn spritbobbin_capture_read(file: &[u8], answer: &mut [u64; 7]) -> u64
+    ensures { λ r. ⌜ CaptureReadMet (now (file .entry)) r (now (answer .exit)) ⌝ }
+{
+    let reading = captures::read(file);
+    *answer = read_numbers(reading);
+    reading.refusal
 }

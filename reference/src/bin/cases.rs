@@ -1,5 +1,6 @@
 //! Prints what a program on the cases below must write, a line to a case: worked cases 9,
-//! 10 and 11, each refusal at its border, and each pair of faults that tells the order.
+//! 10 and 11, a capture of case 1, each refusal at its border, and each pair of faults that
+//! tells the order.
 //!
 //! The text is made so that a program in any language can write it: fixed words, single
 //! spaces, and numbers in the decimal system. How the inputs are made:
@@ -9,11 +10,15 @@
 //! - byte i of a multiplex call's buffer is i modulo 256;
 //! - a multiplex call's notes are 0 before frame `from`, and `note` from that frame on;
 //! - every byte of a demultiplex call's line is `fill`;
-//! - the bytes of a piece, and of the frame store of a given state, are 0.
+//! - the bytes of a piece, and of the frame store of a given state, are 0;
+//! - byte i of the line and of the label of a capture that is written is i modulo 256, and
+//!   its file holds 165 in every byte beforehand;
+//! - a file that is read has the bytes given and zeros after them.
 //!
 //! A `sum` is taken after the call over all bytes: byte i counts i + 1 times.
 
 use reference::{demultiplex, feed, fresh, multiplex, Fed, State};
+use reference::{read_capture, write_capture};
 
 /// What a byte that will be written holds before.
 const BEFORE: u8 = 165;
@@ -25,6 +30,8 @@ type Sending = (u64, usize, usize, u8, usize, usize);
 type Receiving = (u64, usize, u8, usize, usize);
 /// level, window, seen, mode, place, slice bytes, first, count
 type Feeding = (u64, u64, u64, u64, u64, usize, u64, u64);
+/// level, line bytes, label bytes, labelled, file bytes
+type Writing = (u64, usize, usize, u64, usize);
 
 const SENDINGS: [Sending; 27] = [
     // Case 9, and the other levels at the same borders.
@@ -92,6 +99,71 @@ const FEEDINGS: [Feeding; 14] = [
     // The order 6, 2, 7.
     (2, 0, 0, 7, 0, 65_537, MAX, 1),
     (2, 0, 0, 0, 0, 65_537, MAX, 1),
+];
+
+const WRITINGS: [Writing; 24] = [
+    // Case 1's size without a label: just long enough, a byte short, longer.
+    (2, 106, 0, 0, 113),
+    (2, 106, 0, 0, 112),
+    (2, 106, 0, 0, 300),
+    // No frames: no label, a label of no bytes, and one that is not looked at.
+    (2, 0, 0, 0, 7),
+    (2, 0, 0, 1, 10),
+    (2, 0, 33, 0, 7),
+    (2, 0, 0, 1, 9),
+    // Labels at their border, and any number that says yes.
+    (2, 106, 32, 1, 148),
+    (2, 106, 32, 1, 147),
+    (2, 106, 33, 1, 148),
+    (3, 192, 1, 256, 210),
+    (3, 192, 5, MAX, 210),
+    // The most frames of each level, and one more.
+    (2, 6784, 0, 0, 6791),
+    (2, 6890, 0, 0, 7000),
+    (3, 12288, 2, 1, 12300),
+    (3, 12480, 0, 0, 12500),
+    (4, 23424, 0, 0, 23431),
+    (4, 23790, 0, 0, 24000),
+    // Levels that there are not.
+    (258, 0, 0, 0, 7),
+    (MAX, 0, 0, 0, 7),
+    // The order 1, 2, 9, 4: the first wrong thing, and all later ones wrong as well.
+    (5, 105, 33, 1, 0),
+    (2, 105, 33, 1, 0),
+    (2, 106, 33, 1, 0),
+    (2, 106, 32, 1, 0),
+];
+
+const FILES: [(usize, &[u8]); 24] = [
+    // Cut off, or not there at all.
+    (0, &[]),
+    (3, &[1, 0, 1]),
+    (4, &[1, 0, 1, 2]),
+    (6, &[1, 0, 1, 2, 2, 0]),
+    (7, &[1, 0, 1, 2, 2, 0, 1]),
+    (9, &[1, 0, 1, 2, 2, 0, 0, 3, 0]),
+    // A wrong tag, a wrong length.
+    (7, &[2, 0, 1, 2, 2, 0, 0]),
+    (7, &[1, 1, 0, 2, 2, 0, 0]),
+    (8, &[1, 0, 2, 2, 2, 2, 0, 0]),
+    (7, &[1, 0, 1, 2, 3, 0, 0]),
+    (7, &[1, 0, 1, 2, 1, 0, 0]),
+    // A label of 32 bytes, of 33, of 0; length bytes the other way round.
+    (42, &[1, 0, 1, 2, 2, 0, 0, 3, 0, 32]),
+    (43, &[1, 0, 1, 2, 2, 0, 0, 3, 0, 33]),
+    (10, &[1, 0, 1, 2, 2, 0, 0, 3, 0, 0]),
+    (7, &[1, 0, 1, 2, 2, 0, 0]),
+    (10, &[1, 0, 1, 2, 2, 0, 0, 3, 1, 0]),
+    // Something after the last field.
+    (8, &[1, 0, 1, 2, 2, 0, 0, 0]),
+    (10, &[1, 0, 1, 2, 2, 0, 0, 4, 0, 0]),
+    (11, &[1, 0, 1, 2, 2, 0, 0, 3, 0, 0, 0]),
+    (13, &[1, 0, 1, 2, 2, 0, 0, 3, 0, 0, 3]),
+    // The order 9, 1, 2.
+    (8, &[1, 0, 1, 9, 2, 0, 0, 0]),
+    (8, &[1, 0, 1, 9, 2, 0, 1]),
+    (8, &[1, 0, 1, 2, 2, 0, 1]),
+    (7, &[1, 0, 1, 0, 2, 0, 0]),
 ];
 
 fn sum(bytes: &[u8]) -> u64 {
@@ -177,9 +249,60 @@ fn case_11(size: u64) {
     }
 }
 
+/// The capture of case 1 without a label: all its bytes.
+fn example() {
+    let (mut line, mut file) = ([0; 106], [0; 113]);
+    multiplex(2, &mut line, &[0], &[0; 104]);
+    let answer = write_capture(2, &line, None, &mut file);
+    let bytes: String = file.iter().map(|byte| format!(" {byte}")).collect();
+    println!("case 1 kept: refusal {} bytes {}{bytes}", answer.refusal, answer.bytes);
+}
+
+fn writing((level, line, label, labelled, file): Writing) {
+    let count_up = |length: usize| (0..length).map(|i| (i % 256) as u8).collect::<Vec<_>>();
+    let (words, mut bytes) = (count_up(label), vec![BEFORE; file]);
+    let given = (labelled != 0).then_some(&words[..]);
+    let answer = write_capture(level, &count_up(line), given, &mut bytes);
+    println!(
+        "write level {level} line {line} label {label} labelled {labelled} file {file}: \
+         refusal {} bytes {} byte {} sum {}",
+        answer.refusal,
+        answer.bytes,
+        answer.byte,
+        sum(&bytes),
+    );
+    reading(&format!("back {}", answer.bytes), &bytes[..answer.bytes as usize]);
+}
+
+fn small((length, head): (usize, &[u8])) {
+    let file: Vec<u8> = head.iter().copied().chain([0; 64]).take(64).collect();
+    let bytes: Vec<String> = file[..11].iter().map(u8::to_string).collect();
+    reading(&bytes.join(" "), &file[..length]);
+}
+
+fn reading(name: &str, file: &[u8]) {
+    let read = read_capture(file);
+    let labelled = u64::from(read.label.is_some());
+    let label = read.label.unwrap_or_default();
+    println!(
+        "read {name} bytes {}: refusal {} level {} line {} {} labelled {labelled} label {} {} byte {}",
+        file.len(),
+        read.refusal,
+        read.level,
+        read.line.start,
+        read.line.len(),
+        label.start,
+        label.len(),
+        read.byte,
+    );
+}
+
 fn main() {
     SENDINGS.into_iter().for_each(sending);
     RECEIVINGS.into_iter().for_each(receiving);
     FEEDINGS.into_iter().for_each(feeding);
     [3392, 1, 7, 1000].into_iter().for_each(case_11);
+    example();
+    WRITINGS.into_iter().for_each(writing);
+    FILES.into_iter().for_each(small);
 }

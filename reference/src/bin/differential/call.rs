@@ -1,6 +1,7 @@
 //! A call with its inputs, what came of it, and what the reference says of it.
 
 use reference::{demultiplex, feed, fresh, line_digit, multiplex, State};
+use reference::{read_capture, write_capture};
 
 /// What a multiplex or demultiplex call is lent.
 #[derive(Clone)]
@@ -19,17 +20,36 @@ pub struct Piece {
     pub count: u64,
 }
 
+/// What a writer of captures is lent. The number says whether there is a label.
+#[derive(Clone)]
+pub struct Writing {
+    pub level: u64,
+    pub line: Vec<u8>,
+    pub label: Vec<u8>,
+    pub labelled: u64,
+    pub file: Vec<u8>,
+}
+
 pub enum Call {
     Multiplex(Lending),
     Demultiplex(Lending),
     Fresh(u64),
     Feed(Box<Piece>),
     LineDigit(Vec<u8>, u64),
+    CaptureWrite(Writing),
+    CaptureRead(Vec<u8>),
 }
 
 /// The names of the calls, in the order of their numbers.
-pub const NAMES: [&str; 5] =
-    ["multiplex", "demultiplex", "receiver_fresh", "receiver_feed", "line_digit"];
+pub const NAMES: [&str; 7] = [
+    "multiplex",
+    "demultiplex",
+    "receiver_fresh",
+    "receiver_feed",
+    "line_digit",
+    "capture_write",
+    "capture_read",
+];
 
 /// All that a call answers and leaves: two outcomes are equal or there is a disagreement.
 #[derive(Clone, PartialEq)]
@@ -53,6 +73,8 @@ impl Call {
             Call::Fresh(_) => 2,
             Call::Feed(_) => 3,
             Call::LineDigit(..) => 4,
+            Call::CaptureWrite(_) => 5,
+            Call::CaptureRead(_) => 6,
         }
     }
 
@@ -64,6 +86,10 @@ impl Call {
             Call::Fresh(_) => "level, window, seen, mode, place",
             Call::Feed(_) => "taken, ready, all-ones; level, window, seen, mode, place",
             Call::LineDigit(..) => "none",
+            Call::CaptureWrite(_) => "bytes, named byte",
+            Call::CaptureRead(_) => {
+                "level, line, its bytes, labelled, label, its bytes, named byte"
+            }
         }
     }
 
@@ -86,6 +112,15 @@ impl Call {
                 piece.count
             ),
             Call::LineDigit(line, place) => format!("line {}; place {place}", in_short(line)),
+            Call::CaptureWrite(with) => format!(
+                "level {}; line {}; label {}; labelled {}; file {}",
+                with.level,
+                in_short(&with.line),
+                in_short(&with.label),
+                with.labelled,
+                in_short(&with.file)
+            ),
+            Call::CaptureRead(file) => format!("file {}", in_short(file)),
         }
     }
 
@@ -101,6 +136,11 @@ impl Call {
             Call::Feed(piece) => fed(piece),
             Call::LineDigit(line, place) => {
                 outcome(line_digit(line, *place), vec![], vec![("line", line.clone())])
+            }
+            Call::CaptureWrite(with) => written(with.clone()),
+            Call::CaptureRead(file) => {
+                let (refusal, numbers) = read_numbers(file);
+                outcome(refusal, numbers.to_vec(), vec![("file", file.clone())])
             }
         }
     }
@@ -137,6 +177,24 @@ fn fed(piece: &Piece) -> Outcome {
     let numbers = [&numbers[..], &state_numbers(&answer.state)].concat();
     let lent = vec![("frame store", answer.state.frame.to_vec()), ("slice", piece.slice.clone())];
     outcome(answer.refusal, numbers, lent)
+}
+
+fn written(mut with: Writing) -> Outcome {
+    let label = (with.labelled != 0).then_some(&with.label[..]);
+    let answer = write_capture(with.level, &with.line, label, &mut with.file);
+    let lent = vec![("line", with.line), ("label", with.label), ("file", with.file)];
+    outcome(answer.refusal, vec![answer.bytes, answer.byte], lent)
+}
+
+/// What the reference reads, in the face's order.
+pub fn read_numbers(file: &[u8]) -> (u64, [u64; 7]) {
+    let read = read_capture(file);
+    let labelled = u64::from(read.label.is_some());
+    let label = read.label.unwrap_or_default();
+    let wide = |number: usize| number as u64;
+    let line = [wide(read.line.start), wide(read.line.len())];
+    let label = [wide(label.start), wide(label.len())];
+    (read.refusal, [read.level, line[0], line[1], labelled, label[0], label[1], read.byte])
 }
 
 /// A slice in a few words: its length and its first bytes.

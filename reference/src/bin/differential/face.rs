@@ -1,6 +1,6 @@
 //! The product's C face, and the calls made through it with guards around all that is lent.
 
-use crate::call::{state_numbers, Call, Lending, Outcome, Piece};
+use crate::call::{state_numbers, Call, Lending, Outcome, Piece, Writing};
 
 #[rustfmt::skip]
 extern "C" {
@@ -18,6 +18,11 @@ extern "C" {
         first: u64, count: u64, answer: *mut u64,
     ) -> u64;
     pub fn spritbobbin_line_digit(line: *const u8, line_bytes: usize, place: u64) -> u64;
+    pub fn spritbobbin_capture_write(
+        level: u64, line: *const u8, line_bytes: usize, label: *const u8, label_bytes: usize,
+        labelled: u64, file: *mut u8, file_bytes: usize, answer: *mut u64,
+    ) -> u64;
+    pub fn spritbobbin_capture_read(file: *const u8, file_bytes: usize, answer: *mut u64) -> u64;
 }
 
 /// What stands in an array of numbers before the call, so that one left unwritten is seen.
@@ -76,6 +81,8 @@ pub fn by_face(call: &Call) -> Outcome {
         Call::Fresh(level) => fresh(*level),
         Call::Feed(piece) => feed(piece),
         Call::LineDigit(line, place) => line_digit(line, *place),
+        Call::CaptureWrite(with) => capture_write(with),
+        Call::CaptureRead(file) => capture_read(file),
     }
 }
 
@@ -141,4 +148,28 @@ fn line_digit(line: &[u8], place: u64) -> Outcome {
     // Sound as above.
     let digit = unsafe { spritbobbin_line_digit(line.pointer(), line.count(), place) };
     outcome(digit, &[], &[line])
+}
+
+fn capture_write(with: &Writing) -> Outcome {
+    let mut line = bytes("line", &with.line);
+    let mut label = bytes("label", &with.label);
+    let mut file = bytes("file", &with.file);
+    let mut answer = numbers("answer", &[UNWRITTEN; 2]);
+    // Sound as above.
+    let refusal = unsafe {
+        let (l, n, f) = (line.pointer(), label.pointer(), file.pointer());
+        let (lc, nc, fc) = (line.count(), label.count(), file.count());
+        let (level, labelled) = (with.level, with.labelled);
+        spritbobbin_capture_write(level, l, lc, n, nc, labelled, f, fc, answer.pointer())
+    };
+    outcome(refusal, &[answer], &[line, label, file])
+}
+
+fn capture_read(file: &[u8]) -> Outcome {
+    let mut file = bytes("file", file);
+    let mut answer = numbers("answer", &[UNWRITTEN; 7]);
+    // Sound as above.
+    let refusal =
+        unsafe { spritbobbin_capture_read(file.pointer(), file.count(), answer.pointer()) };
+    outcome(refusal, &[answer], &[file])
 }

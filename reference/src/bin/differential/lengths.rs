@@ -1,7 +1,9 @@
 //! Lengths far beyond what a call accepts, which a cut to 32 bits would make small, and
 //! then pointers and lengths that lend no memory at all.
 
-use crate::face::{self, spritbobbin_demultiplex, spritbobbin_line_digit};
+use crate::call::read_numbers;
+use crate::face::{self, spritbobbin_capture_read, spritbobbin_capture_write};
+use crate::face::{spritbobbin_demultiplex, spritbobbin_line_digit};
 use crate::face::{spritbobbin_multiplex, spritbobbin_receiver_feed, UNWRITTEN};
 use crate::Run;
 use reference::{demultiplex, feed, feed_refusal, fresh, length_refusal, line_digit, multiplex};
@@ -65,6 +67,67 @@ fn long_lengths(run: &mut Run, memory: &mut Memory) {
     for slice in [WIDE, WIDE + 1, WIDE + 2, WIDE + 65_536] {
         long_piece(run, memory.slice(slice));
     }
+    for level in 1..=5 {
+        for long in [WIDE, WIDE + 1, WIDE + 106, WIDE + 192, WIDE + 366] {
+            long_capture(run, level, memory.slice(long));
+        }
+    }
+}
+
+/// A writer's call with pointers and lengths only; line and label, if asked for, are zeros.
+fn raw_write(
+    level: u64,
+    [line, label]: [(*const u8, usize); 2],
+    labelled: u64,
+    file: (*mut u8, usize),
+) -> Vec<u64> {
+    let mut answer = [UNWRITTEN; 2];
+    // Sound as above.
+    let refusal = unsafe {
+        let at = answer.as_mut_ptr();
+        spritbobbin_capture_write(
+            level, line.0, line.1, label.0, label.1, labelled, file.0, file.1, at,
+        )
+    };
+    [&[refusal], &answer[..]].concat()
+}
+
+fn raw_read(file: *const u8, bytes: usize) -> Vec<u64> {
+    let mut answer = [UNWRITTEN; 7];
+    // Sound as above.
+    let refusal = unsafe { spritbobbin_capture_read(file, bytes, answer.as_mut_ptr()) };
+    [&[refusal], &answer[..]].concat()
+}
+
+/// What the writer answers for lengths, with room enough for any file that it accepts.
+fn written(level: u64, line: u64, label: u64, labelled: u64) -> [u64; 3] {
+    match length_refusal(level, line, line / frame_bytes(level), u64::MAX / 8 * 4) {
+        0 if labelled != 0 && label > 32 => [9, 0, 0],
+        0 => [0, 7 + line + if labelled == 0 { 0 } else { 3 + label }, 0],
+        refusal => [refusal, 0, 0],
+    }
+}
+
+fn frame_bytes(level: u64) -> u64 {
+    reference::level::row(level).map_or(1, |row| row.frame_bytes() as u64)
+}
+
+/// A long line, a long label with and without a yes, a long file.
+fn long_capture(run: &mut Run, level: u64, long: &mut [u8]) {
+    let (bytes, at) = (long.len() as u64, (long.as_ptr(), long.len()));
+    let small = [0_u8; 8];
+    let (empty, mut file) = ((small.as_ptr(), 0), [0_u8; 400]);
+    let inputs = format!("level {level}, long slice {bytes} bytes");
+    let room = (file.as_mut_ptr(), file.len());
+    run.expect(5, &inputs, &written(level, bytes, 0, 0), &raw_write(level, [at, empty], 0, room));
+    run.expect(5, &inputs, &written(level, 0, bytes, 0), &raw_write(level, [empty, at], 0, room));
+    run.expect(5, &inputs, &written(level, 0, bytes, 1), &raw_write(level, [empty, at], 1, room));
+    let (refusal, numbers) = read_numbers(long);
+    run.expect(6, &inputs, &[&[refusal], &numbers[..]].concat(), &raw_read(at.0, at.1));
+    let room = (long.as_mut_ptr(), long.len());
+    run.expect(5, &inputs, &written(level, 0, 0, 0), &raw_write(level, [empty; 2], 0, room));
+    long[..7].fill(0);
+    untouched(run, &inputs, long);
 }
 
 /// A call through the face whose slices are only given by pointer and length.
@@ -203,7 +266,13 @@ fn null_pointers(run: &mut Run) {
         };
         let expected = [refusal, 0, 0, 0, 0, 0, 0, 0];
         run.expect(1, &inputs, &expected, &[&[received], &back[..]].concat());
+        for labelled in [0, 1] {
+            let none = if refusal == 0 { [4, 0, 0] } else { [refusal, 0, 0] };
+            let wrote = raw_write(level, [(null, 0); 2], labelled, (null_mut, 0));
+            run.expect(5, &inputs, &none, &wrote);
+        }
     }
+    run.expect(6, "null file", &[9, 0, 0, 0, 0, 0, 0, 0], &raw_read(null, 0));
     for (first, count) in [(0, 0), (0, 1), (1, 0), (u64::MAX, 1)] {
         let expected = [feed_refusal(&fresh(2).1, 0, first, count), 0, 0, 0];
         run.expect(3, "null piece", &expected, &raw_feed(null, 0, first, count));
@@ -223,6 +292,7 @@ fn false_lengths(run: &mut Run) {
             one_false_length(run, level, [106, long, 104]);
             one_false_length(run, level, [106, 1, long]);
             one_false_length(run, level, [long, long, long]);
+            false_capture(run, level, long);
         }
     }
     let memory = [0; 4096];
@@ -234,6 +304,24 @@ fn false_lengths(run: &mut Run) {
         let digit = unsafe { spritbobbin_line_digit(memory.as_ptr(), long as usize, 0) };
         run.expect(4, &format!("line of {long} bytes"), &[2], &[digit]);
     }
+}
+
+/// Refused for the length of line or label; a label that is not asked for is not looked at.
+fn false_capture(run: &mut Run, level: u64, long: u64) {
+    let (memory, mut file) = ([0_u8; 8], [0_u8; 64]);
+    let (empty, at) = ((memory.as_ptr(), 0), (memory.as_ptr(), long as usize));
+    let inputs = format!("level {level}, line or label {long} bytes");
+    let room = (file.as_mut_ptr(), file.len());
+    if length_refusal(level, long, long / frame_bytes(level), u64::MAX / 8 * 4) != 0 {
+        run.expect(
+            5,
+            &inputs,
+            &written(level, long, 0, 0),
+            &raw_write(level, [at, empty], 0, room),
+        );
+    }
+    run.expect(5, &inputs, &written(level, 0, long, 1), &raw_write(level, [empty, at], 1, room));
+    run.expect(5, &inputs, &written(level, 0, long, 0), &raw_write(level, [empty, at], 0, room));
 }
 
 fn one_false_length(run: &mut Run, level: u64, [line, notes, buffer]: [u64; 3]) {

@@ -10,6 +10,7 @@
 //! printed and ends the run with 1.
 
 mod call;
+mod captures;
 mod face;
 mod lengths;
 mod multiplexing;
@@ -26,7 +27,7 @@ pub struct Run {
     lent_only: bool,
     trace: bool,
     random: Random,
-    calls: [u64; 5],
+    calls: [u64; 7],
 }
 
 impl Run {
@@ -95,7 +96,7 @@ fn print_difference(name: &str, ours: &[u8], theirs: &[u8]) {
 }
 
 fn arguments() -> Run {
-    let (seed, calls) = (1, [0; 5]);
+    let (seed, calls) = (1, [0; 7]);
     let random = Random::new(seed);
     let mut run = Run { seed, times: 1, lent_only: false, trace: false, random, calls };
     for argument in std::env::args().skip(1) {
@@ -123,6 +124,7 @@ fn main() {
     for _ in 0..run.times {
         multiplexing::part(&mut run);
         receiver::part(&mut run);
+        captures::part(&mut run);
     }
     lengths::part(&mut run);
     println!("{}; no disagreement", run.summary());

@@ -1,0 +1,5 @@
+pub mod Putting
+pub mod Judging
+pub mod Walking
+pub mod Files
+pub mod Answers
