@@ -1,12 +1,11 @@
 // Runs worked cases 9, 10 and 11 of document 01, the example of request 1 and more of the kind: each refusal at its border, and each pair
 // of faults that tells the order. What it must write was worked out by the separate program of reference/, which shares nothing with the crates.
-mod capture;
-mod inputs;
-mod say;
-mod stream;
-
+use capture_cases::capture;
 use demultiplex::Demultiplexed;
 use multiplex::Multiplexed;
+use stream_cases::stream;
+use telling::inputs;
+use telling::say;
 
 // A multiplex call: the notes are 0 before frame `from` and `note` from there on.
 struct Sending {
