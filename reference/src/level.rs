@@ -11,6 +11,8 @@ pub const STORE_BYTES: usize = 366;
 #[derive(Debug)]
 pub struct Row {
     pub level: u64,
+    /// Digits of the line in a second, in thousands.
+    pub rate: u64,
     pub frame_digits: usize,
     pub sets: usize,
     pub set_digits: usize,
@@ -24,6 +26,7 @@ pub struct Row {
 const ROWS: [Row; 3] = [
     Row {
         level: 2,
+        rate: 8448,
         frame_digits: 848,
         sets: 4,
         set_digits: 212,
@@ -34,6 +37,7 @@ const ROWS: [Row; 3] = [
     },
     Row {
         level: 3,
+        rate: 34_368,
         frame_digits: 1536,
         sets: 4,
         set_digits: 384,
@@ -44,6 +48,7 @@ const ROWS: [Row; 3] = [
     },
     Row {
         level: 4,
+        rate: 139_264,
         frame_digits: 2928,
         sets: 6,
         set_digits: 488,

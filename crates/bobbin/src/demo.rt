@@ -23,9 +23,8 @@ pub fn run() {
     let right = multiplex::multiplex(2, &mut right_line, &NOTES, &sent);
     let mut said = [0u8; 848];
     let slow = workbench::late_line(2, &mut late_line, &mut said, &NOTES, &late, &sent);
-    say::text(
-        b"Level 2, 8448 kbit/s: eight frames, the same four tributaries sent by two multiplexers.\n",
-    );
+    say::rated(2);
+    say::text(b": eight frames, the same four tributaries sent by two multiplexers.\n");
     decisions();
     say::text(
         b"\nRight multiplexer: the justification digits follow their own frame's decision.\n",

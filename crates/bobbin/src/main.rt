@@ -6,6 +6,8 @@ use console::help;
 use console::words;
 use console::words::NO_NOTE;
 use finding::find;
+use keeping::keep;
+use keeping::opened;
 use levels::table;
 use levels::table::Level;
 use levels::table::Row;
@@ -26,7 +28,7 @@ const NOTE: usize = 3;
 
 const PICTURE: usize = 4;
 
-// The commands that take a level.
+// The commands that take further words.
 const FRAME: u8 = 0;
 
 const SEND: u8 = 1;
@@ -34,6 +36,10 @@ const SEND: u8 = 1;
 const TAKE: u8 = 2;
 
 const FIND: u8 = 3;
+
+const KEEP: u8 = 4;
+
+const SHOW: u8 = 5;
 
 // Beside NO_NOTE, where there is none: a word that should be a note and is none.
 const WRONG_NOTE: u16 = 257;
@@ -59,7 +65,7 @@ fn command(word: &[u8], last: usize) {
         return;
     }
     let which = which_command(word);
-    if FIND < which {
+    if SHOW < which {
         help::wrong_call(b"there is no such command, or it is missing.");
         return;
     }
@@ -79,40 +85,67 @@ fn which_command(word: &[u8]) -> u8 {
     if check::same(word, b"find") {
         return FIND;
     }
-    FIND + 1
+    if check::same(word, b"keep") {
+        return KEEP;
+    }
+    if check::same(word, b"show") {
+        return SHOW;
+    }
+    SHOW + 1
+}
+
+// Whether a command may have a last word of this number.
+fn fits(which: u8, last: usize) -> bool {
+    match which {
+        FRAME => LEVEL <= last && last <= PICTURE,
+        SEND => last == send::LINE,
+        TAKE => last == take::TRIBUTARIES || last == opened::TRIBUTARIES,
+        FIND => last == find::STREAM || last == find::PREFIX,
+        KEEP => last == keep::CAPTURE || last == keep::LABEL,
+        _ => last == opened::CAPTURE || last == opened::LINE,
+    }
+}
+
+fn wrong_words(which: u8) {
+    match which {
+        FRAME => help::wrong_call(
+            b"frame takes a level, then a note and a file for the picture where wanted.",
+        ),
+        SEND => help::wrong_call(b"send takes a level and three files."),
+        TAKE => help::wrong_call(b"take takes a level and three files, or a capture and two."),
+        FIND => {
+            help::wrong_call(b"find takes a level and a file, and a prefix where files are wanted.")
+        }
+        KEEP => help::wrong_call(b"keep takes a level and two files, and a label where wanted."),
+        _ => help::wrong_call(b"show takes a capture, and a file where its line is wanted."),
+    }
 }
 
 // Whether the command has as many words as it takes.
 fn counted(which: u8, last: usize) {
-    if which == FRAME {
-        if last < LEVEL || PICTURE < last {
-            help::wrong_call(
-                b"frame takes a level, then a note and a file for the picture where wanted.",
-            );
-            return;
-        }
-    }
-    if which == SEND || which == TAKE {
-        if last != send::LINE {
-            help::wrong_call(b"send and take take a level and three files.");
-            return;
-        }
+    if !fits(which, last) {
+        wrong_words(which);
+        return;
     }
     if which == TAKE {
-        if words::one_name(take::NOTES, take::TRIBUTARIES) {
+        if words::one_name(sizes::minus(last, 1), last) {
             help::wrong_call(b"NOTES and TRIBUTARIES are two files: give two names.");
             return;
         }
     }
-    if which == FIND {
-        if last < find::STREAM || find::PREFIX < last {
-            help::wrong_call(
-                b"find takes a level and a file, and a prefix where files are wanted.",
-            );
-            return;
-        }
+    if which == SHOW {
+        shown(last);
+        return;
     }
     levelled(which, last);
+}
+
+fn shown(last: usize) {
+    if last == opened::LINE {
+        opened::run(opened::WRITTEN);
+        return;
+    }
+    opened::run(opened::SHOWN);
 }
 
 fn levelled(which: u8, last: usize) {
@@ -122,8 +155,17 @@ fn levelled(which: u8, last: usize) {
     let found = table::level_of(level);
     match found {
         Level::Of(row) => started(which, last, row, level),
-        Level::NoSuchLevel => help::no_level(&word[..n]),
+        Level::NoSuchLevel => no_level(which, last, &word[..n]),
     }
+}
+
+// Where take has a capture its first word is no level, and that is as it should be.
+fn no_level(which: u8, last: usize, word: &[u8]) {
+    if which == TAKE && last == opened::TRIBUTARIES {
+        opened::run(opened::TAKEN);
+        return;
+    }
+    help::no_level(word);
 }
 
 fn started(which: u8, last: usize, row: Row, level: u64)
@@ -132,9 +174,21 @@ fn started(which: u8, last: usize, row: Row, level: u64)
     match which {
         FRAME => picture(row, level, last),
         SEND => send::run(row, level),
-        TAKE => take::run(row, level),
-        _ => find::run(row, level, last == find::PREFIX),
+        TAKE => take_line(row, level, last),
+        FIND => find::run(row, level, last == find::PREFIX),
+        _ => keep::run(row, level, last == keep::LABEL),
     }
+}
+
+// A level and two files are no capture and two files, but a file is missing.
+fn take_line(row: Row, level: u64, last: usize)
+    requires { ⌜ Shared row ⌝ }
+{
+    if last == opened::TRIBUTARIES {
+        wrong_words(TAKE);
+        return;
+    }
+    take::run(row, level);
 }
 
 // frame LEVEL [NOTE] [FILE.svg]: the last word is a file where it ends in .svg, and a word before it is a note.

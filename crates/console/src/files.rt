@@ -45,14 +45,14 @@ pub fn failed(k: usize, ending: &[u8], what: &[u8]) {
     say::text(what);
 }
 
-// The same where an output is not whole: what else it may be, and what to do.
-pub fn not_whole(k: usize, or: &[u8]) {
-    failed(k, b" cannot be written whole", or);
-    say::text(b", and nothing is kept; make room on its disk");
-    if or.len() != 0 {
-        say::text(b" or see to the input");
-    }
-    say::text(b", and call again.\n");
+// The same where an input cannot be read to its end, or an output is not whole.
+pub fn unread(k: usize) {
+    failed(k, b"", b" cannot be read.\n");
+}
+
+pub fn not_whole(k: usize, ending: &[u8]) {
+    failed(k, ending, b" cannot be written whole");
+    say::text(b", and nothing is kept; make room on its disk, and call again.\n");
 }
 
 fn bytes_of(end: i64) -> usize
@@ -81,7 +81,7 @@ pub fn open(k: usize) -> Input
     let mut probe = [0u8; 1];
     let got = libc::pread(fd, &mut probe, 0);
     if got < 0 {
-        failed(k, b"", b" cannot be read.\n");
+        unread(k);
         return no_input();
     }
     let end = libc::lseek(fd, 0, libc::SEEK_END);
@@ -192,6 +192,17 @@ pub fn keep(k: usize, ending: &[u8]) -> bool {
     say::text(&to[..n]);
     say::text(b"\n");
     true
+}
+
+// Closes an output that was written, whole or not. It takes its name where it is whole, and else nothing is kept.
+pub fn finish(k: usize, fd: i32, whole: bool) {
+    let closed = close(fd);
+    if whole && closed {
+        keep(k, b"");
+        return;
+    }
+    discard(k, b"");
+    not_whole(k, b"");
 }
 
 // Removes what was written beside the name.

@@ -20,8 +20,20 @@ pub fn forms() {
         b"takes the file LINE apart, from its first digit on",
     );
     form(
+        b"take CAPTURE NOTES TRIBUTARIES    ",
+        b"takes the line of a capture apart",
+    );
+    form(
         b"find LEVEL STREAM [PREFIX]        ",
         b"finds the frames in a recording; PREFIX: takes them apart",
+    );
+    form(
+        b"keep LEVEL LINE CAPTURE [LABEL]   ",
+        b"makes a capture of up to 64 frames, with a site label",
+    );
+    form(
+        b"show CAPTURE [LINE]               ",
+        b"what a capture holds; LINE: writes its line out",
     );
     form(b"help                              ", b"these forms");
 }

@@ -1,4 +1,5 @@
 // Writes words, numbers and columns to standard output, or to a file that is open.
+use crate::words;
 ghost use Prim.Native.Nat.{_≤_};
 use libc::STDOUT_FILENO;
 
@@ -15,6 +16,15 @@ pub fn level(n: u64) {
     text(b"Level ");
     io::print_decimal(STDOUT_FILENO, n);
     text(b": ");
+}
+
+// A level and its rate.
+pub fn rated(n: u64) {
+    text(b"Level ");
+    io::print_decimal(STDOUT_FILENO, n);
+    text(b", ");
+    io::print_decimal(STDOUT_FILENO, words::rate(n));
+    text(b" kbit/s");
 }
 
 // One of the two digits.

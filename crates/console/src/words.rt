@@ -1,4 +1,4 @@
-// The words of a call: the numbers that they are, whether one names a picture, and whether two are the same.
+// The words of a call: the numbers that they are, the rate of a level, whether one names a picture, and whether two are the same.
 
 // The level that a word of one character is, or 0.
 pub fn level(word: &[u8]) -> u64 {
@@ -9,6 +9,16 @@ pub fn level(word: &[u8]) -> u64 {
         b'2' => 2,
         b'3' => 3,
         b'4' => 4,
+        _ => 0,
+    }
+}
+
+// The rate of a level in kbit/s, or 0. No call reads it, so that it is no number of the level's row.
+pub fn rate(level: u64) -> u64 {
+    match level {
+        2 => 8448,
+        3 => 34368,
+        4 => 139264,
         _ => 0,
     }
 }

@@ -59,6 +59,7 @@ pub fn run(row: Row, level: u64, writes: bool)
     say_length(level, stream.bytes);
     let open = OpenFiles {
         line: stream.fd,
+        first: 0,
         notes,
         tributaries,
         quarter: sizes::quarter_bytes(row, stream.bytes / row.bytes),
@@ -155,7 +156,7 @@ fn chunk_on(
     let whole = files::read_at(from.line, piece, at);
     let mut u = listen(row, level, piece, line, t);
     let after = u.passage;
-    u.passage = passage::only_if(whole, after);
+    u.passage = passage::only_if(whole, passage::LINE, after);
     u
 }
 
@@ -292,18 +293,22 @@ fn end(row: Row, t: Finding, writes: bool) {
 
 // Whether all was read and written; else nothing is kept.
 fn is_whole(t: Passage, writes: bool) -> bool {
-    if !writes {
-        if !t.whole {
-            files::failed(STREAM, b"", b" cannot be read.\n");
-        }
-        return t.whole;
+    let mut failed = t.failed;
+    if writes {
+        failed = apart::finish(t);
     }
-    if apart::finish(t) {
+    if failed == passage::NONE {
         return true;
     }
-    files::discard(PREFIX, b".notes");
-    files::discard(PREFIX, b".tributaries");
-    files::not_whole(PREFIX, b", or the recording cannot be read");
+    if writes {
+        files::discard(PREFIX, b".notes");
+        files::discard(PREFIX, b".tributaries");
+    }
+    match failed {
+        passage::LINE => files::unread(STREAM),
+        passage::NOTES => files::not_whole(PREFIX, b".notes"),
+        _ => files::not_whole(PREFIX, b".tributaries"),
+    }
     false
 }
 

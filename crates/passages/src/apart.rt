@@ -28,7 +28,7 @@ fn add(r: Demultiplexed, notes: &[u8], buffer: &[u8], t: Passage) -> Passage
     let mut u = write(notes, buffer, counts, t);
     let before = u.totals;
     u.totals = passage::add(before, notes, counts, r.alignment, r.groups);
-    passage::only_if(r.refusal == 0, u)
+    passage::only_if(r.refusal == 0, passage::LINE, u)
 }
 
 // Writes the notes of these frames behind those of the frames before, and each tributary's digits behind its own.
@@ -41,7 +41,7 @@ fn write(notes: &[u8], buffer: &[u8], counts: [usize; 4], t: Passage) -> Passage
     }
     let totals = t.totals;
     let written = files::write_at(to.notes, notes, totals.frames);
-    let mut u = passage::only_if(written, t);
+    let mut u = passage::only_if(written, passage::NOTES, t);
     let mut j: usize = 0;
     while j < 4 {
         u = write_quarter(buffer, j, counts[j], u);
@@ -80,28 +80,32 @@ fn write_quarter(buffer: &[u8], j: usize, count: usize, t: Passage) -> Passage
     };
     let mut u = t;
     u.quarters = after;
-    passage::only_if(ok, u)
+    passage::only_if(ok, passage::TRIBUTARIES, u)
 }
 
-// Writes the digits that are still kept, makes the quarters whole with zeros, closes both files, and answers whether all is written.
-pub fn finish(t: Passage) -> bool {
+// Writes the digits that are still kept, makes the quarters whole with zeros, closes both files, and answers which file failed, or none.
+pub fn finish(t: Passage) -> u8 {
     let to = t.open;
     let quarters = t.quarters;
     let written = quarters.written;
     let byte = quarters.byte;
     let kept = quarters.kept;
-    let mut ok = t.whole;
+    let mut failed = t.failed;
     let mut j: usize = 0;
     while j < 4 {
-        if !write_rest(to, j, written[j], byte[j], kept[j]) {
-            ok = false;
-        }
+        let ok = write_rest(to, j, written[j], byte[j], kept[j]);
+        failed = passage::first_failed(failed, ok, passage::TRIBUTARIES);
         j += 1;
     }
+    close(to, failed)
+}
+
+fn close(to: OpenFiles, before: u8) -> u8 {
     let filled = files::set_length(to.tributaries, passage::in_quarter(to.quarter, 4, 0));
-    let notes_closed = files::close(to.notes);
-    let tributaries_closed = files::close(to.tributaries);
-    ok && filled && notes_closed && tributaries_closed
+    let notes = files::close(to.notes);
+    let tributaries = files::close(to.tributaries);
+    let failed = passage::first_failed(before, notes, passage::NOTES);
+    passage::first_failed(failed, filled && tributaries, passage::TRIBUTARIES)
 }
 
 fn write_rest(to: OpenFiles, j: usize, written: usize, byte: u8, kept: usize) -> bool

@@ -4,9 +4,10 @@ use recordings::carry;
 use recordings::sizes;
 ghost use Prim.Native.Nat.{_≤_};
 
-// The files, or a number below 0 for none, and the bytes of a quarter of the tributaries' file.
+// The files, or a number below 0 for none, the byte of its file at which the line begins, and the bytes of a quarter of the tributaries' file.
 pub struct OpenFiles {
     pub line: i32,
+    pub first: usize,
     pub notes: i32,
     pub tributaries: i32,
     pub quarter: usize,
@@ -28,12 +29,21 @@ pub struct Quarters {
     pub kept: [usize; 4],
 }
 
-// How far it is, and whether all was read and written; or else the refusal number and the frame that it names.
+// The files by number; and none of them.
+pub const NONE: u8 = 0;
+
+pub const LINE: u8 = 1;
+
+pub const NOTES: u8 = 2;
+
+pub const TRIBUTARIES: u8 = 3;
+
+// How far it is, and which file could not be read or written first, or none; and the refusal number and the frame that it names.
 pub struct Passage {
     pub open: OpenFiles,
     pub totals: Totals,
     pub quarters: Quarters,
-    pub whole: bool,
+    pub failed: u8,
     pub refusal: u64,
     pub frame: usize,
 }
@@ -53,7 +63,7 @@ pub fn start(open: OpenFiles) -> Passage {
             byte: [0u8; 4],
             kept: [0usize; 4],
         },
-        whole: true,
+        failed: NONE,
         refusal: 0,
         frame: 0,
     }
@@ -100,12 +110,21 @@ fn four_stuffed(notes: &[u8]) -> [usize; 4] {
     ]
 }
 
-// What went well, if what it rests on did too.
-pub fn only_if(whole: bool, t: Passage) -> Passage {
-    let mut u = t;
-    if !whole {
-        u.whole = false;
+// The file that failed first, where this one did if not ok.
+pub fn first_failed(before: u8, ok: bool, file: u8) -> u8 {
+    if ok {
+        return before;
     }
+    if before == NONE {
+        return file;
+    }
+    before
+}
+
+// The passage after this file was read or written, if it was.
+pub fn only_if(ok: bool, file: u8, t: Passage) -> Passage {
+    let mut u = t;
+    u.failed = first_failed(u.failed, ok, file);
     u
 }
 

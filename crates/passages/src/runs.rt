@@ -1,4 +1,5 @@
 // A passage of any number of frames, sent or taken apart 64 at a time.
+use crate::passage;
 use crate::passage::Passage;
 use crate::send;
 use crate::take;
@@ -16,7 +17,7 @@ pub fn all(row: Row, level: u64, sends: bool, frames: usize, t: Passage) -> Pass
     let mut u = t;
     let mut k: usize = 0;
     while k < (frames + 63) / 64 {
-        if u.whole {
+        if u.failed == passage::NONE {
             u = one(row, level, sends, k, sizes::frames_in(k, frames), u);
         }
         k += 1;

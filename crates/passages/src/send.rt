@@ -42,6 +42,7 @@ pub fn run(row: Row, level: u64)
     }
     let start = passage::start(OpenFiles {
         line,
+        first: 0,
         notes: notes.fd,
         tributaries: tributaries.fd,
         quarter: tributaries.bytes / 4,
@@ -70,7 +71,7 @@ pub fn one_run(
 {
     let read = read_notes(notes, t);
     let filled = fill(row, notes.len(), t, buffer);
-    send_on(level, at, line, notes, buffer, read && filled, t)
+    send_on(level, at, line, notes, buffer, read, filled, t)
 }
 
 fn read_notes(notes: &mut [u8], t: Passage) -> bool {
@@ -79,14 +80,15 @@ fn read_notes(notes: &mut [u8], t: Passage) -> bool {
     files::read_at(from.notes, notes, totals.frames)
 }
 
-// Sends what was read, if it was.
+// Sends what was read: the notes, and the tributaries' digits.
 fn send_on(
     level: u64,
     at: usize,
     line: &mut [u8],
     notes: &[u8],
     buffer: &[u8],
-    ready: bool,
+    read: bool,
+    filled: bool,
     t: Passage,
 ) -> Passage {
     let r = multiplex::multiplex(level, line, notes, buffer);
@@ -95,11 +97,13 @@ fn send_on(
     let totals = t.totals;
     let counts = r.counts;
     let quarters = t.quarters;
+    let no_notes = passage::first_failed(t.failed, read, passage::NOTES);
+    let unread = passage::first_failed(no_notes, filled, passage::TRIBUTARIES);
     Passage {
         open: to,
         totals: passage::add(totals, notes, counts, 0, 0),
         quarters,
-        whole: ready && written && r.refusal == 0,
+        failed: passage::first_failed(unread, written && r.refusal == 0, passage::LINE),
         refusal: r.refusal,
         frame: sizes::plus(totals.frames, r.frame),
     }
@@ -153,7 +157,8 @@ fn put_quarter(buffer: &mut [u8], j: usize, raw: &[u8; 8192], first: usize, coun
 fn end(level: u64, t: Passage) {
     let to = t.open;
     let closed = files::close(to.line);
-    if t.whole && closed {
+    let failed = passage::first_failed(t.failed, closed, passage::LINE);
+    if failed == passage::NONE {
         let totals = t.totals;
         passage::say_frames(level, totals.frames, b" frames sent.\n");
         passage::say_table(totals);
@@ -165,5 +170,9 @@ fn end(level: u64, t: Passage) {
         help::note_bits(NOTES, t.frame);
         return;
     }
-    files::not_whole(LINE, b", or an input cannot be read");
+    match failed {
+        passage::NOTES => files::unread(NOTES),
+        passage::TRIBUTARIES => files::unread(TRIBUTARIES),
+        _ => files::not_whole(LINE, b""),
+    }
 }

@@ -43,13 +43,7 @@ pub fn title(page: Page, row: Row, level: u64) -> Page {
 // The picture's end. Word k of the call names its file, which is kept where all of it is written.
 pub fn end(page: Page, k: usize) {
     let last = page.put(b"</svg>\n");
-    let closed = files::close(last.fd);
-    if last.whole && closed {
-        files::keep(k, b"");
-        return;
-    }
-    files::discard(k, b"");
-    files::not_whole(k, b"");
+    files::finish(k, last.fd, last.whole);
 }
 
 // The run from place p up to `end`. A set begins with the word or with control digits.

@@ -1,3 +1,4 @@
 pub mod Carry
+pub mod Labels
 pub mod Sizes
 pub mod Watch

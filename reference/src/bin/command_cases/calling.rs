@@ -2,10 +2,10 @@
 
 use crate::case::{words, Case};
 
-const COMMANDS: [&str; 6] = ["demo", "frame", "send", "take", "find", "help"];
+const COMMANDS: [&str; 8] = ["demo", "frame", "send", "take", "find", "keep", "show", "help"];
 
 /// Wrong calls. The files that they name are there.
-const WRONG: [&str; 22] = [
+const WRONG: [&str; 31] = [
     "",
     "bogus",
     "sen 2 notes tributaries out",
@@ -28,6 +28,15 @@ const WRONG: [&str; 22] = [
     "find",
     "find 2",
     "find 2 line out more",
+    "take line out",
+    "take line out out",
+    "take 2 line",
+    "take",
+    "keep",
+    "keep 2 line",
+    "keep 2 line out label more",
+    "show",
+    "show line out more",
 ];
 
 pub fn cases() -> Vec<Case> {

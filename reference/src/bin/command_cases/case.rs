@@ -99,7 +99,7 @@ impl Case {
     /// Writes the folder of the case. There must be none of that name yet.
     pub fn write(&self, folder: &Path) -> io::Result<()> {
         fs::create_dir(folder)?;
-        let commands: Vec<String> = self.commands.iter().map(|words| words.join("\n")).collect();
+        let commands: Vec<String> = self.commands.iter().map(|words| one_each(words)).collect();
         fs::write(folder.join("command"), lines(&[commands.join("\n\n")]))?;
         fs::write(folder.join("expected.status"), lines(&self.status))?;
         match &self.last {
@@ -132,6 +132,12 @@ impl Case {
 pub fn in_turn(cases: Vec<Case>, outputs: &[&str]) -> Vec<Case> {
     let older = |(k, case): (usize, Case)| if k % 2 == 1 { case.older(outputs) } else { case };
     cases.into_iter().enumerate().map(older).collect()
+}
+
+/// The words of a command, a line each. An empty word is written as two quotation marks.
+fn one_each(words: &[String]) -> String {
+    let line = |word: &String| if word.is_empty() { "\"\"".into() } else { word.clone() };
+    words.iter().map(line).collect::<Vec<String>>().join("\n")
 }
 
 /// The items, a line each; nothing where the only line is empty.

@@ -3,8 +3,8 @@
 //!
 //! A case is a folder, and the file `list` in DIR names every one of them, a line each:
 //!
-//! - `command`: the words of the command, a line each; an empty line stands between two
-//!   commands that are run one after the other;
+//! - `command`: the words of the command, a line each, an empty word as two quotation marks;
+//!   an empty line stands between two commands that are run one after the other;
 //! - `given`: the folder in which the commands are run, as it is before;
 //! - `after`: the same folder as it must be afterwards, with nothing more in it;
 //! - `expected.status`: the exit status of each command, a line each;
@@ -20,8 +20,10 @@ mod calling;
 mod case;
 mod finding;
 mod inputs;
+mod keeping;
 mod pictures;
 mod sending;
+mod showing;
 mod stream;
 mod taking;
 mod texts;
@@ -45,6 +47,8 @@ fn main() -> io::Result<()> {
     cases.extend(sending::cases());
     cases.extend(taking::cases());
     cases.extend(finding::cases());
+    cases.extend(keeping::cases());
+    cases.extend(showing::cases());
     cases.extend(trips::cases());
     cases.extend(calling::cases());
     let mut list = String::new();

@@ -2,7 +2,8 @@
 
 use crate::inputs::room;
 use crate::worked::{Counts, Event, Found, Taken};
-use reference::level::Row;
+use reference::level::{row, Row, MOST_FRAMES};
+use reference::read_capture;
 
 /// A line for each tributary: its digits, and the frames in which it is stuffed.
 fn table(counts: &Counts) -> String {
@@ -111,4 +112,80 @@ pub fn no_such_digits(path: &str, frame: usize) -> String {
 /// What cannot be done with a path: that it be opened, read or written.
 pub fn cannot(path: &str, be: &str) -> String {
     format!("failed: {path} cannot be {be}.")
+}
+
+/// What a capture holds, as keep and show say it.
+pub fn capture(row: &Row, line: &[u8], label: Option<&[u8]>) -> String {
+    let frames = line.len() / row.frame_bytes();
+    let label = label.map_or("none".into(), quoted);
+    format!("Level {}, {} kbit/s\nframes: {frames}\nlabel: {label}\n", row.level, row.rate)
+}
+
+/// A label in characters that can be printed, between quotation marks.
+fn quoted(label: &[u8]) -> String {
+    let shown = |&byte: &u8| match byte {
+        b'"' | b'\\' => format!("\\{}", char::from(byte)),
+        b' '..=b'~' => char::from(byte).to_string(),
+        _ => format!("\\x{byte:02x}"),
+    };
+    format!("\"{}\"", label.iter().map(shown).collect::<String>())
+}
+
+/// A line that no capture can have.
+pub fn no_line(row: &Row, path: &str, bytes: usize) -> String {
+    let frames = frames(row);
+    format!("refused 2: {path}: expected {frames}; found {bytes} bytes.")
+}
+
+fn frames(row: &Row) -> String {
+    format!("0 to {MOST_FRAMES} frames of level {}, {} bytes each", row.level, row.frame_bytes())
+}
+
+/// A label over 32 bytes. One that is longer than the longest path is not counted.
+pub fn long_label(path: &str, bytes: usize) -> String {
+    let found = if bytes > 4096 { "more than 4096".into() } else { bytes.to_string() };
+    format!("refused 9: {path}, byte 0: expected a label of at most 32 bytes; found {found} bytes.")
+}
+
+/// Why a file is refused that is no capture.
+pub fn no_capture(path: &str, file: &[u8]) -> String {
+    let read = read_capture(file);
+    let (byte, expected, found) = match read.refusal {
+        1 => (3, "level 2, 3 or 4".into(), file[3].to_string()),
+        2 => {
+            let row = row(u64::from(file[3])).expect("a level");
+            (4, frames(row), format!("a line of {} bytes", line_bytes(file)))
+        }
+        9 => (read.byte as usize, field(file, read.byte), stands(&file[read.byte as usize..])),
+        other => panic!("the reader gives {other}"),
+    };
+    format!("refused {}: {path}, byte {byte}: expected {expected}; found {found}.", read.refusal)
+}
+
+/// The length that the second field gives.
+fn line_bytes(file: &[u8]) -> u64 {
+    u64::from(u16::from_be_bytes([file[5], file[6]]))
+}
+
+/// What may stand at the byte that refusal 9 names.
+fn field(file: &[u8], byte: u64) -> String {
+    let field = match byte {
+        0 => "the level, 01 00 01 and a byte",
+        4 => "the line, 02, its length in two bytes and so many bytes",
+        _ if byte == 7 + line_bytes(file) => {
+            "the end, or a label, 03, its length up to 00 20 and so many bytes"
+        }
+        _ => "the end",
+    };
+    field.into()
+}
+
+/// The first three bytes of what stands there, and how many come after them.
+fn stands(rest: &[u8]) -> String {
+    let shown: Vec<String> = rest.iter().take(3).map(|byte| format!("{byte:02x}")).collect();
+    match rest.len() {
+        0 => "the end".into(),
+        1..=3 => format!("{} and the end", shown.join(" ")),
+        all => format!("{}, {} bytes more and the end", shown.join(" "), all - 3),
+    }
 }

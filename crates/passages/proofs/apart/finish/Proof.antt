@@ -5,14 +5,14 @@ use Rattle.passages.proofs.apart.finish.Statement.{statement}
 use Rattle.passages.proofs.apart.finish.Tie as tie
 
 abbrev Inv-loop : tie.InvT-loop
-Inv-loop to written byte kept ok₀ j₀ ok j = j ≤ 4
+Inv-loop to written byte kept failed₀ j₀ failed j = j ≤ 4
 
 abbrev μ-loop : tie.MeasureT-loop
-μ-loop to written byte kept ok₀ j₀ ok j = 4 - j
+μ-loop to written byte kept failed₀ j₀ failed j = 4 - j
 
 pub finish-spec : {M : Type 1} → statement M
 finish-spec =
     tie.close
     (tie.spec Inv-loop μ-loop (λ c. search needs) (λ c. search needs) (λ c. search needs) (λ c. search needs) (λ c. search needs)
-    (λ c. search needs) (λ c κs. search needs) (λ c. search needs) (λ c. search needs) (λ c. search needs) (λ c κs. search needs)
-    (λ c κs. search needs) (λ c κs. search needs) (λ c κs. search needs) (λ c. search needs) (λ c. search needs))
+    (λ c. search needs) (λ c κs. search needs) (λ c κs. search needs) (λ c. search needs) (λ c. search needs) (λ c. search needs)
+    (λ c κs. search needs) (λ c. search needs))

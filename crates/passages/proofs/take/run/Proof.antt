@@ -1,25 +1,13 @@
--- The line is no longer than the longest file, and has fewer frames than bytes.
-use native.Mathlib.Nat.{le-trans, div-le-self}
+-- The line is no longer than the longest file.
 use borrow.Author.Needs.{needs}
 use Rattle.passages.proofs.take.run.Statement.{statement}
 use Rattle.passages.proofs.take.run.Tie as tie
 
--- src/take.rt:47:18
-quarter-bytes-requires : tie.Need-quarter-bytes-requires
-quarter-bytes-requires c κs =
-    let o = c .before .before .before .before .before .before .before .before .before .before .before .before .before in
-    (o .before .pre, le-trans (div-le-self _ _) (o .«open» .ensures))
-
--- src/take.rt:49:16
-all-requires : tie.Need-all-requires
-all-requires c κs =
-    let o = c .before .before .before .before .before .before .before .before .before .before .before .before .before .before .before .before in
-    (o .before .pre, le-trans (div-le-self _ _) (o .«open» .ensures))
+run-from-requires : tie.Need-run-from-requires
+run-from-requires c κs = let o = c .before .before .before .before .before .before in (o .before .pre, o .«open» .ensures)
 
 pub run-spec : {M : Type 1} → statement M
 run-spec =
     tie.close
-    (tie.spec (λ c κs. search needs) (λ c. search needs) (λ c. search needs) (λ c κs. search needs) (λ c. search needs) (λ c. search needs)
-    (λ c κs. search needs) (λ c. search needs) (λ c. search needs) (λ c κs. search needs) (λ c. search needs) (λ c κs. search needs)
-    (λ c. search needs) (λ c. search needs) quarter-bytes-requires (λ c κs. search needs) all-requires (λ c κs. search needs)
+    (tie.spec (λ c κs. search needs) (λ c. search needs) (λ c. search needs) (λ c κs. search needs) (λ c. search needs) run-from-requires
     (λ c. search needs))

@@ -1,0 +1,6 @@
+// Captures kept in files: the command keep, and the commands that read a capture, show and take.
+pub mod capture;
+pub mod keep;
+pub mod opened;
+mod refusals;
+mod show;
