@@ -1,14 +1,9 @@
--- Laws of sums: one value more, equal values, values that are bounded, values that are all 0.
+-- Laws of sums: of equal values, of values that are bounded, of one value over and over.
 use mathlib.Core.Path.{_≡_, refl}
-use Prim.Native.Nat.{ℕ, zero, suc, _+_, _*_, _≤_, _<_}
+use Prim.Native.Nat.{ℕ, zero, suc, _*_, _≤_, _<_}
 use native.Mathlib.Omega.{arith}
-use native.Mathlib.Numerals.{add-one}
-use native.Mathlib.Nat.{suc-mul, mul-zero}
+use native.Mathlib.Nat.{suc-mul}
 use Rattle.digits.specs.Sums.{sumTo}
-
-pub sum-more : (n : ℕ) (g : ℕ → ℕ) → sumTo (n + 1) g ≡ sumTo n g + g n
-unfolding sumTo
-sum-more n g = rw (add-one n) refl
 
 pub sum-same : (n : ℕ) (g h : ℕ → ℕ) → ((i : ℕ) → i < n → g i ≡ h i) → sumTo n g ≡ sumTo n h
 unfolding sumTo
@@ -20,5 +15,7 @@ unfolding sumTo
 sum-most zero m g few = omega arith
 sum-most (suc n) m g few = omega (arith, suc-mul n m, sum-most n m g (λ i hi. few i (omega arith)), few n (omega arith))
 
-pub sum-none : (n : ℕ) (g : ℕ → ℕ) → ((i : ℕ) → i < n → g i ≡ 0) → sumTo n g ≡ 0
-sum-none n g none = omega (arith, mul-zero n, sum-most n 0 g (λ i hi. omega (arith, none i hi)))
+pub sum-all : (n m : ℕ) (g : ℕ → ℕ) → ((i : ℕ) → i < n → g i ≡ m) → sumTo n g ≡ n * m
+unfolding sumTo
+sum-all zero m g same = omega arith
+sum-all (suc n) m g same = omega (arith, suc-mul n m, sum-all n m g (λ i hi. same i (omega arith)), same n (omega arith))
