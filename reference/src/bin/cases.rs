@@ -194,11 +194,11 @@ fn receiving((level, line, fill, notes, buffer): Receiving) {
     let answer = demultiplex(level, &vec![fill; line], &mut list, &mut quarters);
     println!(
         "demultiplex level {level} line {line} fill {fill} notes {notes} \
-         buffer {buffer}: refusal {} counts {} alignment {} groups {} notes sum {} sum {}",
+         buffer {buffer}: refusal {} counts {} alignment {} dissent {} notes sum {} sum {}",
         answer.refusal,
         counts(answer.counts),
         answer.alignment,
-        answer.groups,
+        counts(answer.dissent),
         sum(&list),
         sum(&quarters),
     );
