@@ -97,7 +97,7 @@ fn send_on(
     let quarters = t.quarters;
     Passage {
         open: to,
-        totals: passage::add(totals, notes, counts, 0, 0),
+        totals: passage::add(totals, notes, counts, 0, [0usize; 4]),
         quarters,
         whole: ready && written && r.refusal == 0,
         refusal: r.refusal,
@@ -156,7 +156,7 @@ fn end(level: u64, t: Passage) {
     if t.whole && closed {
         let totals = t.totals;
         passage::say_frames(level, totals.frames, b" frames sent.\n");
-        passage::say_table(totals);
+        passage::say_table(totals, false);
         files::keep(LINE, b"");
         return;
     }
