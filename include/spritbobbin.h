@@ -108,7 +108,7 @@
  *     {
  *         uint8_t line[FRAME] = {0}, stream[4 * FRAME], buffer[4 * QUARTER] = {0};
  *         uint8_t notes[1] = {SPRITBOBBIN_STUFFED_1 | SPRITBOBBIN_REMOTE_ALARM};
- *         uint64_t sent[5], received[7];
+ *         uint64_t sent[5], received[10];
  *         int i;
  *
  *         buffer[1 * QUARTER] = 0x80; // the first digit of tributary 2
