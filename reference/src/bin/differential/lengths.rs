@@ -264,7 +264,7 @@ fn null_pointers(run: &mut Run) {
         let received = unsafe {
             spritbobbin_demultiplex(level, null, 0, null_mut, 0, null_mut, 0, back.as_mut_ptr())
         };
-        let expected = [refusal, 0, 0, 0, 0, 0, 0, 0];
+        let expected = [&[refusal], &[0; 10][..]].concat();
         run.expect(1, &inputs, &expected, &[&[received], &back[..]].concat());
         for labelled in [0, 1] {
             let none = if refusal == 0 { [4, 0, 0] } else { [refusal, 0, 0] };
@@ -341,5 +341,6 @@ fn one_false_length(run: &mut Run, level: u64, [line, notes, buffer]: [u64; 3]) 
         ]
     };
     run.expect(0, &inputs, &[refusal, 0, 0, 0, 0, 0], &[&numbers[..1], &sent].concat());
-    run.expect(1, &inputs, &[refusal, 0, 0, 0, 0, 0, 0, 0], &[&numbers[1..], &received].concat());
+    let expected = [&[refusal], &[0; 10][..]].concat();
+    run.expect(1, &inputs, &expected, &[&numbers[1..], &received].concat());
 }
