@@ -50,7 +50,7 @@ struct input {
 struct output {
     uint8_t notes[FRAMES], buffer[BUFFER_BYTES], line[LINE_BYTES], frame[2][366];
     uint64_t state[2][5]; /* of an aligned receiver, and of one that hunts */
-    uint64_t answer[7];
+    uint64_t answer[10];
 };
 
 static struct input inputs[LEVELS];

@@ -76,13 +76,13 @@ uint64_t plain_multiplex(uint64_t level, uint8_t *line, size_t line_bytes, const
 }
 
 uint64_t plain_demultiplex(uint64_t level, const uint8_t *line, size_t line_bytes, uint8_t *notes, size_t notes_bytes,
-                           uint8_t *buffer, size_t buffer_bytes, uint64_t answer[7])
+                           uint8_t *buffer, size_t buffer_bytes, uint64_t answer[10])
 {
     const struct row *row = row_of(level);
     size_t quarter = buffer_bytes / 4, place = 0, next[4] = {0}, f;
 
     (void)line_bytes;
-    memset(answer, 0, 7 * sizeof answer[0]);
+    memset(answer, 0, 10 * sizeof answer[0]);
     memset(buffer, 0, buffer_bytes);
     for (f = 0; f < notes_bytes; f++) {
         unsigned ones[4] = {0}, note = 0;
@@ -114,7 +114,7 @@ uint64_t plain_demultiplex(uint64_t level, const uint8_t *line, size_t line_byte
             }
         }
         for (unsigned j = 0; j < 4; j++)
-            answer[6] += ones[j] != 0 && ones[j] != row->sets - 1;
+            answer[6 + j] += note >> j & 1 ? row->sets - 1 - ones[j] : ones[j];
         notes[f] = (uint8_t)note;
     }
     for (unsigned j = 0; j < 4; j++)

@@ -249,14 +249,14 @@ static unsigned ones_of(unsigned number)
     return ones;
 }
 
-/* Counts the groups that are not unanimous; ones has each tributary's 1s, a byte to each. */
-static unsigned split_groups(uint32_t ones, unsigned control_digits)
+/* Adds each tributary's digits that differ from the majority; ones has its 1s, a byte to each. */
+static void add_dissent(uint32_t ones, unsigned control_digits, uint64_t dissent[4])
 {
-    unsigned split = 0;
+    for (unsigned j = 0; j < 4; j++, ones >>= 8) {
+        unsigned some = ones & 255, others = control_digits - some;
 
-    for (unsigned j = 0; j < 4; j++, ones >>= 8)
-        split += (ones & 255) != 0 && (ones & 255) != control_digits;
-    return split;
+        dissent[j] += some < others ? some : others;
+    }
 }
 
 /* Each tributary's majority, tributary 1 in the lowest bit. */
@@ -282,7 +282,7 @@ static unsigned receive_frame(const struct row *row, struct reader *reader, stru
         receive_columns(reader, writers, row->set_digits / 4 - 1);
     }
     ones += SPREAD[next_column(reader)];
-    answer[6] += split_groups(ones, control_digits);
+    add_dissent(ones, control_digits, answer + 6);
     stuffed = majority(ones, control_digits);
     column = next_column(reader);
     for (unsigned j = 0; j < 4; j++) {
@@ -295,13 +295,13 @@ static unsigned receive_frame(const struct row *row, struct reader *reader, stru
 }
 
 uint64_t quick_demultiplex(uint64_t level, const uint8_t *line, size_t line_bytes, uint8_t *notes, size_t notes_bytes,
-                           uint8_t *buffer, size_t buffer_bytes, uint64_t answer[7])
+                           uint8_t *buffer, size_t buffer_bytes, uint64_t answer[10])
 {
     size_t quarter = buffer_bytes / 4;
     struct reader reader = {line, line_bytes, 0};
     struct writer writers[4];
 
-    memset(answer, 0, 7 * sizeof answer[0]);
+    memset(answer, 0, 10 * sizeof answer[0]);
     for (unsigned j = 0; j < 4; j++)
         writers[j] = (struct writer){buffer + j * quarter, 0, 0};
     for (size_t f = 0; f < notes_bytes; f++)

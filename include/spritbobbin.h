@@ -194,7 +194,7 @@ enum {
 enum {
     SPRITBOBBIN_NAMED_FRAME = 4, /* multiplexing; 0 in demultiplexing */
     SPRITBOBBIN_ALIGNMENT = 5,   /* demultiplexing: alignment digits that differ from the word */
-    SPRITBOBBIN_GROUPS = 6,      /* demultiplexing: control groups that were not unanimous */
+    SPRITBOBBIN_DISSENT = 6,     /* demultiplexing: dissenting digits of tributary 1; then of 2, 3, 4 */
     SPRITBOBBIN_TAKEN = 0,       /* receiver: digits taken */
     SPRITBOBBIN_READY = 1,       /* receiver: 1 if a frame is ready */
     SPRITBOBBIN_ALL_ONES = 2,    /* receiver: 1 if that frame is marked all-ones */
@@ -242,10 +242,11 @@ uint64_t spritbobbin_multiplex(uint64_t level, uint8_t *line, size_t line_bytes,
  * in the same frame. Wrong alignment digits are counted and never refused.
  *
  * answer: the four digit counts, 0, the alignment digits that differ from the word over all
- * frames, the control groups that were not unanimous. Returns 0, 1, 2, 3 or 4.
+ * frames, then for each tributary its dissenting digits: how many of its control digits differ
+ * from the majority of their own group, over all frames. Returns 0, 1, 2, 3 or 4.
  */
 uint64_t spritbobbin_demultiplex(uint64_t level, const uint8_t *line, size_t line_bytes, uint8_t *notes, size_t notes_bytes,
-                                 uint8_t *buffer, size_t buffer_bytes, uint64_t answer[7]);
+                                 uint8_t *buffer, size_t buffer_bytes, uint64_t answer[10]);
 
 /*
  * Makes a fresh receiver: hunting, nothing seen, the frame in hand all zero.

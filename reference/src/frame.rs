@@ -75,8 +75,8 @@ pub struct Taken {
     pub tributaries: [Vec<u8>; 4],
     /// Alignment digits that differ from the word.
     pub alignment: u64,
-    /// Control groups that were not unanimous.
-    pub groups: u64,
+    /// Each tributary's control digits that differ from their majority.
+    pub dissent: [u64; 4],
 }
 
 /// Takes one frame apart: first all control groups, since they decide what the
@@ -88,7 +88,7 @@ pub fn take(row: &Row, digits: &[u8]) -> Taken {
         note: 0,
         tributaries: [0, 1, 2, 3].map(|_| Vec::new()),
         alignment: wrong_digits(row, digits),
-        groups: (0..4).filter(|&j| !unanimous(&group(j))).count() as u64,
+        dissent: [0, 1, 2, 3].map(|j| dissent(&group(j))),
     };
     for &(place, digit) in &named {
         match place {
@@ -117,6 +117,8 @@ pub fn stuffed(group: &[u8]) -> bool {
     ones > group.len() - ones
 }
 
-pub fn unanimous(group: &[u8]) -> bool {
-    group.iter().all(|digit| *digit == group[0])
+/// How many digits of a control group differ from its majority.
+pub fn dissent(group: &[u8]) -> u64 {
+    let majority = u8::from(stuffed(group));
+    group.iter().filter(|&&digit| digit != majority).count() as u64
 }

@@ -18,8 +18,8 @@ pub struct Demultiplexed {
     pub counts: [u64; 4],
     /// Alignment digits that differ from the word, over all frames.
     pub alignment: u64,
-    /// Control groups that were not unanimous, over all frames.
-    pub groups: u64,
+    /// Each tributary's control digits that differ from their majority, over all frames.
+    pub dissent: [u64; 4],
 }
 
 /// The refusals 1 to 4, which depend only on the level and on lengths. It takes lengths
@@ -84,9 +84,9 @@ pub fn demultiplex(level: u64, line: &[u8], notes: &mut [u8], buffer: &mut [u8])
         let taken = frame::take(row, &unpack(bytes, row.frame_digits));
         notes[k] = taken.note;
         answer.alignment += taken.alignment;
-        answer.groups += taken.groups;
-        for (all, these) in tributaries.iter_mut().zip(&taken.tributaries) {
-            all.extend(these);
+        for (j, these) in taken.tributaries.iter().enumerate() {
+            answer.dissent[j] += taken.dissent[j];
+            tributaries[j].extend(these);
         }
     }
     let quarter = buffer.len() / 4;

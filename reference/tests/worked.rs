@@ -152,7 +152,7 @@ fn cases_5_to_7() {
     assert_eq!(place_of(4, 4, 722, 0), [2927]);
 }
 
-/// The note and the group count of a zero frame with the given group for tributary 1.
+/// The note, the dissent and the count of a zero frame with this group for tributary 1.
 fn read_group(level: u64, group: &str) -> (u8, u64, u64) {
     let row = row(level).unwrap();
     let (_, line) = from_zero(level, row.frame_bytes(), &[0], 4 * 91);
@@ -163,7 +163,8 @@ fn read_group(level: u64, group: &str) -> (u8, u64, u64) {
     let mut notes = [0xA5];
     let answer = demultiplex(level, &pack(&list), &mut notes, &mut [0; 4 * 91]);
     assert_eq!((answer.refusal, answer.alignment), (0, 0));
-    (notes[0], answer.groups, answer.counts[0])
+    assert_eq!(answer.dissent[1..], [0; 3]);
+    (notes[0], answer.dissent[0], answer.counts[0])
 }
 
 #[test]
@@ -171,8 +172,8 @@ fn case_8() {
     assert_eq!(read_group(2, "110"), (1, 1, 205));
     assert_eq!(read_group(2, "100"), (0, 1, 206));
     assert_eq!(read_group(3, "011"), (1, 1, 377));
-    assert_eq!(read_group(4, "11100"), (1, 1, 722));
-    assert_eq!(read_group(4, "11000"), (0, 1, 723));
+    assert_eq!(read_group(4, "11100"), (1, 2, 722));
+    assert_eq!(read_group(4, "11000"), (0, 2, 723));
     assert_eq!(read_group(4, "11111"), (1, 0, 722));
     assert_eq!(read_group(4, "00000"), (0, 0, 723));
 }
@@ -378,13 +379,15 @@ fn old_notes_are_not_judged() {
 fn counts_over_all_frames() {
     assert_eq!(back_refusal(2, 106, 1, 4), 4);
     let answer = demultiplex(2, &[0; 212], &mut [0; 2], &mut [0; 208]);
-    assert_eq!((answer.alignment, answer.groups), (10, 0));
+    assert_eq!((answer.alignment, answer.dissent), (10, [0; 4]));
     let answer = demultiplex(4, &[0xFF; 366], &mut [0; 1], &mut [0; 364]);
-    assert_eq!((answer.alignment, answer.groups), (6, 0));
+    assert_eq!((answer.alignment, answer.dissent), (6, [0; 4]));
     let mut line = vec![0; 366];
     line[61] = 0xF0;
+    line[305] = 0x50;
     let answer = demultiplex(4, &line.repeat(3), &mut [0; 3], &mut [0; 4 * 272]);
-    assert_eq!((answer.alignment, answer.groups, answer.counts), (18, 12, [3 * 723; 4]));
+    assert_eq!((answer.alignment, answer.dissent), (18, [3, 6, 3, 6]));
+    assert_eq!(answer.counts, [3 * 723; 4]);
 }
 
 #[test]

@@ -18,8 +18,9 @@ pub struct Received {
     pub digits: [usize; 4],
     /// How many alignment digits differ from the word, over all frames.
     pub alignment: usize,
-    /// How many control groups were not unanimous, over all frames and tributaries.
-    pub groups: usize,
+    /// How many control digits of each tributary, 1 to 4, differ from the majority of their own
+    /// group, over all frames.
+    pub dissent: [usize; 4],
 }
 
 /// Builds the frames of a line: writes the whole line from the notes and the buffer's quarters.
@@ -98,7 +99,7 @@ pub fn multiplex(
 /// assert_eq!(notes, [0x3F]); // all stuffed, both service digits 1
 /// assert_eq!(received.digits, [205; 4]);
 /// assert_eq!(received.alignment, 5); // 1111111111 and not 1111010000
-/// assert_eq!(received.groups, 0);
+/// assert_eq!(received.dissent, [0; 4]);
 /// # Ok(())
 /// # }
 /// ```
@@ -108,7 +109,7 @@ pub fn demultiplex(
     notes: &mut [u8],
     buffer: &mut [u8],
 ) -> Result<Received, Refusal> {
-    let mut answer = [0; 7];
+    let mut answer = [0; 10];
     // Sound as in multiplexing.
     let number = unsafe {
         raw::spritbobbin_demultiplex(
@@ -122,10 +123,10 @@ pub fn demultiplex(
             &mut answer,
         )
     };
-    let [a, b, c, d, frame, alignment, groups] = answer.map(count);
+    let [a, b, c, d, frame, alignment, dissent @ ..] = answer.map(count);
     let lent = Lent { level, line: line.len(), notes: notes.len(), buffer: buffer.len() };
     match number {
-        0 => Ok(Received { digits: [a, b, c, d], alignment, groups }),
+        0 => Ok(Received { digits: [a, b, c, d], alignment, dissent }),
         _ => Err(lent.refusal(number, frame)),
     }
 }

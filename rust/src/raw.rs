@@ -22,7 +22,8 @@ extern "C" {
         answer: &mut [u64; 5],
     ) -> u64;
 
-    /// Answer: four digit counts, 0, alignment digits that differ, groups not unanimous.
+    /// Answer: four digit counts, 0, alignment digits that differ, dissenting digits of
+    /// tributaries 1 to 4.
     pub fn spritbobbin_demultiplex(
         level: u64,
         line: *const u8,
@@ -31,7 +32,7 @@ extern "C" {
         notes_bytes: usize,
         buffer: *mut u8,
         buffer_bytes: usize,
-        answer: &mut [u64; 7],
+        answer: &mut [u64; 10],
     ) -> u64;
 
     /// State: level, window, digits seen, mode, place.

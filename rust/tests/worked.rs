@@ -26,7 +26,7 @@ fn works(level: Level, note: u8, digits: [usize; 4], set: &[(usize, u8)]) {
 
     let (mut notes, mut buffer) = ([!note], vec![0xA5; level.buffer_bytes(1)]);
     let received = demultiplex(level, &line, &mut notes, &mut buffer).unwrap();
-    assert_eq!((received.digits, received.alignment, received.groups), (digits, 0, 0));
+    assert_eq!((received.digits, received.alignment, received.dissent), (digits, 0, [0; 4]));
     assert_eq!(notes, [note]);
     assert_eq!(buffer, vec![0; level.buffer_bytes(1)]);
 }
@@ -55,7 +55,7 @@ fn case_4() {
     works(Level::Four, 0xFF, [722; 4], &[&word[..], &groups[..]].concat());
 }
 
-/// Whether tributary 1 reads as stuffed from these control digits, and the groups counted.
+/// Whether tributary 1 reads as stuffed from these control digits, and how many dissent.
 fn vote(level: Level, control: &[u8]) -> (bool, usize) {
     let (_, mut line) = from_zeros(level, &[0]);
     let sets = control.len() + 1;
@@ -66,15 +66,16 @@ fn vote(level: Level, control: &[u8]) -> (bool, usize) {
     }
     let (mut notes, mut buffer) = ([0], vec![0; level.buffer_bytes(1)]);
     let received = demultiplex(level, &line, &mut notes, &mut buffer).unwrap();
-    (notes == [1], received.groups)
+    assert_eq!(received.dissent[1..], [0; 3]);
+    (notes == [1], received.dissent[0])
 }
 
 #[test]
 fn case_8() {
     assert_eq!(vote(Level::Two, &[1, 1, 0]), (true, 1));
     assert_eq!(vote(Level::Two, &[1, 0, 0]), (false, 1));
-    assert_eq!(vote(Level::Four, &[1, 1, 1, 0, 0]), (true, 1));
-    assert_eq!(vote(Level::Four, &[1, 1, 0, 0, 0]), (false, 1));
+    assert_eq!(vote(Level::Four, &[1, 1, 1, 0, 0]), (true, 2));
+    assert_eq!(vote(Level::Four, &[1, 1, 0, 0, 0]), (false, 2));
     assert_eq!(vote(Level::Three, &[1, 1, 1]), (true, 0));
 }
 

@@ -55,7 +55,7 @@ static void both_ways(uint64_t level, size_t frame_bytes, size_t frames, size_t 
     size_t line_bytes = frame_bytes * frames;
     uint8_t *line = lend(line_bytes, 0xA5), *notes = lend(notes_bytes, note);
     uint8_t *buffer = lend(buffer_bytes, 0);
-    uint64_t answer[7];
+    uint64_t answer[10];
 
     memset(answer, 0xA5, sizeof answer);
     check(spritbobbin_multiplex(level, line, line_bytes, notes, notes_bytes, buffer, buffer_bytes, answer) == sent,
@@ -77,11 +77,31 @@ static void both_ways(uint64_t level, size_t frame_bytes, size_t frames, size_t 
           "the refusal of demultiplexing");
     if (received) {
         check(all(notes, notes_bytes, note) && all(buffer, buffer_bytes, 0x5A), "a refused call writes nothing");
-        check(all_zero(answer, 7), "a refused demultiplexing counts nothing");
+        check(all_zero(answer, 10), "a refused demultiplexing counts nothing");
     } else if (!sent) {
-        check(answer[1] == 206 * frames && all_zero(answer + 4, 3), "what went in comes out");
+        check(answer[1] == 206 * frames && all_zero(answer + 4, 6), "what went in comes out");
         check(all(notes, notes_bytes, note) && all(buffer, buffer_bytes, 0), "notes and zeros come back");
     }
+    free(line);
+    free(notes);
+    free(buffer);
+}
+
+/* Dissent: two frames at level 4; in frame 0 two of tributary 2's control digits are changed, in
+   frame 1 one of its own and one of tributary 4's. */
+static void counts_dissent(void)
+{
+    size_t line_bytes = 2 * SPRITBOBBIN_FRAME_BYTES_4, set_bytes = 61, buffer_bytes = 4 * 181;
+    uint8_t *line = lend(line_bytes, 0), *notes = lend(2, 0), *buffer = lend(buffer_bytes, 0);
+    uint64_t answer[10], *dissent = answer + SPRITBOBBIN_DISSENT;
+
+    check(spritbobbin_multiplex(4, line, line_bytes, notes, 2, buffer, buffer_bytes, answer) == 0, "sent");
+    line[set_bytes] ^= 0x40;
+    line[3 * set_bytes] ^= 0x40;
+    line[SPRITBOBBIN_FRAME_BYTES_4 + 5 * set_bytes] ^= 0x50;
+    check(spritbobbin_demultiplex(4, line, line_bytes, notes, 2, buffer, buffer_bytes, answer) == 0, "received");
+    check(dissent[0] == 0 && dissent[1] == 3 && dissent[2] == 0 && dissent[3] == 1, "three digits of tributary 2, one of 4");
+    check(notes[0] == 0 && notes[1] == 0 && answer[SPRITBOBBIN_ALIGNMENT] == 0, "which change no decision");
     free(line);
     free(notes);
     free(buffer);
@@ -256,6 +276,7 @@ int main(void)
     both_ways(UINT64_C(1) << 32 | 2, 106, 1, 1, 0, 104, 1, 1);
     both_ways(2, 106, 0, 0, 0, 0, 0, 0);        /* no frames: three null pointers */
     both_ways(4, 366, 0, 0, 0, 3, 4, 4);
+    counts_dissent();
     names_the_frame();
     receiver();
     line_digits();

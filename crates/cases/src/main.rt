@@ -255,7 +255,7 @@ const RECEIVINGS: [Receiving; 10] = [
     Receiving {
         level: 2,
         line: 6784,
-        fill: 240,
+        fill: 144,
         notes: 64,
         buffer: 6592,
     },
@@ -388,7 +388,7 @@ fn sent(c: Sending, r: Multiplexed, sum: u64) {
     say::counted(b": refusal ", r.refusal);
     say::labelled(b" frame ", r.frame);
     let counts = r.counts;
-    say::four(counts);
+    say::four(b" counts ", counts);
     say::counted(b" sum ", sum);
     say::text(b"\n");
 }
@@ -428,9 +428,10 @@ fn received(c: Receiving, r: Demultiplexed, notes: u64, buffer: u64) {
     say::labelled(b" buffer ", c.buffer);
     say::counted(b": refusal ", r.refusal);
     let counts = r.counts;
-    say::four(counts);
+    say::four(b" counts ", counts);
     say::labelled(b" alignment ", r.alignment);
-    say::labelled(b" groups ", r.groups);
+    let dissent = r.dissent;
+    say::four(b" dissent ", dissent);
     say::counted(b" notes sum ", notes);
     say::counted(b" sum ", buffer);
     say::text(b"\n");

@@ -9,20 +9,20 @@ use Rattle.digits.proofs.Laws.{tab-length}
 use Rattle.levels.specs.declared.table.Row.{Row}
 use Rattle.levels.specs.Sizes.{sizeRefusal}
 use Rattle.levels.specs.Order.{countsOf}
-use Rattle.demultiplex.specs.Notes.{noteOf, notesOf, alignmentTo, splitTo}
+use Rattle.demultiplex.specs.Notes.{noteOf, notesOf, alignmentTo, dissentsOf}
 use Rattle.demultiplex.specs.Extract.{quartersFrom}
 use Rattle.demultiplex.specs.Demultiplex.{answerOn, notesOn, bufferOn}
 
-module _ (row : Row) (line notes buffer : List ℕ) (ok : sizeRefusal row (length line) (length notes) (length buffer) ≡ 0) (read left : List ℕ) (counts : List ℕ) (alignment groups : ℕ) where
+module _ (row : Row) (line notes buffer : List ℕ) (ok : sizeRefusal row (length line) (length notes) (length buffer) ≡ 0) (read left counts : List ℕ) (alignment : ℕ) (dissent : List ℕ) where
   abbrev ds : List ℕ
   ds = digitsOf line
 
   abbrev F : ℕ
   F = length notes
 
-  pub read-and-extracted : (read ≡ notesOf row ds F) × (alignment ≡ alignmentTo row ds F) × (groups ≡ splitTo row ds F)
+  pub read-and-extracted : (read ≡ notesOf row ds F) × (alignment ≡ alignmentTo row ds F) × (dissent ≡ dissentsOf row ds F)
       → (counts ≡ countsOf row read (length read)) × (left ≡ quartersFrom row read line (length buffer / 4))
-      → (record { refusal = 0; counts = counts; alignment = alignment; groups = groups } ≡ answerOn row line F (length buffer))
+      → (record { refusal = 0; counts = counts; alignment = alignment; dissent = dissent } ≡ answerOn row line F (length buffer))
       × (read ≡ notesOn row line notes (length buffer))
       × (left ≡ bufferOn row line F buffer)
   read-and-extracted r e =

@@ -12,16 +12,16 @@ use Rattle.levels.specs.Table.{levelOf}
 use Rattle.levels.specs.Sizes.{onLevel, sizeRefusal}
 use Rattle.levels.specs.Order.{countsOf}
 use Rattle.demultiplex.specs.declared.Demultiplexed.{Demultiplexed}
-use Rattle.demultiplex.specs.Notes.{notesOf, alignmentTo, splitTo}
+use Rattle.demultiplex.specs.Notes.{notesOf, alignmentTo, dissentsOf}
 use Rattle.demultiplex.specs.Extract.{quartersFrom}
 
--- "all counts are 0"
+-- "all counts are 0", dissent too
 abbrev pub refusedWith : ℕ → Demultiplexed
-refusedWith refusal = record { refusal = refusal; counts = 0 ∷ 0 ∷ 0 ∷ 0 ∷ []; alignment = 0; groups = 0 }
+refusedWith refusal = record { refusal = refusal; counts = 0 ∷ 0 ∷ 0 ∷ 0 ∷ []; alignment = 0; dissent = 0 ∷ 0 ∷ 0 ∷ 0 ∷ [] }
 
 -- accepted: the four digit counts by the notes that were read, and the counts of errors
 abbrev pub received : Row → List ℕ → List ℕ → ℕ → Demultiplexed
-received row notes ds F = record { refusal = 0; counts = countsOf row notes F; alignment = alignmentTo row ds F; groups = splitTo row ds F }
+received row notes ds F = record { refusal = 0; counts = countsOf row notes F; alignment = alignmentTo row ds F; dissent = dissentsOf row ds F }
 
 -- the answer for a line, so many notes and a buffer of so many bytes
 abbrev pub answerOn : Row → List ℕ → ℕ → ℕ → Demultiplexed

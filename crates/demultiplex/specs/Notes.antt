@@ -1,11 +1,13 @@
 -- Reading the notes of a line: each decision by the majority of its control group in its own frame, the service digits as they came,
--- and the counts of errors. Document 01, "The note of a frame" and "Multiplexing and demultiplexing from a known start".
+-- and the counts of errors. Document 01, "The note of a frame" and "Multiplexing and demultiplexing from a known start"; document 02,
+-- request 2.
 use mathlib.Core.Bool.{Bool, cond}
-use mathlib.Core.List.{List}
-use Prim.Native.Nat.{ℕ, zero, suc, _+_, _*_}
-use lib.Dec.{eqb, leb}
+use mathlib.Core.List.{List, [], _∷_}
+use Prim.Native.Nat.{ℕ, _+_, _*_}
+use lib.Dec.{leb}
 use lib.ListN.{getD}
 use Rattle.digits.specs.Digits.{tab}
+use Rattle.digits.specs.Sums.{sumTo}
 use Rattle.levels.specs.declared.table.Row.{Row}
 use Rattle.levels.specs.declared.vote.Vote.{Vote}
 use Rattle.levels.specs.Vote.{voteOf, groupOf}
@@ -39,18 +41,22 @@ noteOf row ds f =
 abbrev pub notesOf : Row → List ℕ → ℕ → List ℕ
 notesOf row ds F = tab F 0 (noteOf row ds)
 
--- "how many alignment digits differ from the word, over all frames": of the first f
-unfoldable pub alignmentTo : Row → List ℕ → ℕ → ℕ
-alignmentTo row ds zero = 0
-alignmentTo row ds (suc f) = alignmentTo row ds f + wrongDigits row ds (f * row .digits)
+-- "how many alignment digits differ from the word, over all frames": of the first F
+abbrev pub alignmentTo : Row → List ℕ → ℕ → ℕ
+alignmentTo row ds F = sumTo F (λ (f : ℕ). wrongDigits row ds (f * row .digits))
 
--- "how many control groups were not unanimous": a group with a digit that dissents; of one frame, and of the first f
-abbrev pub splitBy : Vote → ℕ
-splitBy vote = cond (eqb (vote .dissent) 0) 0 1
+-- "dissenting digits for each tributary": of tributary j (from 0), the digits of its control groups that differ from their own majority,
+-- over the first F frames; and of the four tributaries
+abbrev pub dissentTo : Row → List ℕ → ℕ → ℕ → ℕ
+dissentTo row ds j F = sumTo F (λ (f : ℕ). voteAt row ds f j .dissent)
 
-unfoldable pub splitIn : Row → List ℕ → ℕ → ℕ
-splitIn row ds f = splitBy (voteAt row ds f 0) + splitBy (voteAt row ds f 1) + splitBy (voteAt row ds f 2) + splitBy (voteAt row ds f 3)
+abbrev pub dissentsOf : Row → List ℕ → ℕ → List ℕ
+dissentsOf row ds F = dissentTo row ds 0 F ∷ dissentTo row ds 1 F ∷ dissentTo row ds 2 F ∷ dissentTo row ds 3 F ∷ []
 
-unfoldable pub splitTo : Row → List ℕ → ℕ → ℕ
-splitTo row ds zero = 0
-splitTo row ds (suc f) = splitTo row ds f + splitIn row ds f
+-- those of frame f alone, and four counts with four more
+abbrev pub dissentsIn : Row → List ℕ → ℕ → List ℕ
+dissentsIn row ds f =
+    voteAt row ds f 0 .dissent ∷ voteAt row ds f 1 .dissent ∷ voteAt row ds f 2 .dissent ∷ voteAt row ds f 3 .dissent ∷ []
+
+abbrev pub fourSums : List ℕ → List ℕ → List ℕ
+fourSums a b = (getD a 0 0 + getD b 0 0) ∷ (getD a 1 0 + getD b 1 0) ∷ (getD a 2 0 + getD b 2 0) ∷ (getD a 3 0 + getD b 3 0) ∷ []

@@ -16,13 +16,13 @@ use levels::word;
 ghost use mathlib.Core.Path.{_≡_};
 ghost use mathlib.Core.Bool.{true};
 ghost use Prim.Native.Nat.{_+_, _*_, _/_, _<_, _≤_};
-ghost use lib.ListN.{length, replicate};
+ghost use lib.ListN.{length, getD, replicate};
 ghost use Rattle.digits.specs.Digits.{digitsOf};
 ghost use Rattle.levels.specs.Table.{Shared};
 ghost use Rattle.levels.specs.Sizes.{Accepted, Fits};
 ghost use Rattle.levels.specs.Places.{kindOf};
 ghost use Rattle.levels.specs.Order.{carried, before, decisions, countsOf};
-ghost use Rattle.demultiplex.specs.Notes.{bitOf, voteAt, serviceAt, noteOf, splitBy, splitIn, notesOf, alignmentTo, splitTo};
+ghost use Rattle.demultiplex.specs.Notes.{voteAt, serviceAt, noteOf, notesOf, alignmentTo, dissentsOf, dissentsIn, fourSums};
 ghost use Rattle.demultiplex.specs.Extract.{quarterFrom, quartersFrom, Taken};
 ghost use Rattle.demultiplex.specs.Demultiplex.{refusedWith, answerOn, notesOn, bufferOn, Met};
 
@@ -31,20 +31,20 @@ pub struct Demultiplexed {
     pub counts: [usize; 4],
     // alignment digits that differ from the word, over all frames
     pub alignment: usize,
-    // control groups that were not unanimous
-    pub groups: usize,
+    // digits of each tributary's control groups that differ from their majority, over all frames
+    pub dissent: [usize; 4],
 }
 
-// What a frame, or one control group of it, says: the note or its bit, and how many of the groups were not unanimous.
+// What a frame says: its note, and how many digits of each tributary's control group dissent.
 pub struct Noted {
     pub note: u8,
-    pub split: usize,
+    pub dissent: [usize; 4],
 }
 
 // What is counted while the notes of a line are read.
 pub struct Errors {
     pub alignment: usize,
-    pub groups: usize,
+    pub dissent: [usize; 4],
 }
 
 fn refused(refusal: u64) -> Demultiplexed
@@ -54,36 +54,17 @@ fn refused(refusal: u64) -> Demultiplexed
         refusal,
         counts: [0; 4],
         alignment: 0,
-        groups: 0,
+        dissent: [0; 4],
     }
 }
 
-// 1 where a vote is not unanimous.
-fn split_by(v: Vote) -> usize
-    ensures { λ r. ⌜ (r ≡ splitBy v) × (r < 2) ⌝ }
-{
-    if v.dissent == 0 {
-        return 0;
-    }
-    1
-}
-
-// What the control group of tributary j (from 0) in frame f says: 1 where the tributary is stuffed, and 1 where the group is not unanimous.
-fn read_group(row: Row, line: &[u8], f: usize, j: usize) -> Noted
+// The vote of tributary j (from 0) in frame f.
+fn vote_at(row: Row, line: &[u8], f: usize, j: usize) -> Vote
     requires { ⌜ Shared row × (j < 4) × (length (now line) ≤ 65536) × ((f + 1) * row .bytes ≤ length (now line)) ⌝ }
-    ensures { λ r. ⌜
-        (r .note ≡ bitOf (voteAt row (digitsOf (now (line .entry))) f j .stuffed))
-        × (r .split ≡ splitBy (voteAt row (digitsOf (now (line .entry))) f j))
-        × (r .note < 2)
-        × (r .split < 2)
-        ⌝ }
+    ensures { λ r. ⌜ r ≡ voteAt row (digitsOf (now (line .entry))) f j ⌝ }
 {
     let first = FramePlace(f * row.digits + (row.set + j));
-    let v = vote::group_vote(line, first, row.set, row.control);
-    Noted {
-        note: digits::digit_of(v.stuffed),
-        split: split_by(v),
-    }
+    vote::group_vote(line, first, row.set, row.control)
 }
 
 // Service digit k of frame f: the remote alarm digit first, then the national digits; 0 where the level has not so many.
@@ -101,41 +82,58 @@ fn service_at(row: Row, line: &[u8], f: usize, k: usize) -> u8
 // The note of frame f, by its own control groups and service digits.
 fn read_note(row: Row, line: &[u8], f: usize) -> Noted
     requires { ⌜ Shared row × (length (now line) ≤ 65536) × ((f + 1) * row .bytes ≤ length (now line)) ⌝ }
-    ensures { λ r. ⌜ (r .note ≡ noteOf row (digitsOf (now (line .entry))) f) × (r .split ≡ splitIn row (digitsOf (now (line .entry))) f) × (r .split ≤ 4) ⌝ }
+    ensures { λ r. ⌜ (r .note ≡ noteOf row (digitsOf (now (line .entry))) f) × (r .dissent ≡ dissentsIn row (digitsOf (now (line .entry))) f) ⌝ }
 {
-    let a = read_group(row, line, f, 0);
-    let b = read_group(row, line, f, 1);
-    let c = read_group(row, line, f, 2);
-    let d = read_group(row, line, f, 3);
-    let split = a.split + b.split + c.split + d.split;
-    let stuffings = a.note + 2 * b.note + 4 * c.note + 8 * d.note;
+    let a = vote_at(row, line, f, 0);
+    let b = vote_at(row, line, f, 1);
+    let c = vote_at(row, line, f, 2);
+    let d = vote_at(row, line, f, 3);
+    let low = digits::digit_of(a.stuffed) + 2 * digits::digit_of(b.stuffed);
+    let stuffings = low + 4 * digits::digit_of(c.stuffed) + 8 * digits::digit_of(d.stuffed);
     let services = 16 * service_at(row, line, f, 0) + 32 * service_at(row, line, f, 1);
     let further = 64 * service_at(row, line, f, 2) + 128 * service_at(row, line, f, 3);
-    let note = stuffings + services + further;
-    Noted { note, split }
+    Noted {
+        note: stuffings + services + further,
+        dissent: [a.dissent, b.dissent, c.dissent, d.dissent],
+    }
 }
 
-// Reads the notes of a line, and counts the wrong alignment digits and the groups that were not unanimous.
+// Four counts, each with one more.
+fn four_sums(a: [usize; 4], b: [usize; 4]) -> [usize; 4]
+    requires { ⌜
+        (getD a 0 0 + getD b 0 0 < 65536)
+        × (getD a 1 0 + getD b 1 0 < 65536)
+        × (getD a 2 0 + getD b 2 0 < 65536)
+        × (getD a 3 0 + getD b 3 0 < 65536)
+        ⌝ }
+    ensures { λ r. ⌜ r ≡ fourSums a b ⌝ }
+{
+    [a[0] + b[0], a[1] + b[1], a[2] + b[2], a[3] + b[3]]
+}
+
+// Reads the notes of a line, and counts the wrong alignment digits and the dissenting digits of each tributary.
 fn read_notes(row: Row, line: &[u8], notes: &mut [u8]) -> Errors
     requires { ⌜ Shared row × (length (now line) ≡ length (now notes) * row .bytes) × (length (now notes) ≤ 64) ⌝ }
     ensures { λ r. ⌜
         (now (notes .exit) ≡ notesOf row (digitsOf (now (line .entry))) (length (now (notes .entry))))
         × (r .alignment ≡ alignmentTo row (digitsOf (now (line .entry))) (length (now (notes .entry))))
-        × (r .groups ≡ splitTo row (digitsOf (now (line .entry))) (length (now (notes .entry))))
+        × (r .dissent ≡ dissentsOf row (digitsOf (now (line .entry))) (length (now (notes .entry))))
         ⌝ }
 {
     let mut alignment: usize = 0;
-    let mut groups: usize = 0;
+    let mut dissent = [0usize; 4];
     let mut f: usize = 0;
     while f < notes.len() {
         let read = read_note(row, line, f);
         notes[f] = read.note;
-        groups += read.split;
+        let here = read.dissent;
+        let sums = four_sums(dissent, here);
+        dissent = sums;
         let start = FramePlace(f * row.digits);
         alignment += word::word_errors(row, line, start) as usize;
         f += 1;
     }
-    Errors { alignment, groups }
+    Errors { alignment, dissent }
 }
 
 // Every byte zero.
@@ -240,11 +238,12 @@ fn demultiplex_on(row: Row, line: &[u8], notes: &mut [u8], buffer: &mut [u8]) ->
     }
     let errors = read_notes(row, line, notes);
     let counts = extract_all(row, line, notes, buffer);
+    let dissent = errors.dissent;
     Demultiplexed {
         refusal: 0,
         counts,
         alignment: errors.alignment,
-        groups: errors.groups,
+        dissent,
     }
 }
 

@@ -10,6 +10,7 @@ use native.Mathlib.Numerals.{add-one}
 use native.Mathlib.Nat.{add-zero, suc-mul, zero-mul, mul-left-comm, mul-le-mul}
 use lib.Dec.{eqb, leb}
 use borrow.Author.Tests.{le-leb, lt-leb, eq-eqb, ne-eqb}
+use Rattle.digits.specs.Sums.{sumTo}
 use Rattle.levels.specs.declared.table.Row.{Row}
 use Rattle.levels.specs.Table.{Shared}
 use Rattle.levels.specs.Order.{carries, before, stuffedTo, countOf}
@@ -100,7 +101,7 @@ module _ (row : Row) (sh : Shared row) where
 
     -- F frames of which s are stuffed carry F * n - s digits
     pub line-count : (F : ℕ) → count (F * columns row) + stuffedTo decided F ≡ F * row .n
-    unfolding before stuffedTo
+    unfolding before sumTo
     line-count zero = rw (zero-mul (columns row), zero-mul (row .n))
     line-count (suc F) = omega (arith, line-count F, frame-count F, suc-mul F (row .n))
 

@@ -6,6 +6,7 @@ use mathlib.Core.List.{List, [], _∷_, _++_}
 use Prim.Native.Nat.{ℕ, zero, suc, _+_, _*_, _-_, _/_, _%_, _^_}
 use lib.Dec.{eqb}
 use lib.ListN.{getD}
+use Rattle.digits.specs.Sums.{sumTo}
 use Rattle.levels.specs.declared.table.Row.{Row}
 use Rattle.levels.specs.declared.places.Kind.{Kind}
 use Rattle.levels.specs.declared.places.Kind.the-variants.{Word, Service, Control, Justification, Tributary}
@@ -40,10 +41,9 @@ unfoldable pub placesOf : Row → (ℕ → Bool) → ℕ → ℕ → List ℕ
 placesOf row decided j zero = []
 placesOf row decided j (suc x) = placesOf row decided j x ++ cond (carries row decided (4 * x + j)) ((4 * x + j) ∷ []) []
 
--- how many of the first f frames are stuffed
-unfoldable pub stuffedTo : (ℕ → Bool) → ℕ → ℕ
-stuffedTo decided zero = 0
-stuffedTo decided (suc f) = stuffedTo decided f + cond (decided f) 1 0
+-- how many of the first F frames are stuffed
+abbrev pub stuffedTo : (ℕ → Bool) → ℕ → ℕ
+stuffedTo decided F = sumTo F (λ (f : ℕ). cond (decided f) 1 0)
 
 -- "With F frames, of which s are stuffed for a tributary, that tributary has F·n − s digits"
 unfoldable pub countOf : Row → (ℕ → Bool) → ℕ → ℕ

@@ -27,7 +27,8 @@ fn add(r: Demultiplexed, notes: &[u8], buffer: &[u8], t: Passage) -> Passage
     let counts = r.counts;
     let mut u = write(notes, buffer, counts, t);
     let before = u.totals;
-    u.totals = passage::add(before, notes, counts, r.alignment, r.groups);
+    let dissent = r.dissent;
+    u.totals = passage::add(before, notes, counts, r.alignment, dissent);
     passage::only_if(r.refusal == 0, passage::LINE, u)
 }
 

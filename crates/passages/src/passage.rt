@@ -19,7 +19,7 @@ pub struct Totals {
     pub digits: [usize; 4],
     pub stuffed: [usize; 4],
     pub alignment: usize,
-    pub groups: usize,
+    pub dissent: [usize; 4],
 }
 
 // Of each tributary's quarter that is written: its whole bytes so far, and the digits that do not fill a byte yet.
@@ -56,7 +56,7 @@ pub fn start(open: OpenFiles) -> Passage {
             digits: [0usize; 4],
             stuffed: [0usize; 4],
             alignment: 0,
-            groups: 0,
+            dissent: [0usize; 4],
         },
         quarters: Quarters {
             written: [0usize; 4],
@@ -80,15 +80,22 @@ pub fn in_quarter(quarter: usize, j: usize, at: usize) -> usize
 }
 
 // The totals with those of one run of frames: its notes, the digits of each tributary, and what was wrong.
-pub fn add(t: Totals, notes: &[u8], counts: [usize; 4], alignment: usize, groups: usize) -> Totals {
+pub fn add(
+    t: Totals,
+    notes: &[u8],
+    counts: [usize; 4],
+    alignment: usize,
+    dissent: [usize; 4],
+) -> Totals {
     let digits = t.digits;
     let stuffed = t.stuffed;
+    let before = t.dissent;
     Totals {
         frames: sizes::plus(t.frames, notes.len()),
         digits: four_sums(digits, counts),
         stuffed: four_sums(stuffed, four_stuffed(notes)),
         alignment: sizes::plus(t.alignment, alignment),
-        groups: sizes::plus(t.groups, groups),
+        dissent: four_sums(before, dissent),
     }
 }
 
@@ -135,24 +142,39 @@ pub fn say_frames(level: u64, frames: usize, what: &[u8]) {
     say::text(what);
 }
 
-// The table of the four tributaries.
-pub fn say_table(t: Totals) {
+// The table of the four tributaries. Only frames that were taken apart have votes, and so a column of dissenting digits.
+pub fn say_table(t: Totals, taken: bool) {
     let digits = t.digits;
     let stuffed = t.stuffed;
-    say::text(b"tributary        digits      stuffed\n");
+    let dissent = t.dissent;
+    say::text(b"tributary        digits      stuffed");
+    say_if(taken, b"      dissent");
     let mut j: usize = 0;
     while j < 4 {
+        say::text(b"\n");
         say::right(9, j + 1);
         say::right(14, digits[j]);
         say::right(13, stuffed[j]);
-        say::text(b"\n");
+        say_dissent(taken, dissent[j]);
         j += 1;
+    }
+    say::text(b"\n");
+}
+
+fn say_if(taken: bool, text: &[u8]) {
+    if taken {
+        say::text(text);
     }
 }
 
-// The same, and what was wrong in all frames.
+fn say_dissent(taken: bool, n: usize) {
+    if taken {
+        say::right(13, n);
+    }
+}
+
+// The same of frames that were taken apart, and what was wrong in all words.
 pub fn say_totals(t: Totals) {
-    say_table(t);
+    say_table(t, true);
     say::line(b"alignment digits wrong: ", t.alignment);
-    say::line(b"control groups not unanimous: ", t.groups);
 }

@@ -101,7 +101,7 @@ fn send_on(
     let unread = passage::first_failed(no_notes, filled, passage::TRIBUTARIES);
     Passage {
         open: to,
-        totals: passage::add(totals, notes, counts, 0, 0),
+        totals: passage::add(totals, notes, counts, 0, [0usize; 4]),
         quarters,
         failed: passage::first_failed(unread, written && r.refusal == 0, passage::LINE),
         refusal: r.refusal,
@@ -161,7 +161,7 @@ fn end(level: u64, t: Passage) {
     if failed == passage::NONE {
         let totals = t.totals;
         passage::say_frames(level, totals.frames, b" frames sent.\n");
-        passage::say_table(totals);
+        passage::say_table(totals, false);
         files::keep(LINE, b"");
         return;
     }

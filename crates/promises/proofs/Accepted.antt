@@ -30,7 +30,7 @@ use Rattle.multiplex.specs.Line.{lineDigit, lineOf}
 use Rattle.multiplex.specs.Multiplex.{firstOver, firstFaulty, refusalOn, multiplexed}
 use Rattle.multiplex.specs.Multiplex as send
 use Rattle.demultiplex.specs.declared.Demultiplexed.{Demultiplexed}
-use Rattle.demultiplex.specs.Notes.{noteOf, notesOf}
+use Rattle.demultiplex.specs.Notes.{noteOf, notesOf, dissentTo, dissentsOf}
 use Rattle.demultiplex.specs.Extract.{takenTo, quarterFrom, quartersFrom}
 use Rattle.demultiplex.specs.Demultiplex.{demultiplexed, bufferAfter}
 use Rattle.demultiplex.specs.Demultiplex as read
@@ -96,6 +96,9 @@ no-refusal size faulty e =
 -- the count of a tributary is its own of the four
 pub count-at : (row : Row) (notes : List ℕ) (F j : ℕ) → j < 4 → getD (countsOf row notes F) j 0 ≡ countOf row (decisions notes j) F
 count-at row notes F = of-four (λ (j : ℕ). getD (countsOf row notes F) j 0 ≡ countOf row (decisions notes j) F) refl refl refl refl
+
+pub dissent-at : (row : Row) (ds : List ℕ) (F j : ℕ) → j < 4 → getD (dissentsOf row ds F) j 0 ≡ dissentTo row ds j F
+dissent-at row ds F = of-four (λ (j : ℕ). getD (dissentsOf row ds F) j 0 ≡ dissentTo row ds j F) refl refl refl refl
 
 -- the quarters that an extraction leaves are those of its tributaries
 module _ (row : Row) (notes line : List ℕ) (q : ℕ) where

@@ -1,6 +1,6 @@
 -- The theorems of demand 3 are not empty, and their border is where the letter has it: as much damage as is allowed is damage, of any
 -- line; with one control digit more it is none, and two different sends meet.
-use mathlib.Core.Path.{_≡_, refl, sym, _∙_}
+use mathlib.Core.Path.{_≡_, refl, sym, _∙_, ap}
 use mathlib.Core.Bool.{Bool, cond, true, false, not, true≢false}
 use mathlib.Core.List.{List, [], _∷_}
 use Prim.Native.Nat.{ℕ, zero, suc, _+_, _*_, _-_, _/_, _%_, _≤_, _<_, min}
@@ -13,8 +13,10 @@ use lib.Seq.{ext-getD}
 use lib.Pow.{pow-mono}
 use borrow.Author.Tests.{le-leb, lt-leb}
 use Rattle.digits.specs.Digits.{digitsOf, bytesOf, tab, Binary, differing}
+use Rattle.digits.specs.Sums.{sumTo}
 use Rattle.digits.proofs.Laws.{by-digit, digits-binary, tab-at, tab-length, tab-binary, zeros-at, zeros-binary}
 use Rattle.digits.proofs.Lists.{of-four, differing-more}
+use Rattle.digits.proofs.Sums.{sum-all}
 use Rattle.levels.specs.declared.table.Row.{Row}
 use Rattle.levels.specs.declared.places.ServiceDigit.the-variants.{RemoteAlarm, FirstNational, SecondNational, ThirdNational}
 use Rattle.levels.specs.declared.places.Kind.{Kind}
@@ -22,23 +24,23 @@ use Rattle.levels.specs.declared.places.Kind.the-variants.{Word, Service, Contr
 use Rattle.levels.specs.Table.{Shared, row2, row3, row4, levelOf}
 use Rattle.levels.specs.Sizes.{sizeRefusal}
 use Rattle.levels.specs.Places.{firstSet, middleSet, lastSet, kindOf, kindAt, posOf}
-use Rattle.levels.specs.Order.{stuffed, decisions, carries, before, placesOf, stuffedTo, countOf}
+use Rattle.levels.specs.Order.{stuffed, decisions, carries, before, placesOf, countOf}
 use Rattle.levels.specs.Vote.{groupOf, votesFor, voteBy}
-use Rattle.levels.specs.Word.{wrongTo}
 use Rattle.levels.proofs.Rows.{shared2, shared3, shared4}
 use Rattle.levels.proofs.Positions.{stands, pos-of-sum}
 use Rattle.levels.proofs.Majority.{group-length}
 use Rattle.levels.proofs.Ways.{kind-control}
 use Rattle.multiplex.specs.Line.{digitBy, lineDigit}
 use Rattle.multiplex.specs.Multiplex.{firstOver, refusalOn}
-use Rattle.demultiplex.specs.Notes.{voteAt, serviceAt, noteOf, alignmentTo, splitIn, splitTo}
+use Rattle.demultiplex.specs.Notes.{voteAt, serviceAt, noteOf}
 use Rattle.demultiplex.specs.Extract.{takenTo, quarterFrom, quartersFrom}
 use Rattle.demultiplex.specs.Demultiplex.{demultiplexed, bufferAfter}
-use Rattle.promises.specs.Damage.{Liberty, at-will, counted, kept, liberty, libertyAt, groupAt, allowed, DamageUpTo, Damage, lineDigits}
+use Rattle.promises.specs.Damage.{Liberty, at-will, counted, kept, liberty, libertyAt, groupAt, allowed, DamageUpTo, Damage, controlsChanged, lineDigits}
 use Rattle.promises.specs.Carried.{Sound}
 use Rattle.promises.specs.Calls.{SendAccepted, sentLine, readNotes, LentAt, DamageAt}
 use Rattle.promises.specs.Border.{inverted, spoilt, changes, early, late, noneStuffed, allStuffed, idle, Border, exampleSend, exampleLine, exampleDamaged, exampleRead, Example}
 use Rattle.promises.proofs.Sent.{control-place, in-line, sent-at}
+use Rattle.promises.proofs.Recovered.{dissent-changed}
 use Rattle.promises.proofs.RoundTrip.{line-binary}
 use Rattle.promises.proofs.Calls.{send-returned}
 
@@ -74,7 +76,7 @@ module _ (row : Row) (sh : Shared row) (notes : List ℕ) (change : ℕ → Bool
         new-at p (in-line row sh f (i + 1) j p e hs hr F hf) ∙ rw (pos-of-sum row sh p f (i + 1) j e hs hr, kind-control row sh (i + 1) (omega arith) j hj)
 
     changed-to : (k : ℕ) → k ≤ row .control → differing (groupOf sent start (row .set) k) (groupOf new start (row .set) k) ≡ changes change k
-    unfolding groupOf differing changes
+    unfolding groupOf differing sumTo
     changed-to zero h = refl
     changed-to (suc k) h =
         let d = getD sent (start + k * row .set) 0 in
@@ -86,6 +88,11 @@ module _ (row : Row) (sh : Shared row) (notes : List ℕ) (change : ℕ → Bool
 
     pub spoilt-group : differing (groupAt row sent f j) (groupAt row new f j) ≡ changes change (row .control)
     spoilt-group = changed-to (row .control) (omega arith)
+
+  -- and so of all groups of a tributary
+  pub spoilt-controls : (j : ℕ) → j < 4 → controlsChanged row F sent new j ≡ F * changes change (row .control)
+  spoilt-controls j hj =
+      sum-all F (changes change (row .control)) (λ (f : ℕ). differing (groupAt row sent f j) (groupAt row new f j)) (λ f hf. spoilt-group f j hf hj)
 
   pub spoilt-damage : DamageUpTo (changes change (row .control)) row notes F sent new
   spoilt-damage =
@@ -99,7 +106,7 @@ module _ (row : Row) (sh : Shared row) (notes : List ℕ) (change : ℕ → Bool
 
 -- a set is changed or not
 changes-both : (change : ℕ → Bool) (k : ℕ) → changes change k + changes (λ (s : ℕ). not (change s)) k ≡ k
-unfolding changes
+unfolding sumTo
 changes-both change zero = refl
 changes-both change (suc k) = omega (arith, changes-both change k, one (change (k + 1)))
   where
@@ -108,7 +115,7 @@ changes-both change (suc k) = omega (arith, changes-both change k, one (change (
     one false = refl
 
 changes-early : (row : Row) (k : ℕ) → changes (early row) k ≡ min k (allowed row)
-unfolding changes
+unfolding sumTo
 changes-early row zero = omega arith
 changes-early row (suc k) =
     elim (decLe (k + 1) (allowed row)) [
@@ -202,6 +209,12 @@ module _ (row : Row) (sh : Shared row) where
           sound-other = sound 15 (lit< tt);
           from-one = all-allowed (noneStuffed F) F (lineOf (noneStuffed F)) (binary (noneStuffed F));
           from-other = rw (meet, ← late-count) (spoilt-damage row sh (allStuffed F) (late row) F (lineOf (allStuffed F)) (binary (allStuffed F)));
+          dissenting = λ j hj.
+              dissent-changed row sh F (noneStuffed F) (idle row F) (spoilt row (noneStuffed F) (early row) F (lineOf (noneStuffed F)))
+              (all-allowed (noneStuffed F) F (lineOf (noneStuffed F)) (binary (noneStuffed F))) j hj
+              ∙ spoilt-controls row sh (noneStuffed F) (early row) F (lineOf (noneStuffed F)) (binary (noneStuffed F)) j hj ∙ ap (λ (k : ℕ). F * k) early-count;
+          changed-other = λ j hj.
+              rw meet (spoilt-controls row sh (allStuffed F) (late row) F (lineOf (allStuffed F)) (binary (allStuffed F)) j hj ∙ ap (λ (k : ℕ). F * k) late-count);
           differ = λ j f hj hf e. true≢false (sym (rw (getD-replicate {A = ℕ} F f 0 0 hf, getD-replicate {A = ℕ} F f 15 0 hf, none-bit j hj, all-bit j hj) at e));
         }
 
@@ -236,10 +249,10 @@ example-damaged : DamageAt 2 (exampleSend .notes) (sentLine 2 exampleSend) examp
 unfolding levelOf
 example-damaged = rw (example-leaves, ← example-spoilt) (all-allowed row2 shared2 (1 ∷ []) 1 (digitsOf exampleLine) (digits-binary exampleLine))
 
-example-read : (demultiplexed 2 exampleDamaged 1 104 ≡ record { refusal = 0; counts = 205 ∷ 206 ∷ 206 ∷ 206 ∷ []; alignment = 10; groups = 4 })
+example-read : (demultiplexed 2 exampleDamaged 1 104 ≡ record { refusal = 0; counts = 205 ∷ 206 ∷ 206 ∷ 206 ∷ []; alignment = 10; dissent = 1 ∷ 1 ∷ 1 ∷ 1 ∷ [] })
     × (readNotes 2 exampleRead ≡ 0x31 ∷ [])
     × (bufferAfter 2 exampleDamaged 1 (exampleRead .buffer) ≡ exampleSend .buffer)
-unfolding levelOf sizeRefusal noteOf voteAt serviceAt voteBy votesFor groupOf countOf stuffedTo alignmentTo wrongTo splitTo splitIn quartersFrom quarterFrom takenTo placesOf carries posOf kindOf firstSet middleSet lastSet tab bytesOf digitsOf exampleDamaged
+unfolding levelOf sizeRefusal noteOf voteAt serviceAt voteBy votesFor groupOf countOf sumTo quartersFrom quarterFrom takenTo placesOf carries posOf kindOf firstSet middleSet lastSet tab bytesOf digitsOf exampleDamaged
 example-read = (refl, refl, refl)
 
 example-lent : LentAt 2 exampleSend exampleRead

@@ -21,17 +21,17 @@ use Rattle.levels.specs.Order.{decisions, countOf, countsOf}
 use Rattle.levels.proofs.Positions.{in-frame}
 use Rattle.multiplex.specs.Line.{lineDigit}
 use Rattle.demultiplex.specs.declared.Demultiplexed.{Demultiplexed}
-use Rattle.demultiplex.specs.Notes.{notesOf}
+use Rattle.demultiplex.specs.Notes.{notesOf, dissentTo}
 use Rattle.demultiplex.specs.Demultiplex.{demultiplexed, received}
-use Rattle.promises.specs.Damage.{Damage, lineDigits, SameBut}
+use Rattle.promises.specs.Damage.{Damage, controlsChanged, lineDigits, SameBut}
 use Rattle.promises.specs.Carried.{decisionRead, digitsRead, countRead, Returned}
-use Rattle.promises.specs.Calls.{Lent, SendAccepted, sentLine, sentCounts, sentDigits, ReadAccepted, readNotes, readCounts, readDigits}
-use Rattle.promises.specs.Calls.{LentFor, LentAt, DamageAt, SameButAt, SendsSame, SendReturned, SendBack, ReadsSame}
+use Rattle.promises.specs.Calls.{Lent, SendAccepted, sentLine, sentCounts, sentDigits, ReadAccepted, readNotes, readCounts, readDigits, readDissent}
+use Rattle.promises.specs.Calls.{LentFor, LentAt, DamageAt, SameButAt, SendsSame, SendReturned, DissentAt, SendBack, ReadsSame}
 use Rattle.promises.specs.Plain.{SameOutside}
-use Rattle.promises.proofs.Recovered.{damage-recovered}
+use Rattle.promises.proofs.Recovered.{dissent-changed, damage-recovered}
 use Rattle.promises.proofs.Others.{others-untouched}
 use Rattle.promises.proofs.RoundTrip.{round-trip}
-use Rattle.promises.proofs.Accepted.{send-level, read-level, shared, count-at, tributary, send-sizes, send-places, send-sound, send-line}
+use Rattle.promises.proofs.Accepted.{send-level, read-level, shared, count-at, dissent-at, tributary, send-sizes, send-places, send-sound, send-line}
 use Rattle.promises.proofs.Accepted.{send-counts, send-digits, read-accepted, read-sizes, read-places, read-answer, read-notes, read-frames, read-digits}
 
 -- the four counts are the same where each is
@@ -110,6 +110,9 @@ module _ (level : ℕ) (row : Row) (e : levelOf level ≡ Of row) where
         digits = λ j hj. read-digits level row e c ok j hj ∙ ap (λ (n : ℕ). digitsRead row n ds j) same;
       }
 
+  dissent-of : (c : Lent) (F : ℕ) (ds : List ℕ) → Reads c F ds → (j : ℕ) → j < 4 → getD (readDissent level c) j 0 ≡ dissentTo row ds j F
+  dissent-of c F ds got j hj = ap (λ (r : Demultiplexed). getD (r .dissent) j 0) (got .answered) ∙ dissent-at row ds F j hj
+
   -- a reading of a line of the send's frames
   reading : (send read : Lent) → SendAccepted level send → LentFor (row .room) send read → length (digitsOf (read .line)) ≡ length (send .notes) * row .digits
       → Reads read (length (send .notes)) (digitsOf (read .line))
@@ -133,6 +136,22 @@ module _ (level : ℕ) (row : Row) (e : levelOf level ≡ Of row) where
       returns send read (digitsOf (read .line)) (damaged send ok (read .line) d)
       (reading send read ok lent (damage-on (send .notes) (sentLine level send) (read .line) d .size))
 
+  on-dissent : (dissent : List ℕ) (F : ℕ) (sent received : List ℕ) → ((j : ℕ) → j < 4 → getD dissent j 0 ≡ controlsChanged row F (digitsOf sent) (digitsOf received) j)
+      → DissentAt level dissent F sent received
+  on-dissent dissent F sent received d = rw e d
+
+  dissent-on : (send read : Lent) → SendAccepted level send → LentFor (row .room) send read → DamageAt level (send .notes) (sentLine level send) (read .line)
+      → DissentAt level (readDissent level read) (length (send .notes)) (sentLine level send) (read .line)
+  dissent-on send read ok lent d =
+      let F = length (send .notes) in
+      let ds = digitsOf (read .line) in
+      let line = send-line level row e send ok in
+      let damage = damage-on (send .notes) (sentLine level send) (read .line) d in
+      on-dissent (readDissent level read) F (sentLine level send) (read .line)
+      (λ j hj.
+      dissent-of read F ds (reading send read ok lent (damage .size)) j hj
+      ∙ rw line (dissent-changed row sh F (send .notes) (given send ok) ds (rw line at damage) j hj))
+
   back-on : (send read : Lent) → SendAccepted level send → LentFor (row .room) send read → read .line ≡ sentLine level send → SendBack level send read
   back-on send read ok lent same =
       let F = length (send .notes) in
@@ -144,7 +163,7 @@ module _ (level : ℕ) (row : Row) (e : levelOf level ≡ Of row) where
         noted = got .noted ∙ trip .noted;
         returned = returns send read line (as-read send ok line (trip .returned)) got;
         aligned = ap (λ (r : Demultiplexed). r .alignment) (got .answered) ∙ trip .aligned;
-        unanimous = ap (λ (r : Demultiplexed). r .groups) (got .answered) ∙ trip .unanimous;
+        unanimous = ap (λ (r : Demultiplexed). r .dissent) (got .answered) ∙ rw (trip .unanimous 0 (lit< tt), trip .unanimous 1 (lit< tt), trip .unanimous 2 (lit< tt), trip .unanimous 3 (lit< tt));
       }
 
   others-on : (j k : ℕ) (a b : Lent) → ReadAccepted level a → LentFor (row .room) a b → length (a .line) ≡ length (b .line) → SameOutside j (a .line) (b .line)
@@ -165,6 +184,7 @@ module _ (level : ℕ) (row : Row) (e : levelOf level ≡ Of row) where
         decided = λ f hf. rw (one .noted, two .noted) (out .decided f hf);
         counted = counts a da one ∙ out .counted ∙ sym (counts b db two);
         digits = one .digits k hk ∙ out .digits ∙ sym (two .digits k hk);
+        dissenting = dissent-of a F da one k hk ∙ out .dissenting ∙ sym (dissent-of b F db two k hk);
       }
 
 -- two accepted sends, whose damaged lines are equal, carried the same: one level and one frame count, which equal lines have
@@ -176,6 +196,11 @@ sends-same level a b ok-a ok-b = let on = send-level level a ok-a in sends-on le
 pub send-returned : (level : ℕ) (send read : Lent) → SendAccepted level send → LentAt level send read → DamageAt level (send .notes) (sentLine level send) (read .line)
     → SendReturned level send read
 send-returned level send read ok lent = let on = send-level level send ok in returned-on level (on .0) (on .1) send read ok (rw (on .1) at lent)
+
+-- and says how many digits of each control group were changed
+pub send-dissent : (level : ℕ) (send read : Lent) → SendAccepted level send → LentAt level send read → DamageAt level (send .notes) (sentLine level send) (read .line)
+    → DissentAt level (readDissent level read) (length (send .notes)) (sentLine level send) (read .line)
+send-dissent level send read ok lent = let on = send-level level send ok in dissent-on level (on .0) (on .1) send read ok (rw (on .1) at lent)
 
 -- the round trip, for an accepted send and a reading of its line
 pub send-back : (level : ℕ) (send read : Lent) → SendAccepted level send → LentAt level send read → read .line ≡ sentLine level send → SendBack level send read

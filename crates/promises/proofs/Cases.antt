@@ -13,11 +13,12 @@ use lib.Seq.{getD-take, getD-drop}
 use borrow.Author.Tests.{eq-eqb, le-ltb}
 use Rattle.digits.specs.Digits.{bytesOf, tab, digitsOf}
 use Rattle.digits.proofs.Laws.{digit-at, tab-of, tab-at, tab-length, zeros-at}
+use Rattle.digits.specs.Sums.{sumTo}
 use Rattle.levels.specs.declared.table.Row.{Row}
 use Rattle.levels.specs.declared.table.Level.the-variants.{Of}
 use Rattle.levels.specs.Table.{levelOf, row2, row3, row4}
 use Rattle.levels.specs.Places.{firstSet, middleSet, lastSet, kindOf, posOf}
-use Rattle.levels.specs.Order.{carries, decisions, before, placesOf, stuffedTo, countOf, countsOf}
+use Rattle.levels.specs.Order.{carries, decisions, before, placesOf, countOf, countsOf}
 use Rattle.levels.specs.Sizes.{quarterOf, sizeRefusal}
 use Rattle.levels.specs.Vote.{votesFor, voteBy}
 use Rattle.multiplex.specs.Line.{lineDigit, lineOf}
@@ -69,7 +70,7 @@ sent-frame level row e note bytes counts whole one fits is are line q len room =
     )
 
 pub all-hold : Every cases
-unfolding cases levelOf firstSet middleSet lastSet kindOf posOf carries before placesOf stuffedTo countOf votesFor voteBy lineDigit tab bytesOf firstOver
+unfolding cases levelOf firstSet middleSet lastSet kindOf posOf carries before placesOf sumTo countOf votesFor voteBy lineDigit tab bytesOf firstOver
 all-hold = (
   sent-frame 2 row2 refl 0x00 _ _ refl refl refl refl refl,
   (

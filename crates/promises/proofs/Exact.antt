@@ -24,7 +24,7 @@ use Rattle.multiplex.proofs.Unread.{Agree, same-line}
 use Rattle.demultiplex.specs.declared.Demultiplexed.{Demultiplexed}
 use Rattle.demultiplex.specs.Notes.{notesOf}
 use Rattle.promises.specs.Damage.{kept, libertyAt, Damage, lineDigits}
-use Rattle.promises.specs.Calls.{Lent, SendAccepted, sentLine, sentCounts, sentDigits, ReadAccepted, readCounts, readDigits}
+use Rattle.promises.specs.Calls.{Lent, SendAccepted, sentLine, sentCounts, sentDigits, ReadAccepted, readCounts, readDigits, readDissent}
 use Rattle.promises.specs.Calls.{sentOn, LentAt, DamageAt, SendsSame, SendReturned, SendBack, ReadsSame}
 use Rattle.promises.proofs.Sent.{sent-group, sent-carried}
 use Rattle.promises.proofs.Reading.{note-fits}
@@ -112,8 +112,10 @@ module _ (level : ℕ) (row : Row) (e : levelOf level ≡ Of row) (c : Lent) (ok
       send-counts level row e (sentOn level c) accepted-on
       ∙ rw (read-frames level row e c ok, read-notes level row e c ok) (sym (ap (λ (r : Demultiplexed). r .counts) (read-answer level row e c ok)))
 
-  four-counts : length (readCounts level c) ≡ 4
-  four-counts = ap (λ (r : Demultiplexed). length (r .counts)) (read-answer level row e c ok)
+  fours : (length (readCounts level c) ≡ 4) × (length (readDissent level c) ≡ 4)
+  fours =
+      let answer = read-answer level row e c ok in
+      (ap (λ (r : Demultiplexed). length (r .counts)) answer, ap (λ (r : Demultiplexed). length (r .dissent)) answer)
 
   digits-on : (j : ℕ) → sentDigits level (sentOn level c) j ≡ readDigits level c j
   digits-on j = ap (λ (counts : List ℕ). take (getD counts j 0) (digitsOf (quarterOf (sentOn level c .buffer) j))) counts-on
@@ -133,19 +135,28 @@ sent-on level send read back =
       digits = λ j hj. sym (back .digits j hj) ∙ sym (digits-on level (on .0) (on .1) read (back .accepted) j);
     }
 
--- where each of the four tributaries comes out of two readings the same, what they leave carries the same
+-- where each of the four tributaries comes out of two readings the same, so do all counts and all dissent
+pub alike-answers : (level : ℕ) (a b : Lent) → ReadAccepted level a → ((k : ℕ) → k < 4 → ReadsSame level k a b)
+    → (readCounts level a ≡ readCounts level b) × (readDissent level a ≡ readDissent level b)
+alike-answers level a b ok same =
+    let on = read-level level a ok in
+    let one = fours level (on .0) (on .1) a ok in
+    let two = fours level (on .0) (on .1) b (same 0 (lit< tt) .accepted) in (
+      ext-getD 0 (readCounts level a) (readCounts level b) (one .0 ∙ sym (two .0)) (λ k h. same k (omega (arith, one .0)) .counted),
+      ext-getD 0 (readDissent level a) (readDissent level b) (one .1 ∙ sym (two .1)) (λ k h. same k (omega (arith, one .1)) .dissenting),
+    )
+
+-- and what they leave carries the same
 pub alike-on : (level : ℕ) (a b : Lent) → ReadAccepted level a → ((k : ℕ) → k < 4 → ReadsSame level k a b) → SendsSame level (sentOn level a) (sentOn level b)
 alike-on level a b ok same =
     let on = read-level level a ok in
     let row = on .0 in
     let e = on .1 in
     let ok-b = same 0 (lit< tt) .accepted in
-    let fours = four-counts level row e a ok in
-    let counts = ext-getD 0 (readCounts level a) (readCounts level b) (fours ∙ sym (four-counts level row e b ok-b)) (λ k h. same k (omega (arith, fours)) .counted) in
     record {
       frames = same 0 (lit< tt) .frames;
       decided = λ j f hj hf. same j hj .decided f (omega (arith, read-frames level row e a ok));
-      counted = counts-on level row e a ok ∙ counts ∙ sym (counts-on level row e b ok-b);
+      counted = counts-on level row e a ok ∙ alike-answers level a b ok same .0 ∙ sym (counts-on level row e b ok-b);
       digits = λ j hj. digits-on level row e a ok j ∙ same j hj .digits ∙ sym (digits-on level row e b ok-b j);
     }
 

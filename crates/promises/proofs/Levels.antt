@@ -11,9 +11,10 @@ use lib.Dec.{eqb, leb}
 use lib.ListN.{length, getD}
 use lib.Arith.{digits-lt}
 use borrow.Author.Tests.{le-leb, lt-leb, not-true}
-use Rattle.digits.specs.Digits.{digitsOf, tab}
+use Rattle.digits.specs.Digits.{digitsOf, tab, differing}
 use Rattle.digits.proofs.Laws.{digits-binary, map-append, tab-at, tab-length}
 use Rattle.digits.proofs.Lists.{tab-more}
+use Rattle.digits.proofs.Sums.{sum-same}
 use Rattle.levels.specs.declared.table.Row.{Row}
 use Rattle.levels.specs.declared.table.Level.the-variants.{Of}
 use Rattle.levels.specs.declared.places.Kind.{Kind}
@@ -26,13 +27,13 @@ use Rattle.levels.proofs.Positions.{stands, pos-of-sum, in-frame}
 use Rattle.levels.proofs.Columns.{frame-start}
 use Rattle.levels.proofs.Ways.{kind-first, kind-control, kind-justification, kind-between, kind-after}
 use Rattle.multiplex.proofs.Own.{head-not-own, head-pos, own-past}
-use Rattle.promises.specs.Damage.{kept, liberty, libertyAt, allowed, Damage, ownPlace}
-use Rattle.promises.specs.Calls.{Lent, sentLine, DamageAt}
-use Rattle.promises.specs.Plain.{OutOfFours, digitsAfter, Changed, DemandThree}
+use Rattle.promises.specs.Damage.{kept, liberty, libertyAt, groupAt, allowed, Damage, controlsChanged, ownPlace}
+use Rattle.promises.specs.Calls.{Lent, sentLine, readDissent, DamageAt, DissentAt}
+use Rattle.promises.specs.Plain.{OutOfFours, digitsAfter, Changed, controlsDiffering, DemandThree}
 use Rattle.promises.proofs.Sent.{whose}
 use Rattle.promises.proofs.Recovered.{kept-carries}
 use Rattle.promises.proofs.Accepted.{shared}
-use Rattle.promises.proofs.Calls.{on-damage, sends-same, send-returned, others-outside}
+use Rattle.promises.proofs.Calls.{on-damage, sends-same, send-returned, send-dissent, others-outside}
 
 -- what is kept is an own place
 kept-own : (k : Kind) (st : Bool) → liberty k st ≡ kept → isOwn k ≡ true
@@ -192,11 +193,25 @@ module _ (level : ℕ) (row : Row) (e : levelOf level ≡ Of row) where
       → DamageAt level (send .notes) (sentLine level send) received
   damage-at send received c = on-damage level row e (send .notes) (sentLine level send) received (changed-damage row sh level send received c)
 
+  dissent-plain : (dissent : List ℕ) (F : ℕ) (sent received : List ℕ) → DissentAt level dissent F sent received → (j : ℕ) → j < 4
+      → getD dissent j 0 ≡ controlsDiffering (row .digits) (controls row sh) F (digitsOf sent) (digitsOf received) j
+  dissent-plain dissent F sent received said j hj =
+      let at : (ds : List ℕ) (f : ℕ) → groupAt row ds f j ≡ digitsAfter ds (f * row .digits + j) (controls row sh) = λ ds f. group-after row sh ds (f * row .digits) j (row .control) in
+      let row-said : (j : ℕ) → j < 4 → getD dissent j 0 ≡ controlsChanged row F (digitsOf sent) (digitsOf received) j = rw e at said in
+      row-said j hj
+      ∙ sum-same F (λ (f : ℕ). differing (groupAt row (digitsOf sent) f j) (groupAt row (digitsOf received) f j))
+      (λ (f : ℕ).
+      differing (digitsAfter (digitsOf sent) (f * row .digits + j) (controls row sh)) (digitsAfter (digitsOf received) (f * row .digits + j) (controls row sh)))
+      (λ f hf. rw (at (digitsOf sent) f, at (digitsOf received) f))
+
   pub demand-three : DemandThree level (row .digits) (row .room) (row .first) (controls row sh) (justification row sh) (allowed row)
   demand-three =
       record {
         same = λ a b received other ok-a ok-b ca cb. sends-same level a b ok-a ok-b received other (damage-at a received ca) (damage-at b other cb);
         returned = λ send read ok lent c. send-returned level send read ok (rw e lent) (damage-at send (read .line) c);
+        dissent = λ send read ok lent c.
+            dissent-plain (readDissent level read) (length (send .notes)) (sentLine level send) (read .line)
+            (send-dissent level send read ok (rw e lent) (damage-at send (read .line) c));
         others = λ j k a b ok lent. others-outside level j k a b ok (rw e lent);
       }
 

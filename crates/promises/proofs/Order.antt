@@ -9,6 +9,7 @@ use native.Mathlib.Numerals.{add-one}
 use lib.ListN.{length, getD, take}
 use lib.Seq.{take-suc}
 use Rattle.digits.proofs.Laws.{map-append}
+use Rattle.digits.proofs.Sums.{sum-same}
 use Rattle.levels.specs.declared.table.Row.{Row}
 use Rattle.levels.specs.Table.{Shared}
 use Rattle.levels.specs.Places.{posOf}
@@ -41,9 +42,7 @@ module _ (row : Row) (sh : Shared row) (F j : ℕ) (jh : j < 4) where
 
 -- the counts too
 stuffed-same : (d e : ℕ → Bool) (F : ℕ) → ((f : ℕ) → f < F → d f ≡ e f) → stuffedTo d F ≡ stuffedTo e F
-unfolding stuffedTo
-stuffed-same d e zero same = refl
-stuffed-same d e (suc F) same = rw (stuffed-same d e F (λ f h. same f (omega arith)), same F (omega arith))
+stuffed-same d e F same = sum-same F (λ (f : ℕ). cond (d f) 1 0) (λ (f : ℕ). cond (e f) 1 0) (λ f h. rw (same f h))
 
 pub count-same : (row : Row) (d e : ℕ → Bool) (F : ℕ) → ((f : ℕ) → f < F → d f ≡ e f) → countOf row d F ≡ countOf row e F
 unfolding countOf

@@ -7,6 +7,7 @@ use Prim.Native.Nat.{ℕ, _+_, _*_, _%_, _<_}
 use native.Mathlib.Omega.{arith}
 use lib.ListN.{getD}
 use Rattle.digits.specs.Digits.{Binary}
+use Rattle.digits.proofs.Sums.{sum-same}
 use Rattle.levels.proofs.Groups.{group-same}
 use Rattle.levels.specs.declared.table.Row.{Row}
 use Rattle.levels.specs.declared.vote.Vote.{Vote}
@@ -55,4 +56,5 @@ module _ (row : Row) (sh : Shared row) (F j : ℕ) (ds es : List ℕ) (bin-ds : 
         decided = same-decision;
         counted = count-same row (decisions (notesOf row ds F) k) (decisions (notesOf row es F) k) F same-decision;
         digits = same-digits;
+        dissenting = sum-same F (λ (f : ℕ). voteAt row ds f k .dissent) (λ (f : ℕ). voteAt row es f k .dissent) (λ f hf. ap (λ (v : Vote). v .dissent) (same-vote f hf));
       }

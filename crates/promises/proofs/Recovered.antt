@@ -7,6 +7,7 @@ use Prim.Native.Nat.{ℕ, _+_, _*_, _%_, _<_}
 use native.Mathlib.Omega.{arith}
 use lib.ListN.{length, getD, take}
 use Rattle.digits.specs.Digits.{Binary, differing}
+use Rattle.digits.proofs.Sums.{sum-same}
 use Rattle.levels.proofs.Groups.{group-binary, differing-votes}
 use Rattle.levels.specs.declared.table.Row.{Row}
 use Rattle.levels.specs.declared.vote.Vote.{Vote}
@@ -19,9 +20,9 @@ use Rattle.levels.specs.Vote.{votesFor}
 use Rattle.levels.proofs.Columns.{columns}
 use Rattle.levels.proofs.Counts.{line-count, count-room}
 use Rattle.levels.proofs.Majority.{group-length, vote-stands}
-use Rattle.demultiplex.specs.Notes.{voteAt, notesOf}
+use Rattle.demultiplex.specs.Notes.{voteAt, notesOf, dissentTo}
 use Rattle.demultiplex.specs.Extract.{takenTo}
-use Rattle.promises.specs.Damage.{kept, liberty, libertyAt, groupAt, Damage, lineDigits}
+use Rattle.promises.specs.Damage.{kept, liberty, libertyAt, groupAt, Damage, controlsChanged, lineDigits}
 use Rattle.promises.specs.Carried.{digitsRead, digitsSent, countSent, Room, Returned}
 use Rattle.promises.proofs.Sent.{sent-group, sent-carried}
 use Rattle.promises.proofs.Reading.{decisions-read}
@@ -66,6 +67,12 @@ module _ (row : Row) (sh : Shared row) (F : ℕ) where
 
     pub decision-kept : (f j : ℕ) → f < F → j < 4 → decisions (notesOf row ds F) j f ≡ decisions notes j f
     decision-kept f j hf hj = decisions-read row ds (damage .digits) F f j hf hj ∙ ap (λ (v : Vote). v .stuffed) (vote-kept f j hf hj)
+
+    -- so as many digits of a tributary dissent as its control digits were changed
+    pub dissent-changed : (j : ℕ) → j < 4 → dissentTo row ds j F ≡ controlsChanged row F sent ds j
+    dissent-changed j hj =
+        sum-same F (λ (f : ℕ). voteAt row ds f j .dissent) (λ (f : ℕ). differing (groupAt row sent f j) (groupAt row ds f j))
+        (λ f hf. ap (λ (v : Vote). v .dissent) (vote-kept f j hf hj))
 
     -- a digit that a place of tributary j carries has come as it was sent
     pub digit-kept : (j : ℕ) → j < 4 → (x : ℕ) → x < F * columns row → carries row (decisions notes j) (4 * x + j) ≡ true

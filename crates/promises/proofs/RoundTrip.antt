@@ -1,33 +1,41 @@
 -- The round trip: what was multiplexed comes back from the undamaged line, whole notes, counts and digits; no alignment digit differs
--- and every group is unanimous. The undamaged line is one that damage may leave, so that decisions and digits need no proof of their own.
-use mathlib.Core.Path.{_≡_, refl, sym}
+-- and no control digit dissents. The undamaged line is one that damage may leave, so that decisions and digits need no proof of their own.
+use mathlib.Core.Path.{_≡_, refl, sym, _∙_, ap}
+use mathlib.Core.Bool.{cond}
 use mathlib.Core.List.{List}
-use Prim.Native.Nat.{ℕ, zero, suc, _+_, _*_, _/_, _%_, _^_, _≤_, _<_}
+use Prim.Native.Nat.{ℕ, _+_, _*_, _/_, _%_, _^_, _<_}
 use native.Mathlib.Omega.{arith}
 use native.Mathlib.Decide.{decLe}
-use native.Mathlib.Nat.{div-eq-of-lt}
-use lib.Dec.{lit<}
+use native.Mathlib.Nat.{div-eq-of-lt, mul-zero}
+use lib.Dec.{eqb, lit<}
 use lib.ListN.{getD}
 use lib.Pow.{pow-mono}
 use borrow.Author.Tests.{le-leb, lt-leb, eq-eqb}
 use Rattle.digits.specs.Digits.{Binary}
+use Rattle.digits.specs.Sums.{sumTo}
 use Rattle.digits.proofs.Laws.{tab-of, tab-length, tab-binary}
 use Rattle.digits.proofs.Lists.{differing-self, byte-of-bits}
+use Rattle.digits.proofs.Sums.{sum-all}
 use Rattle.levels.specs.declared.table.Row.{Row}
+use Rattle.levels.specs.declared.vote.Vote.{Vote}
 use Rattle.levels.specs.declared.places.Kind.{Kind}
 use Rattle.levels.specs.declared.places.Kind.the-variants.{Word, Service, Control, Justification, Tributary}
 use Rattle.levels.specs.Table.{Shared}
 use Rattle.levels.specs.Places.{kindAt, posOf}
 use Rattle.levels.specs.Order.{stuffed, decisions, carried, before}
-use Rattle.levels.specs.Word.{wordDigit, wrongTo}
+use Rattle.levels.specs.Word.{wordDigit, wrongDigits}
 use Rattle.levels.proofs.Choice.{cond-by}
 use Rattle.levels.proofs.Majority.{digit-counts}
 use Rattle.multiplex.specs.Line.{digitBy, lineDigit}
-use Rattle.demultiplex.specs.Notes.{voteAt, serviceAt, bitOf, noteOf, alignmentTo, splitIn, splitTo}
+use Rattle.demultiplex.specs.Notes.{voteAt, serviceAt, bitOf, noteOf}
 use Rattle.promises.specs.Damage.{Damage, groupAt, lineDigits}
 use Rattle.promises.specs.Carried.{Sound, CameBack}
 use Rattle.promises.proofs.Sent.{sent-word, sent-service}
 use Rattle.promises.proofs.Recovered.{vote-kept, damage-recovered}
+
+-- a sum of nothing
+none : (n : ℕ) (g : ℕ → ℕ) → ((i : ℕ) → i < n → g i ≡ 0) → sumTo n g ≡ 0
+none n g zeros = sum-all n 0 g zeros ∙ mul-zero n
 
 -- every digit of a line is a digit
 digit-small : (row : Row) (note j r next : ℕ) → next < 2 → (k : Kind) → digitBy row note j r next k < 2
@@ -87,32 +95,16 @@ module _ (row : Row) (sh : Shared row) (F : ℕ) (notes : List ℕ) (tributary :
         rw (bit-back 0 (lit< tt), bit-back 1 (lit< tt), bit-back 2 (lit< tt), bit-back 3 (lit< tt), service-back 0, service-back 1, service-back 2, service-back 3)
         (byte-of-bits note (omega (arith, sound .notes-fit f hf, pow-mono {i = 5 + row .nationals} {j = 8} (omega (arith, sh .few-national)))))
 
-    word-back : (k : ℕ) → k ≤ row .len → wrongTo row line (f * row .digits) k ≡ 0
-    unfolding wrongTo
-    word-back zero h = refl
-    word-back (suc k) h =
-        let e = sent-word row sh notes tributary F f k (f * row .digits + k) hf h refl in
-        rw (word-back k (omega arith), eq-eqb (getD line (f * row .digits + k) 0) (wordDigit row k) e)
-
-    split-back : splitIn row line f ≡ 0
-    unfolding splitIn
-    split-back = rw (vote-back 0 (lit< tt), vote-back 1 (lit< tt), vote-back 2 (lit< tt), vote-back 3 (lit< tt))
-
-  aligned-to : (f : ℕ) → f ≤ F → alignmentTo row line f ≡ 0
-  unfolding alignmentTo
-  aligned-to zero h = refl
-  aligned-to (suc f) h = omega (arith, aligned-to f (omega arith), word-back f h (row .len) (omega arith))
-
-  unanimous-to : (f : ℕ) → f ≤ F → splitTo row line f ≡ 0
-  unfolding splitTo
-  unanimous-to zero h = refl
-  unanimous-to (suc f) h = omega (arith, unanimous-to f (omega arith), split-back f h)
+    word-back : wrongDigits row line (f * row .digits) ≡ 0
+    word-back =
+        none (row .len) (λ (k : ℕ). cond (eqb (getD line (f * row .digits + k) 0) (wordDigit row k)) 0 1)
+        (λ k h. rw (eq-eqb (getD line (f * row .digits + k) 0) (wordDigit row k) (sent-word row sh notes tributary F f k (f * row .digits + k) hf h refl)))
 
   pub round-trip : CameBack row F notes tributary line
   round-trip =
       record {
         noted = sym (tab-of notes F (noteOf row line) (sound .all-noted) (λ f hf. sym (note-back f hf)));
         returned = damage-recovered row sh F notes tributary line undamaged (sound .room);
-        aligned = aligned-to F (omega arith);
-        unanimous = unanimous-to F (omega arith);
+        aligned = none F (λ (f : ℕ). wrongDigits row line (f * row .digits)) word-back;
+        unanimous = λ j hj. none F (λ (f : ℕ). voteAt row line f j .dissent) (λ f hf. ap (λ (v : Vote). v .dissent) (vote-back f hf j hj));
       }

@@ -3,15 +3,17 @@ use mathlib.Core.Path.{_≡_}
 use mathlib.Core.Logic.{_≢_}
 use mathlib.Core.Bool.{Bool, cond, not}
 use mathlib.Core.List.{List, [], _∷_, _++_}
-use Prim.Native.Nat.{ℕ, zero, suc, _+_, _*_, _-_, _<_}
+use Prim.Native.Nat.{ℕ, _+_, _*_, _-_, _<_}
 use lib.Dec.{leb}
 use lib.ListN.{getD, replicate}
 use Rattle.digits.specs.Digits.{tab, digitsOf, differing}
+use Rattle.digits.specs.Sums.{sumTo}
 use Rattle.levels.specs.declared.table.Row.{Row}
 use Rattle.levels.specs.Places.{posOf}
 use Rattle.levels.specs.Order.{decisions}
+use Rattle.demultiplex.specs.Notes.{dissentTo}
 use Rattle.demultiplex.specs.Demultiplex.{demultiplexed, bufferAfter}
-use Rattle.promises.specs.Damage.{Liberty, at-will, counted, kept, libertyAt, allowed, DamageUpTo, Damage, lineDigits}
+use Rattle.promises.specs.Damage.{Liberty, at-will, counted, kept, libertyAt, allowed, DamageUpTo, Damage, controlsChanged, lineDigits}
 use Rattle.promises.specs.Carried.{Sound}
 use Rattle.promises.specs.Calls.{Lent, SendAccepted, sentLine, readNotes, DamageAt, SendReturned}
 
@@ -26,9 +28,8 @@ spoilt row notes change F sent =
     tab (F * row .digits) 0 (λ (p : ℕ). inverted (libertyAt row notes p) (change (posOf row p .set)) (getD sent p 0))
 
 -- how many of the k sets after the first are changed
-unfoldable pub changes : (ℕ → Bool) → ℕ → ℕ
-changes change zero = 0
-changes change (suc k) = changes change k + cond (change (k + 1)) 1 0
+abbrev pub changes : (ℕ → Bool) → ℕ → ℕ
+changes change k = sumTo k (λ (s : ℕ). cond (change (s + 1)) 1 0)
 
 -- as many sets as digits of a group may be changed: the first so many after the first set, or all after them
 abbrev pub early : Row → ℕ → Bool
@@ -48,13 +49,16 @@ abbrev pub idle : Row → ℕ → ℕ → List ℕ
 idle row F j = replicate (F * row .room) 0
 
 -- the border: both are sound sends, they differ in every decision, and there is a line that comes from the one by damage and from the other by
--- one control digit more of each group
+-- one control digit more of each group. Dissent is counted from the majority and not from what was sent: it is the number of digits that were changed
+-- of the one, and the other had more changed
 pub record Border (row : Row) (F : ℕ) : Type 0 where
   pub line : List ℕ
   pub sound-one : Sound row F (noneStuffed F) (idle row F)
   pub sound-other : Sound row F (allStuffed F) (idle row F)
   pub from-one : Damage row (noneStuffed F) F (lineDigits row (noneStuffed F) (idle row F) F) line
   pub from-other : DamageUpTo (allowed row + 1) row (allStuffed F) F (lineDigits row (allStuffed F) (idle row F) F) line
+  pub dissenting : (j : ℕ) → j < 4 → dissentTo row line j F ≡ F * allowed row
+  pub changed-other : (j : ℕ) → j < 4 → controlsChanged row F (lineDigits row (allStuffed F) (idle row F) F) line j ≡ F * (allowed row + 1)
   pub differ : (j f : ℕ) → j < 4 → f < F → decisions (noneStuffed F) j f ≢ decisions (allStuffed F) j f
 
 -- one frame at 8448 kbit/s, stuffed for tributary 1, whose digit 154 is 1, all others 0: the line that is left, and that line damaged in every
@@ -74,13 +78,13 @@ abbrev pub exampleRead : Lent
 exampleRead = record { line = exampleDamaged; notes = 0xFF ∷ []; buffer = replicate 104 0xFF }
 
 -- ten digits of the word, two service digits, four control digits and a stuffing digit differ: all the send's decision leaves free. The
--- reading counts the ten and the four; its note has the send's decision, and the service digits as they came; its buffer is the send's
+-- reading counts the ten, and a dissenting digit of each tributary; its note has the send's decision, and the service digits as they came; its buffer is the send's
 pub record Example : Type 0 where
   pub accepted : SendAccepted 2 exampleSend
   pub leaves : sentLine 2 exampleSend ≡ exampleLine
   pub damaged : DamageAt 2 (exampleSend .notes) (sentLine 2 exampleSend) exampleDamaged
   pub seventeen : differing (digitsOf exampleLine) (digitsOf exampleDamaged) ≡ 17
   pub returned : SendReturned 2 exampleSend exampleRead
-  pub answers : demultiplexed 2 exampleDamaged 1 104 ≡ record { refusal = 0; counts = 205 ∷ 206 ∷ 206 ∷ 206 ∷ []; alignment = 10; groups = 4 }
+  pub answers : demultiplexed 2 exampleDamaged 1 104 ≡ record { refusal = 0; counts = 205 ∷ 206 ∷ 206 ∷ 206 ∷ []; alignment = 10; dissent = 1 ∷ 1 ∷ 1 ∷ 1 ∷ [] }
   pub noted : readNotes 2 exampleRead ≡ 0x31 ∷ []
   pub filled : bufferAfter 2 exampleDamaged 1 (exampleRead .buffer) ≡ exampleSend .buffer

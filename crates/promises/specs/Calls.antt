@@ -3,7 +3,7 @@
 -- that it answered refusal 0. A reading is lent enough, and that it is accepted is part of what is said. Levels are the numbers 2, 3 and 4;
 -- tributaries are counted from 0.
 use mathlib.Core.Path.{_≡_}
-use mathlib.Core.List.{List}
+use mathlib.Core.List.{List, [], _∷_}
 use Prim.Native.Nat.{ℕ, _*_, _/_, _%_, _≤_, _<_}
 use lib.ListN.{length, getD, take}
 use Rattle.digits.specs.Digits.{digitsOf}
@@ -13,7 +13,7 @@ use Rattle.levels.specs.Sizes.{onLevel, quarterOf}
 use Rattle.levels.specs.Order.{decisions}
 use Rattle.multiplex.specs.Multiplex.{multiplexed, lineAfter}
 use Rattle.demultiplex.specs.Demultiplex.{demultiplexed, notesAfter, bufferAfter}
-use Rattle.promises.specs.Damage.{Damage, SameBut}
+use Rattle.promises.specs.Damage.{Damage, SameBut, controlsChanged}
 
 -- what is lent to a call, as it was at the call's entry
 pub record Lent : Type 0 where
@@ -34,7 +34,8 @@ sentCounts level c = multiplexed level (length (c .line)) (c .notes) (length (c 
 abbrev pub sentDigits : ℕ → Lent → ℕ → List ℕ
 sentDigits level c j = take (getD (sentCounts level c) j 0) (digitsOf (quarterOf (c .buffer) j))
 
--- demultiplexing: it was accepted; the notes it leaves; the counts it answers; the digits of tributary j that it leaves and counts
+-- demultiplexing: it was accepted; the notes it leaves; the counts it answers; the digits of tributary j that it leaves and counts; how many
+-- digits of each tributary dissented
 abbrev pub ReadAccepted : ℕ → Lent → Type 0
 ReadAccepted level c = demultiplexed level (c .line) (length (c .notes)) (length (c .buffer)) .refusal ≡ 0
 
@@ -47,6 +48,9 @@ readCounts level c = demultiplexed level (c .line) (length (c .notes)) (length (
 abbrev pub readDigits : ℕ → Lent → ℕ → List ℕ
 readDigits level c j =
     take (getD (readCounts level c) j 0) (digitsOf (quarterOf (bufferAfter level (c .line) (length (c .notes)) (c .buffer)) j))
+
+abbrev pub readDissent : ℕ → Lent → List ℕ
+readDissent level c = demultiplexed level (c .line) (length (c .notes)) (length (c .buffer)) .dissent
 
 -- what a reading leaves, sent on: multiplexing is lent the notes and the buffer as demultiplexing leaves them, and a line of that length
 abbrev pub sentOn : ℕ → Lent → Lent
@@ -86,17 +90,23 @@ pub record SendReturned (level : ℕ) (send read : Lent) : Type 0 where
   pub counted : readCounts level read ≡ sentCounts level send
   pub digits : (j : ℕ) → j < 4 → readDigits level read j ≡ sentDigits level send j
 
+-- and how split each vote was: of every tributary as many digits dissent as its control digits were changed, between two lines of F frames
+abbrev pub DissentAt : ℕ → List ℕ → ℕ → List ℕ → List ℕ → Type 0
+DissentAt level dissent F sent received =
+    onLevel (levelOf level) (λ (row : Row). (j : ℕ) → j < 4 → getD dissent j 0 ≡ controlsChanged row F (digitsOf sent) (digitsOf received) j) ⊥
+
 -- the round trip: the whole notes too, and no error is counted
 pub record SendBack (level : ℕ) (send read : Lent) : Type 0 where
   pub noted : readNotes level read ≡ send .notes
   pub returned : SendReturned level send read
   pub aligned : demultiplexed level (read .line) (length (read .notes)) (length (read .buffer)) .alignment ≡ 0
-  pub unanimous : demultiplexed level (read .line) (length (read .notes)) (length (read .buffer)) .groups ≡ 0
+  pub unanimous : readDissent level read ≡ 0 ∷ 0 ∷ 0 ∷ 0 ∷ []
 
--- "come out as before: digits, numbers of digits and decisions", of tributary k
+-- "come out as before: digits, numbers of digits and decisions", of tributary k; "Demand 3's last part now covers dissent too"
 pub record ReadsSame (level k : ℕ) (a b : Lent) : Type 0 where
   pub accepted : ReadAccepted level b
   pub frames : length (readNotes level a) ≡ length (readNotes level b)
   pub decided : (f : ℕ) → f < length (a .notes) → decisions (readNotes level a) k f ≡ decisions (readNotes level b) k f
   pub counted : getD (readCounts level a) k 0 ≡ getD (readCounts level b) k 0
   pub digits : readDigits level a k ≡ readDigits level b k
+  pub dissenting : getD (readDissent level a) k 0 ≡ getD (readDissent level b) k 0

@@ -1,6 +1,6 @@
 -- What demand 3 says of a send and of the reading, over the level's row: "the same decisions and the same digits of every tributary, in order,
--- and demultiplexing returns them"; "the other three come out as before: digits, numbers of digits and decisions". specs/Calls.antt says it of
--- the calls, and of two sends. Tributaries are counted from 0. ds and es are the digits of lines of F frames.
+-- and demultiplexing returns them"; "the other three come out as before: digits, numbers of digits and decisions", and by request 2 dissent.
+-- specs/Calls.antt says it of the calls, and of two sends. Tributaries are counted from 0. ds and es are the digits of lines of F frames.
 use mathlib.Core.Path.{_≡_}
 use mathlib.Core.Bool.{Bool}
 use mathlib.Core.List.{List}
@@ -9,7 +9,7 @@ use lib.ListN.{length, getD, take}
 use Rattle.digits.specs.Digits.{Binary}
 use Rattle.levels.specs.declared.table.Row.{Row}
 use Rattle.levels.specs.Order.{decisions, countOf}
-use Rattle.demultiplex.specs.Notes.{voteAt, notesOf, alignmentTo, splitTo}
+use Rattle.demultiplex.specs.Notes.{voteAt, notesOf, alignmentTo, dissentTo}
 use Rattle.demultiplex.specs.Extract.{takenTo}
 
 -- what a send with these notes and these tributaries' digits carries of tributary j: its number of digits, and its digits
@@ -52,11 +52,12 @@ pub record CameBack (row : Row) (F : ℕ) (notes : List ℕ) (tributary : ℕ �
   pub noted : notesOf row ds F ≡ notes
   pub returned : Returned row F notes tributary ds
   pub aligned : alignmentTo row ds F ≡ 0
-  pub unanimous : splitTo row ds F ≡ 0
+  pub unanimous : (j : ℕ) → j < 4 → dissentTo row ds j F ≡ 0
 
--- tributary k comes out of two lines as one: its votes, with how many digits dissent, its decisions, its number of digits, its digits
+-- tributary k comes out of two lines as one: its votes, its decisions, its number of digits, its digits, its dissenting digits
 pub record SameRead (row : Row) (F k : ℕ) (ds es : List ℕ) : Type 0 where
   pub voted : (f : ℕ) → f < F → voteAt row ds f k ≡ voteAt row es f k
   pub decided : (f : ℕ) → f < F → decisionRead row F ds k f ≡ decisionRead row F es k f
   pub counted : countRead row F ds k ≡ countRead row F es k
   pub digits : digitsRead row F ds k ≡ digitsRead row F es k
+  pub dissenting : dissentTo row ds k F ≡ dissentTo row es k F

@@ -8,6 +8,7 @@ use Prim.Native.Nat.{ℕ, _+_, _*_, _/_, _%_, _≤_, _<_}
 use lib.Dec.{eqb}
 use lib.ListN.{length, getD}
 use Rattle.digits.specs.Digits.{tab, Binary, differing}
+use Rattle.digits.specs.Sums.{sumTo}
 use Rattle.levels.specs.declared.table.Row.{Row}
 use Rattle.levels.specs.declared.places.Kind.{Kind}
 use Rattle.levels.specs.declared.places.Kind.the-variants.{Word, Service, Control, Justification, Tributary}
@@ -49,6 +50,10 @@ pub record DamageUpTo (most : ℕ) (row : Row) (notes : List ℕ) (F : ℕ) (sen
 -- by damage
 abbrev pub Damage : Row → List ℕ → ℕ → List ℕ → List ℕ → Type 0
 Damage row = DamageUpTo (allowed row) row
+
+-- how many control digits of tributary j (from 0) differ between two lines of F frames
+abbrev pub controlsChanged : Row → ℕ → List ℕ → List ℕ → ℕ → ℕ
+controlsChanged row F sent received j = sumTo F (λ (f : ℕ). differing (groupAt row sent f j) (groupAt row received f j))
 
 -- the digits of the line that is sent with these notes and these tributaries' digits, F frames
 abbrev pub lineDigits : Row → List ℕ → (ℕ → List ℕ) → ℕ → List ℕ

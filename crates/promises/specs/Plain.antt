@@ -8,8 +8,9 @@ use mathlib.Core.List.{List, map}
 use Prim.Native.Nat.{ℕ, _+_, _*_, _-_, _%_, _≤_, _<_}
 use lib.ListN.{length, getD}
 use Rattle.digits.specs.Digits.{digitsOf, differing}
+use Rattle.digits.specs.Sums.{sumTo}
 use Rattle.levels.specs.Order.{decisions}
-use Rattle.promises.specs.Calls.{Lent, SendAccepted, sentLine, ReadAccepted, LentFor, SendsSame, SendReturned, ReadsSame}
+use Rattle.promises.specs.Calls.{Lent, SendAccepted, sentLine, ReadAccepted, readDissent, LentFor, SendsSame, SendReturned, ReadsSame}
 
 -- place r is none of the four that begin at one of these numbers
 abbrev pub OutOfFours : ℕ → List ℕ → Type 0
@@ -30,6 +31,10 @@ pub record Changed (level N head : ℕ) (controls : List ℕ) (justification mos
   pub few : (f j : ℕ) → f < length (send .notes) → j < 4
       → differing (digitsAfter (digitsOf (sentLine level send)) (f * N + j) controls) (digitsAfter (digitsOf received) (f * N + j) controls) ≤ most
 
+-- how many control digits of tributary j differ between two lines of F frames
+abbrev pub controlsDiffering : ℕ → List ℕ → ℕ → List ℕ → List ℕ → ℕ → ℕ
+controlsDiffering N controls F sent received j = sumTo F (λ (f : ℕ). differing (digitsAfter sent (f * N + j) controls) (digitsAfter received (f * N + j) controls))
+
 -- two lines with the same digit at every place whose remainder by four is not j. Tributary j's own places have the remainder j, so whatever
 -- is changed in them is allowed, and a change of the head's places of that remainder too
 abbrev pub SameOutside : ℕ → List ℕ → List ℕ → Type 0
@@ -44,6 +49,9 @@ pub record DemandThree (level N n head : ℕ) (controls : List ℕ) (justificati
   -- "and demultiplexing returns them.": it is accepted if it is lent as many notes, and quarters with room for n digits of each frame
   pub returned : (send read : Lent) → SendAccepted level send → LentFor n send read → Changed level N head controls justification most send (read .line)
       → SendReturned level send read
+  -- and of every tributary as many digits dissent as its control digits were changed
+  pub dissent : (send read : Lent) → SendAccepted level send → LentFor n send read → Changed level N head controls justification most send (read .line) → (j : ℕ) → j < 4
+      → getD (readDissent level read) j 0 ≡ controlsDiffering N controls (length (send .notes)) (digitsOf (sentLine level send)) (digitsOf (read .line)) j
   -- "Further, in any line, whatever is changed in one tributary's own places, the other three come out as before"
   pub others : (j k : ℕ) (a b : Lent) → ReadAccepted level a → LentFor n a b → length (a .line) ≡ length (b .line) → SameOutside j (a .line) (b .line)
       → k < 4 → k ≢ j → ReadsSame level k a b

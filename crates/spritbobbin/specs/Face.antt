@@ -24,10 +24,11 @@ use Rattle.captures.specs.Captures.{writtenOf, leftOf, readOf}
 abbrev pub sentAnswer : Multiplexed → List ℕ
 sentAnswer m = getD (m .counts) 0 0 ∷ getD (m .counts) 1 0 ∷ getD (m .counts) 2 0 ∷ getD (m .counts) 3 0 ∷ m .frame ∷ []
 
--- answer: four digit counts, named frame (0), alignment digits that differ, control groups not unanimous
+-- answer: four digit counts, named frame (0), alignment digits that differ, dissenting digits of tributaries 1 to 4
 abbrev pub receivedAnswer : Demultiplexed → List ℕ
 receivedAnswer d =
-    getD (d .counts) 0 0 ∷ getD (d .counts) 1 0 ∷ getD (d .counts) 2 0 ∷ getD (d .counts) 3 0 ∷ 0 ∷ d .alignment ∷ d .groups ∷ []
+    getD (d .counts) 0 0 ∷ getD (d .counts) 1 0 ∷ getD (d .counts) 2 0 ∷ getD (d .counts) 3 0 ∷ 0 ∷ d .alignment
+    ∷ getD (d .dissent) 0 0 ∷ getD (d .dissent) 1 0 ∷ getD (d .dissent) 2 0 ∷ getD (d .dissent) 3 0 ∷ []
 
 -- mode: 0 hunting, 1 one found, 2 two found, 3 + m aligned with m missed
 abbrev pub modeNumber : Mode → ℕ

@@ -43,10 +43,11 @@ pub extern "C" fn spritbobbin_multiplex(
     sent.refusal
 }
 
-fn received_numbers(d: Demultiplexed) -> [u64; 7]
+fn received_numbers(d: Demultiplexed) -> [u64; 10]
     ensures { λ r. ⌜ r ≡ receivedAnswer d ⌝ }
 {
     let c = d.counts;
+    let e = d.dissent;
     [
         c[0] as u64,
         c[1] as u64,
@@ -54,18 +55,21 @@ fn received_numbers(d: Demultiplexed) -> [u64; 7]
         c[3] as u64,
         0,
         d.alignment as u64,
-        d.groups as u64,
+        e[0] as u64,
+        e[1] as u64,
+        e[2] as u64,
+        e[3] as u64,
     ]
 }
 
-// Demultiplexes; answer: four digit counts, named frame (0), alignment digits that differ, control groups not unanimous.
+// Demultiplexes; answer: four digit counts, named frame (0), alignment digits that differ, dissenting digits of tributaries 1 to 4.
 #[no_mangle]
 pub extern "C" fn spritbobbin_demultiplex(
     level: u64,
     line: &[u8],
     notes: &mut [u8],
     buffer: &mut [u8],
-    answer: &mut [u64; 7],
+    answer: &mut [u64; 10],
 ) -> u64
     ensures { λ r. ⌜
         DemultiplexMet level (now (line .entry)) (now (notes .entry)) (now (buffer .entry)) r (now (notes .exit)) (now (buffer .exit)) (now (answer .exit))

@@ -18,8 +18,8 @@ pub fn labelled(words: &[u8], n: usize) {
     counted(words, n as u64);
 }
 
-pub fn four(counts: [usize; 4]) {
-    labelled(b" counts ", counts[0]);
+pub fn four(label: &[u8], counts: [usize; 4]) {
+    labelled(label, counts[0]);
     labelled(b" ", counts[1]);
     labelled(b" ", counts[2]);
     labelled(b" ", counts[3]);

@@ -70,7 +70,7 @@ const SENDINGS: [Sending; 27] = [
 ];
 
 const RECEIVINGS: [Receiving; 10] = [
-    (2, 6784, 240, 64, 6592),
+    (2, 6784, 144, 64, 6592),
     (2, 6890, 0, 65, 6696),
     (2, 105, 0, 1, 104),
     (2, 106, 255, 1, 104),
@@ -194,11 +194,11 @@ fn receiving((level, line, fill, notes, buffer): Receiving) {
     let answer = demultiplex(level, &vec![fill; line], &mut list, &mut quarters);
     println!(
         "demultiplex level {level} line {line} fill {fill} notes {notes} \
-         buffer {buffer}: refusal {} counts {} alignment {} groups {} notes sum {} sum {}",
+         buffer {buffer}: refusal {} counts {} alignment {} dissent {} notes sum {} sum {}",
         answer.refusal,
         counts(answer.counts),
         answer.alignment,
-        answer.groups,
+        counts(answer.dissent),
         sum(&list),
         sum(&quarters),
     );

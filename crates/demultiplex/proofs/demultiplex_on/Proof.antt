@@ -34,16 +34,16 @@ extract-all-requires c κs =
 
 returns-2 : tie.Need-returns-2
 returns-2 c =
-    let c2 = c .before .before in
-    let c7 = c2 .before .before .before .before .before in
-    let c9 = c7 .before .before in
-    let c10 = c9 .before in
-    let c14 = c10 .before .before .before .before in
-    let a = c14 .args in
-    let read = c7 .read-notes in
-    let all = c2 .extract-all in
-    read-and-extracted (a .row) (a .line .now) (a .notes .now) (a .buffer .now) (sym (c10 .size-refusal .ensures) ∙ c9 .if1 .left)
-    (read .last .1 .1 .0) (all .last .1 .1 .1 .0) (all .result) (read .result .alignment) (read .result .groups) (read .ensures) (all .ensures)
+    let c3 = c .before .before .before in
+    let c8 = c3 .before .before .before .before .before in
+    let c10 = c8 .before .before in
+    let c11 = c10 .before in
+    let c15 = c11 .before .before .before .before in
+    let a = c15 .args in
+    let read = c8 .read-notes in
+    let all = c3 .extract-all in
+    read-and-extracted (a .row) (a .line .now) (a .notes .now) (a .buffer .now) (sym (c11 .size-refusal .ensures) ∙ c10 .if1 .left)
+    (read .last .1 .1 .0) (all .last .1 .1 .1 .0) (all .result) (read .result .alignment) (read .result .dissent) (read .ensures) (all .ensures)
 
 pub demultiplex-on-spec : {M : Type 1} → statement M
 demultiplex-on-spec =

@@ -14,11 +14,15 @@ fn table(counts: &Counts) -> String {
     text
 }
 
-fn wrong(taken: &Taken) -> String {
-    format!(
-        "alignment digits wrong: {}\ncontrol groups not unanimous: {}\n",
-        taken.alignment, taken.groups
-    )
+/// The same of frames taken apart, whose votes may have dissenting digits; then the words.
+fn table_and_errors(taken: &Taken) -> String {
+    let dissent = taken.dissent.map(|digits| format!("{digits:>13}"));
+    let columns = ["      dissent".into()].into_iter().chain(dissent);
+    let rows = table(&taken.counts);
+    let mut text: String =
+        rows.lines().zip(columns).map(|(row, column)| format!("{row}{column}\n")).collect();
+    text += &format!("alignment digits wrong: {}\n", taken.alignment);
+    text
 }
 
 pub fn written(paths: &[&str]) -> String {
@@ -31,7 +35,7 @@ pub fn sent(row: &Row, frames: usize, counts: &Counts) -> String {
 
 pub fn taken(row: &Row, taken: &Taken) -> String {
     let heading = format!("Level {}: {} frames taken apart.\n", row.level, taken.notes.len());
-    heading + &table(&taken.counts) + &wrong(taken)
+    heading + &table_and_errors(taken)
 }
 
 /// What find prints of a recording of so many bytes; `taken` is what its frames say.
@@ -42,8 +46,7 @@ pub fn found(row: &Row, bytes: usize, found: &Found, taken: &Taken) -> String {
     text += &events(row, &found.events);
     text += &format!("frames handed over: {}\n", found.frames.len());
     text += &format!("frames marked all-ones: {}\n", found.all_ones());
-    text += &table(&taken.counts);
-    text += &wrong(taken);
+    text += &table_and_errors(taken);
     text + &format!("at the end: {}\n", mode(found.mode))
 }
 

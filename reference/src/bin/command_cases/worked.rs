@@ -44,7 +44,7 @@ pub struct Taken {
     pub tributaries: [Vec<u8>; 4],
     pub counts: Counts,
     pub alignment: u64,
-    pub groups: u64,
+    pub dissent: [u64; 4],
 }
 
 /// Takes whole frames apart that stand one after the other.
@@ -54,9 +54,9 @@ pub fn take(row: &Row, line: &[u8]) -> Taken {
         let one = frame::take(row, &unpack(bytes, row.frame_digits));
         all.notes.push(one.note);
         all.alignment += one.alignment;
-        all.groups += one.groups;
-        for (digits, these) in all.tributaries.iter_mut().zip(&one.tributaries) {
-            digits.extend(these);
+        for (j, these) in one.tributaries.iter().enumerate() {
+            all.dissent[j] += one.dissent[j];
+            all.tributaries[j].extend(these);
         }
     }
     let digits = [0, 1, 2, 3].map(|j| all.tributaries[j].len());

@@ -82,7 +82,7 @@ impl Call {
     pub fn legend(&self) -> &'static str {
         match self {
             Call::Multiplex(_) => "four counts, frame",
-            Call::Demultiplex(_) => "four counts, frame, alignment, groups",
+            Call::Demultiplex(_) => "four counts, frame, alignment, dissent of four",
             Call::Fresh(_) => "level, window, seen, mode, place",
             Call::Feed(_) => "taken, ready, all-ones; level, window, seen, mode, place",
             Call::LineDigit(..) => "none",
@@ -163,7 +163,7 @@ fn multiplexed(mut with: Lending) -> Outcome {
 fn demultiplexed(mut with: Lending) -> Outcome {
     let answer = demultiplex(with.level, &with.line, &mut with.notes, &mut with.buffer);
     // Demultiplexing never names a frame; the face has a number for it that is 0.
-    let numbers = [&answer.counts[..], &[0, answer.alignment, answer.groups]].concat();
+    let numbers = [&answer.counts[..], &[0, answer.alignment], &answer.dissent].concat();
     outcome(answer.refusal, numbers, slices(with))
 }
 

@@ -112,7 +112,7 @@ fn demultiplex(with: &Lending) -> Outcome {
     let mut line = bytes("line", &with.line);
     let mut notes = bytes("notes", &with.notes);
     let mut buffer = bytes("buffer", &with.buffer);
-    let mut answer = numbers("answer", &[UNWRITTEN; 7]);
+    let mut answer = numbers("answer", &[UNWRITTEN; 10]);
     // Sound as above.
     let refusal = unsafe {
         let (l, n, b) = (line.pointer(), notes.pointer(), buffer.pointer());

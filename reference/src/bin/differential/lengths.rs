@@ -143,7 +143,7 @@ fn raw_multiplex(level: u64, line: &mut [u8], notes: &[u8], buffer: &[u8]) -> Ve
 }
 
 fn raw_demultiplex(level: u64, line: &[u8], notes: &mut [u8], buffer: &mut [u8]) -> Vec<u64> {
-    let mut answer = [UNWRITTEN; 7];
+    let mut answer = [UNWRITTEN; 10];
     // Sound as above.
     let refusal = unsafe {
         let (l, n, b) = (line.as_ptr(), notes.as_mut_ptr(), buffer.as_mut_ptr());
@@ -160,8 +160,8 @@ fn multiplexed(level: u64, line: &mut [u8], notes: &[u8], buffer: &[u8]) -> Vec<
 
 fn demultiplexed(level: u64, line: &[u8], notes: &mut [u8], buffer: &mut [u8]) -> Vec<u64> {
     let answer = demultiplex(level, line, notes, buffer);
-    let errors = [0, answer.alignment, answer.groups];
-    [&[answer.refusal], &answer.counts[..], &errors].concat()
+    let errors = [0, answer.alignment];
+    [&[answer.refusal], &answer.counts[..], &errors, &answer.dissent].concat()
 }
 
 /// The beginning of long memory must still be zero: all calls that may write it are refused.
@@ -252,7 +252,7 @@ fn raw_feed(piece: *const u8, piece_bytes: usize, first: u64, count: u64) -> Vec
 fn null_pointers(run: &mut Run) {
     let (null, null_mut) = (std::ptr::null(), std::ptr::null_mut());
     for level in 1..=5 {
-        let (mut answer, mut back) = ([UNWRITTEN; 5], [UNWRITTEN; 7]);
+        let (mut answer, mut back) = ([UNWRITTEN; 5], [UNWRITTEN; 10]);
         // Sound if the face makes no slice of a null pointer.
         let sent = unsafe {
             spritbobbin_multiplex(level, null_mut, 0, null, 0, null, 0, answer.as_mut_ptr())
@@ -329,7 +329,7 @@ fn one_false_length(run: &mut Run, level: u64, [line, notes, buffer]: [u64; 3]) 
     if refusal == 0 {
         return;
     }
-    let (mut memory, mut sent, mut received) = ([0_u8; 4096], [UNWRITTEN; 5], [UNWRITTEN; 7]);
+    let (mut memory, mut sent, mut received) = ([0_u8; 4096], [UNWRITTEN; 5], [UNWRITTEN; 10]);
     let inputs = format!("level {level}, line {line}, notes {notes}, buffer {buffer} bytes");
     let (at, l, n, b) = (memory.as_mut_ptr(), line as usize, notes as usize, buffer as usize);
     // Sound if the face judges lengths before it reads or writes; nothing is lent but a

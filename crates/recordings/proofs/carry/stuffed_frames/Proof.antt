@@ -6,6 +6,7 @@ use native.Mathlib.Omega.{arith}
 use native.Mathlib.Numerals.{add-one}
 use lib.ListN.{length}
 use borrow.Author.Needs.{needs}
+use Rattle.digits.specs.Sums.{sumTo}
 use Rattle.levels.specs.Order.{decisions, stuffedTo}
 use Rattle.recordings.proofs.carry.stuffed_frames.Statement.{statement}
 use Rattle.recordings.proofs.carry.stuffed_frames.Tie as tie
@@ -17,18 +18,19 @@ abbrev μ-loop : tie.MeasureT-loop
 μ-loop notes j stuffed₀ f₀ stuffed f = length notes - f
 
 one-more : (decided : ℕ → Bool) (f k : ℕ) → k ≡ cond (decided f) 1 0 → stuffedTo decided f + k ≡ stuffedTo decided (f + 1)
-unfolding stuffedTo
+unfolding sumTo
 one-more decided f k e = rw (add-one f, e)
 
 loop-holds : tie.Need-loop-holds Inv-loop μ-loop
-unfolding stuffedTo
+unfolding sumTo
 loop-holds c = (omega arith, omega arith, refl)
 
 loop-again : tie.Need-loop-again Inv-loop μ-loop
 loop-again c =
     let l = c .before .before .before .before .loop in
+    let a = c .before .before .before .before .before .before .args in
     let decided = c .digit-of .ensures .0 ∙ ap (λ (b : Bool). cond b 1 0) (c .before .is-stuffed .ensures) in
-    (omega arith, omega (arith, c .digit-of .ensures .1), ap (λ (n : ℕ). n + c .digit-of .result) (l .inv .2) ∙ one-more _ (l .f) _ decided)
+    (omega arith, omega (arith, c .digit-of .ensures .1), ap (λ (n : ℕ). n + c .digit-of .result) (l .inv .2) ∙ one-more (decisions (a .notes .now) (a .j)) (l .f) _ decided)
 
 returns : tie.Need-returns Inv-loop μ-loop
 returns c =
