@@ -1,4 +1,4 @@
--- The level table of document 01, "Digits and bytes", and what its rows share.
+-- The level table of document 01, "Digits and bytes", with the limit of document 02, request 4, and what its rows share.
 use mathlib.Core.Path.{_≡_}
 use mathlib.Core.Logic.{_≢_}
 use mathlib.Core.Bool.{cond}
@@ -20,20 +20,21 @@ use Rattle.levels.specs.declared.table.Level.the-variants.{Of, NoSuchLev
 -- | control digits in a group            | 3          | 3          | 5            |
 -- | digits per tributary n, none stuffed | 206        | 378        | 723          |
 -- | room per tributary, in digits        | 206        | 378        | 723          |
+-- | zeros that are few in N digits       | 4          | 4          | 5            |
 abbrev pub row2 : Row
 row2 =
     record
-    { digits = 848; bytes = 106; sets = 4; set = 212; word = 0b1111010000; len = 10; alarm = 10; national = 11; nationals = 1; first = 12; middle = 4; last = 8; control = 3; n = 206; room = 206 }
+    { digits = 848; bytes = 106; sets = 4; set = 212; word = 0b1111010000; len = 10; alarm = 10; national = 11; nationals = 1; first = 12; middle = 4; last = 8; control = 3; n = 206; room = 206; limit = 4 }
 
 abbrev pub row3 : Row
 row3 =
     record
-    { digits = 1536; bytes = 192; sets = 4; set = 384; word = 0b1111010000; len = 10; alarm = 10; national = 11; nationals = 1; first = 12; middle = 4; last = 8; control = 3; n = 378; room = 378 }
+    { digits = 1536; bytes = 192; sets = 4; set = 384; word = 0b1111010000; len = 10; alarm = 10; national = 11; nationals = 1; first = 12; middle = 4; last = 8; control = 3; n = 378; room = 378; limit = 4 }
 
 abbrev pub row4 : Row
 row4 =
     record
-    { digits = 2928; bytes = 366; sets = 6; set = 488; word = 0b111110100000; len = 12; alarm = 12; national = 13; nationals = 3; first = 16; middle = 4; last = 8; control = 5; n = 723; room = 723 }
+    { digits = 2928; bytes = 366; sets = 6; set = 488; word = 0b111110100000; len = 12; alarm = 12; national = 13; nationals = 3; first = 16; middle = 4; last = 8; control = 5; n = 723; room = 723; limit = 5 }
 
 -- the row of a level; every number but 2, 3 and 4 is no level
 unfoldable pub levelOf : ℕ → Level
