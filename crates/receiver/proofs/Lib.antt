@@ -1,6 +1,7 @@
 pub mod Written
 pub mod Holding
 pub mod Validity
+pub mod Counts
 pub mod Runs
 pub mod Hunts
 pub mod Lasts

@@ -1,5 +1,5 @@
 -- The frame in hand. Document 01, "Finding frames in a stream": the array of 366 bytes changes only so; when it is handed
--- over; its mark. Told in digits: digit p of the array is digit p of the frame.
+-- over. Told in digits: digit p of the array is digit p of the frame.
 use mathlib.Core.Bool.{Bool, cond, true, false, _&&_}
 use mathlib.Core.List.{List, [], _∷_, _++_}
 use Prim.Native.Nat.{ℕ, zero, suc, _+_, _-_, _/_, _%_, _^_}
@@ -46,12 +46,3 @@ aligned (Aligned m) = true
 -- "A frame is handed over at its last digit, place N−L, exactly if the mode is aligned there."
 unfoldable pub readyOf : Row → Core → Bool
 readyOf row c = aligned (c .mode) && eqb (c .place) (row .digits - row .len)
-
--- the n digits from place p on are 1
-unfoldable pub onesFrom : List ℕ → ℕ → ℕ → Bool
-onesFrom ds p zero = true
-onesFrom ds p (suc n) = eqb (getD ds p 0) 1 && onesFrom ds (suc p) n
-
--- "It is marked all-ones, meaning alarm indication from the far end, if every digit after its word is 1."
-unfoldable pub markOf : Row → List ℕ → Bool
-markOf row f = onesFrom (digitsOf f) (row .len) (row .digits - row .len)

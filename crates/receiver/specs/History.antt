@@ -57,4 +57,4 @@ pub record Handed (row : Row) (ds frame : List ℕ) : Type 0 where
 abbrev pub joined : Fed → Fed → Fed
 joined one two =
     cond (one .ready) one
-    (record { refusal = two .refusal; taken = one .taken + two .taken; ready = two .ready; ones = two .ones; state = two .state })
+    (record { refusal = two .refusal; taken = one .taken + two .taken; ready = two .ready; alarm = two .alarm; state = two .state })

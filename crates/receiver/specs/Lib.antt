@@ -1,5 +1,6 @@
 pub mod Modes
 pub mod Frame
+pub mod Alarm
 pub mod Feed
 pub mod Hunt
 pub mod History
