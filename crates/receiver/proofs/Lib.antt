@@ -12,3 +12,5 @@ pub mod Words
 pub mod Losses
 pub mod Answers
 pub mod Calls
+pub mod Alarms
+pub mod FramedLines

@@ -4,4 +4,5 @@ pub mod Alarm
 pub mod Feed
 pub mod Hunt
 pub mod History
+pub mod Line
 pub mod Calls
