@@ -169,7 +169,8 @@ fn refusal_of(row: Row, c: Core, st: Stretch, bytes: usize, first: usize, count:
     0
 }
 
-fn refuse(refusal: u64, s: State) -> Fed
+// What a refused piece gives.
+pub fn refuse(refusal: u64, s: State) -> Fed
     ensures { λ r. ⌜ r ≡ refused refusal s ⌝ }
 {
     Fed {
