@@ -1,5 +1,6 @@
-// Runs worked cases 9, 10 and 11 of document 01, the example of request 1 and more of the kind: each refusal at its border, and each pair
+// Runs worked cases 9, 10 and 11 of document 01, the example of request 1, stretches of the alarm and more of the kind: each refusal at its border, and each pair
 // of faults that tells the order. What it must write was worked out by the separate program of reference/, which shares nothing with the crates.
+mod alarm;
 mod capture;
 mod inputs;
 mod say;
@@ -334,6 +335,7 @@ fn main() {
     }
     receive_all();
     stream::feed_all();
+    alarm::stretch_all();
     stream::case_11(3392);
     stream::case_11(1);
     stream::case_11(7);

@@ -19,7 +19,7 @@ use Rattle.levels.proofs.Rows.{shared-row}
 use Rattle.receiver.specs.declared.State.{State}
 use Rattle.receiver.specs.declared.alarm.Stretch.{Stretch}
 use Rattle.receiver.specs.Alarm.{isFew, alarmAfter, ended, added, counted, freshStretch, Counting, stretchesOf, alarmOver, alarmOf, EverywhereFew}
-use Rattle.receiver.specs.Feed.{freshState, pieceOf, feedOf}
+use Rattle.receiver.specs.Feed.{freshState, afterOf, pieceOf, feedOf}
 use Rattle.receiver.specs.History.{heard, since}
 use Rattle.receiver.specs.Calls.{Piece, leftBy, callsForAll, digitsInAll, AllLent}
 use Rattle.receiver.proofs.Counts.{counted-append, counted-added}
@@ -57,6 +57,15 @@ module _ (row : Row) where
       let z : 0 + zerosIn (take n ds) ≡ zerosIn (take n ds) = omega arith in
       ap (counted row (begins few alarm)) (sym (take-append-drop n ds)) ∙ counted-append row (begins few alarm) (take n ds) (drop n ds)
       ∙ ap (λ (st : Stretch). counted row st (drop n ds)) (counted-whole (take n ds) (begins few alarm) (omega arith) (omega arith) ∙ rw z)
+
+-- inside a stretch a digit does no more than count, and so do many
+pub inside-stretch : (row : Row) (s : State) (d : ℕ) → s .stretch .digits + 1 < row .digits
+    → (afterOf row s d .stretch .digits ≡ s .stretch .digits + 1) × (afterOf row s d .stretch .alarm ≡ s .stretch .alarm)
+unfolding afterOf added
+inside-stretch row s d room = rw (ne-eqb (s .stretch .digits + 1) (row .digits) (λ q. omega arith)) (refl, refl)
+
+pub inside-all : (row : Row) (ds : List ℕ) (s : State) → s .stretch .digits + length ds < row .digits → heard row s ds .stretch .alarm ≡ s .stretch .alarm
+inside-all row ds s room = ap (λ (st : Stretch). st .alarm) (heard-stretch row ds s) ∙ counted-rest row ds (s .stretch) room .1
 
 -- ---- the fold over stretches
 

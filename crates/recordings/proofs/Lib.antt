@@ -3,4 +3,4 @@ pub mod Copies
 pub mod Following
 pub mod Products
 pub mod SizesAnswers
-pub mod Stretches
+pub mod Shares
