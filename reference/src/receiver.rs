@@ -2,6 +2,7 @@
 //! alarm indication. It answers for any given state, also for states that no stream leads
 //! to.
 
+use crate::alarm::Stretches;
 use crate::digits::{number, of_number, pack, unpack};
 use crate::level::{row, Row, MOST_BYTES, STORE_BYTES};
 
@@ -68,7 +69,7 @@ pub fn feed(state: &State, piece: &[u8], first: u64, count: u64) -> Fed {
         taken += 1;
         ready = receiver.hands_over();
     }
-    Fed { refusal: 0, taken, ready, alarm: receiver.alarm, state: receiver.state() }
+    Fed { refusal: 0, taken, ready, alarm: receiver.stretches.alarm, state: receiver.state() }
 }
 
 /// The digit at a place of the line, or 2 where the line has ended.
@@ -133,10 +134,7 @@ struct Receiver<'a> {
     mode: Mode,
     place: usize,
     store: Vec<u8>,
-    stretch_digits: usize,
-    stretch_zeros: usize,
-    few_before: bool,
-    alarm: bool,
+    stretches: Stretches,
 }
 
 impl Receiver<'_> {
@@ -154,10 +152,12 @@ impl Receiver<'_> {
             },
             place: state.place as usize,
             store: unpack(&state.frame, STORE_BYTES * 8),
-            stretch_digits: state.stretch_digits as usize,
-            stretch_zeros: state.stretch_zeros as usize,
-            few_before: state.few_before == 1,
-            alarm: state.alarm == 1,
+            stretches: Stretches {
+                digits: state.stretch_digits as usize,
+                zeros: state.stretch_zeros as usize,
+                few_before: state.few_before == 1,
+                alarm: state.alarm == 1,
+            },
         }
     }
 
@@ -175,34 +175,17 @@ impl Receiver<'_> {
                 Mode::Aligned(missed) => 3 + missed,
             },
             place: self.place as u64,
-            stretch_digits: self.stretch_digits as u64,
-            stretch_zeros: self.stretch_zeros as u64,
-            few_before: u64::from(self.few_before),
-            alarm: u64::from(self.alarm),
+            stretch_digits: self.stretches.digits as u64,
+            stretch_zeros: self.stretches.zeros as u64,
+            few_before: u64::from(self.stretches.few_before),
+            alarm: u64::from(self.stretches.alarm),
             frame,
-        }
-    }
-
-    /// The stretch with a digit more, whatever the mode: with its last digit it is judged.
-    fn count(&mut self, digit: u8) {
-        self.stretch_digits += 1;
-        if digit == 0 {
-            self.stretch_zeros += 1;
-        }
-        if self.stretch_digits == self.row.frame_digits {
-            let few = self.stretch_zeros <= self.row.few_zeros;
-            if few == self.few_before {
-                self.alarm = few;
-            }
-            self.few_before = few;
-            self.stretch_digits = 0;
-            self.stretch_zeros = 0;
         }
     }
 
     /// One digit: the window first, then the row of the table, then the frame in hand.
     fn digit(&mut self, digit: u8) {
-        self.count(digit);
+        self.stretches.digit(self.row, digit);
         let length = self.row.word_length();
         self.window.remove(0);
         self.window.push(digit);

@@ -41,9 +41,10 @@ fn it_begins_and_ends_with_the_second_in_a_row() {
         assert_eq!(alarms(level, digits, &[few, few]), [false, true]);
         assert_eq!(alarms(level, digits, &[many, few, few]), [false, false, true]);
         assert_eq!(alarms(level, digits, &[few, many, few, many]), [false; 4]);
-        let standing = [false, true, true, true, true, true, false];
-        assert_eq!(alarms(level, digits, &[few, 0, many, few, many, few, many][..6]), standing[..6]);
-        assert_eq!(alarms(level, digits, &[0, few, many, few, many, digits, 0])[5], false);
+        let stands = [false, true, true, true, true];
+        assert_eq!(alarms(level, digits, &[few, 0, many, few, many]), stands);
+        let ends = [false, true, true, false, false];
+        assert_eq!(alarms(level, digits, &[0, few, many, digits, 0]), ends);
     }
 }
 
@@ -52,9 +53,15 @@ fn the_moment_is_the_last_digit() {
     let mut state = fresh(2).1;
     (state.stretch_digits, state.stretch_zeros, state.few_before) = (847, 4, 1);
     let (alarm, next) = after(&state, &[vec![1]]);
-    assert_eq!((alarm[0], next.stretch_digits, next.stretch_zeros, next.few_before), (true, 0, 0, 1));
+    assert_eq!(
+        (alarm[0], next.stretch_digits, next.stretch_zeros, next.few_before),
+        (true, 0, 0, 1)
+    );
     let (alarm, next) = after(&state, &[vec![0]]);
-    assert_eq!((alarm[0], next.stretch_digits, next.stretch_zeros, next.few_before), (false, 0, 0, 0));
+    assert_eq!(
+        (alarm[0], next.stretch_digits, next.stretch_zeros, next.few_before),
+        (false, 0, 0, 0)
+    );
     state.stretch_digits = 846;
     assert_eq!(after(&state, &[vec![1]]).0, [false]);
 }

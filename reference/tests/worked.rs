@@ -474,10 +474,7 @@ fn empty_pieces() {
     let waiting = state(2, 0, 10, 3, 838, 0xFF);
     let fed = feed(&waiting, &[], 0, 0);
     let state_before = waiting.clone();
-    assert_eq!(
-        fed,
-        Fed { refusal: 0, taken: 0, ready: false, alarm: false, state: state_before }
-    );
+    assert_eq!(fed, Fed { refusal: 0, taken: 0, ready: false, alarm: false, state: state_before });
     assert_eq!(feed_refused(&state(2, 0, 0, 0, 1, 0), 0, 0, 0), 6);
     assert_eq!(feed_refused(&waiting, 65_537, 0, 0), 2);
     assert_eq!(feed_refused(&waiting, 0, 1, 0), 7);
