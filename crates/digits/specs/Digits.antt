@@ -49,6 +49,11 @@ Binary ds = (i : ℕ) → getD ds i 0 < 2
 unfoldable pub withDigit : ℕ → ℕ → ℕ → ℕ
 withDigit b k d = (b / 2 ^ k / 2 * 2 + d) * 2 ^ k + b % 2 ^ k
 
+-- the number w written with k digits, first digit first
+unfoldable pub written : ℕ → ℕ → List ℕ
+written zero w = []
+written (suc k) w = w / 2 ^ k % 2 ∷ written k w
+
 -- in how many places two lists differ
 unfoldable pub differing : List ℕ → List ℕ → ℕ
 differing [] es = 0

@@ -4,6 +4,7 @@ use mathlib.Core.Logic.{_≢_}
 use mathlib.Core.Bool.{cond}
 use Prim.Native.Nat.{ℕ, _+_, _*_, _-_, _/_, _%_, _^_, _≤_, _<_}
 use lib.Dec.{eqb}
+use Rattle.digits.specs.Digits.{written, zerosIn}
 use Rattle.levels.specs.declared.table.Row.{Row}
 use Rattle.levels.specs.declared.table.Level.{Level}
 use Rattle.levels.specs.declared.table.Level.the-variants.{Of, NoSuchLevel}
@@ -71,6 +72,8 @@ pub record Shared (row : Row) : Type 0 where
   -- the word has L digits, more than one
   pub word-some : 2 ≤ row .len
   pub word-fits : row .word < 2 ^ row .len
+  -- and more zeros than are few, so that frames are no alarm indication, whatever stands between the words
+  pub limit-word : row .limit < zerosIn (written (row .len) (row .word))
   -- the digits per tributary: a column of four places for each, less the heads; the justification place carries
   pub counted : row .n + row .first / 4 + (row .sets - 2) * (row .middle / 4) + row .last / 4 ≡ row .digits / 4 + 1
   -- there is room for them, and for at most one more

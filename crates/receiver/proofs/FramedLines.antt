@@ -1,6 +1,6 @@
 -- A framed signal, of ones too, is no alarm indication: N digits in a row of a line of correct frames are never few, wherever they begin, because the
 -- word alone has more zeros than the limit.
-use mathlib.Core.Path.{_≡_, refl, sym, ap, subst, _∙_}
+use mathlib.Core.Path.{_≡_, refl, sym, ap, _∙_}
 use mathlib.Core.Bool.{true, false}
 use mathlib.Core.List.{List}
 use Prim.Native.Nat.{ℕ, _+_, _-_, _*_, _%_, _≤_, _<_}
@@ -8,26 +8,22 @@ use native.Mathlib.Omega.{arith}
 use native.Mathlib.Decide.{decLt}
 use native.Mathlib.Nat.{mod-lt, mod-eq-of-lt, mod-add-mod, mod-self}
 use borrow.Author.Tests.{lt-leb}
-use lib.Dec.{eqb}
 use lib.ListN.{length, getD, take, drop, length-drop, take-append-drop}
 use lib.Seq.{take-add, drop-drop, take-all, length-take-le, ext-getD, getD-take, getD-drop}
-use Rattle.digits.specs.Digits.{zerosIn}
+use Rattle.digits.specs.Digits.{zerosIn, written}
 use Rattle.digits.proofs.ZeroLaws.{zeros-append}
 use Rattle.levels.specs.declared.table.Row.{Row}
-use Rattle.levels.specs.declared.table.Level.{Level}
-use Rattle.levels.specs.declared.table.Level.the-variants.{Of, NoSuchLevel}
+use Rattle.levels.specs.declared.table.Level.the-variants.{Of}
 use Rattle.levels.specs.Table.{Shared, levelOf}
 use Rattle.levels.proofs.Rows.{shared-row}
 use Rattle.receiver.specs.declared.State.{State}
 use Rattle.receiver.specs.declared.alarm.Stretch.{Stretch}
-use Rattle.receiver.specs.Frame.{written}
 use Rattle.receiver.specs.Alarm.{isFew, Counting, EverywhereFew}
 use Rattle.receiver.specs.Feed.{freshState}
 use Rattle.receiver.specs.History.{heard, since}
 use Rattle.receiver.specs.Line.{inFrame, Framed}
-use Rattle.receiver.proofs.Written.{written-length}
+use Rattle.digits.proofs.Written.{written-length}
 use Rattle.receiver.proofs.Holding.{word-within}
-use Rattle.receiver.proofs.Validity.{cond-told}
 use Rattle.receiver.proofs.Pieces.{heard-stretch}
 use Rattle.receiver.proofs.Alarms.{some-digits, stays, heard-settles}
 
@@ -114,28 +110,13 @@ module _ (row : Row) (sh : Shared row) (o : ℕ) (ds : List ℕ) (line : Framed 
           let all : zerosIn (take (row .digits) (drop i ds)) ≡ zerosIn (take (a + (row .len + (r - row .len))) (drop i ds)) = ap (λ (n : ℕ). zerosIn (take n (drop i ds))) sum in
           omega (arith, ap zerosIn part)
 
--- ---- the limit of each row is below the zeros of its word
-
-abbrev Limited : Level → Type 0
-Limited (Of row) = row .limit < zerosIn (written (row .len) (row .word))
-Limited NoSuchLevel = Unit {0}
-
-limited : (level : ℕ) → Limited (levelOf level)
-unfolding levelOf zerosIn written
-limited level =
-    cond-told Limited (eqb level 2) (λ _. omega arith)
-    (λ _. cond-told Limited (eqb level 3) (λ _. omega arith) (λ _. cond-told Limited (eqb level 4) (λ _. omega arith) (λ _. tt)))
-
-pub limit-word : (level : ℕ) (row : Row) → levelOf level ≡ Of row → row .limit < zerosIn (written (row .len) (row .word))
-limit-word level row e = subst Limited e (limited level)
-
 -- ---- so frames are never few
 
 module _ (level : ℕ) (row : Row) (known : levelOf level ≡ Of row) (o : ℕ) (ds : List ℕ) (line : Framed row o ds) where
   pub never-few : EverywhereFew row false ds
   never-few i room =
       lt-leb (zerosIn (take (row .digits) (drop i ds))) (row .limit)
-      (omega (arith, limit-word level row known, framed-zeros row (shared-row level row known) o ds line i room))
+      (omega (arith, shared-row level row known .limit-word, framed-zeros row (shared-row level row known) o ds line i room))
 
   -- from reset they raise no alarm, at no digit
   pub framed-silent : since row level ds .stretch .alarm ≡ false

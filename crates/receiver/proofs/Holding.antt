@@ -8,12 +8,12 @@ use native.Mathlib.Nat.{div-one}
 use lib.ListN.{length, getD, set, take, replicate, length-append, length-take, length-set, length-replicate, getD-replicate, List·getD-append, replicate-append-replicate, List·getD-eq-default}
 use lib.Seq.{getD-append-add, getD-take}
 use lib.Pow.{shl-lt}
-use Rattle.digits.specs.Digits.{digitsOf, eight, Bytes, Binary}
+use Rattle.digits.specs.Digits.{digitsOf, eight, Bytes, Binary, written}
 use Rattle.digits.proofs.Laws.{digits-length, bytes-of-digits, digits-of-bytes, bytes-length}
 use Rattle.levels.specs.declared.table.Row.{Row}
 use Rattle.levels.specs.Table.{Shared}
-use Rattle.receiver.specs.Frame.{written, holding, begun, put}
-use Rattle.receiver.proofs.Written.{written-length, written-split, written-shift, written-mod}
+use Rattle.receiver.specs.Frame.{holding, begun, put}
+use Rattle.digits.proofs.Written.{written-length, written-split, written-shift, written-mod}
 
 -- a frame has room for its word: with `Shared`'s `word-some`, that the word has two digits, all that the receiver asks of its length
 pub word-within : (row : Row) → Shared row → row .len ≤ row .digits

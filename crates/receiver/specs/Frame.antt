@@ -5,17 +5,12 @@ use mathlib.Core.List.{List, [], _∷_, _++_}
 use Prim.Native.Nat.{ℕ, zero, suc, _+_, _-_, _/_, _%_, _^_}
 use lib.Dec.{eqb, leb}
 use lib.ListN.{length, getD, set, replicate}
-use Rattle.digits.specs.Digits.{digitsOf, bytesOf}
+use Rattle.digits.specs.Digits.{digitsOf, bytesOf, written}
 use Rattle.levels.specs.declared.table.Row.{Row}
 use Rattle.receiver.specs.declared.Mode.{Mode}
 use Rattle.receiver.specs.declared.Mode.the-variants.{Hunting, OneFound, TwoFound, Aligned}
 use Rattle.receiver.specs.declared.modes.Core.{Core}
 use Rattle.receiver.specs.Modes.{hunting}
-
--- the number w written with k digits, first digit first
-unfoldable pub written : ℕ → ℕ → List ℕ
-written zero w = []
-written (suc k) w = w / 2 ^ k % 2 ∷ written k w
 
 -- the array that has these digits first and is zero after them
 unfoldable pub holding : List ℕ → List ℕ

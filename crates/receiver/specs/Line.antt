@@ -3,8 +3,8 @@ use mathlib.Core.Path.{_≡_}
 use mathlib.Core.List.{List}
 use Prim.Native.Nat.{ℕ, _+_, _%_, _<_}
 use lib.ListN.{length, getD}
+use Rattle.digits.specs.Digits.{written}
 use Rattle.levels.specs.declared.table.Row.{Row}
-use Rattle.receiver.specs.Frame.{written}
 
 -- digit i of the line stands at this place of its frame, where the line's first digit stands at place o
 abbrev pub inFrame : Row → ℕ → ℕ → ℕ

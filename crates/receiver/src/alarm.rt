@@ -34,10 +34,10 @@ fn alarm_after(few: bool, before: bool, alarm: bool) -> bool
         if before {
             return true;
         }
-        return alarm;
+        return alarm; // the first with few
     }
     if before {
-        return alarm;
+        return alarm; // the first with more
     }
     false
 }
