@@ -177,7 +177,7 @@ pub fn refuse(refusal: u64, s: State) -> Fed
         refusal,
         taken: 0,
         ready: false,
-        alarm: false,
+        alarm: false, // whatever the state says
         state: s,
     }
 }
@@ -226,24 +226,12 @@ fn run(row: Row, s: State, piece: &[u8], first: usize, count: usize) -> Fed
         frame::keep(row, shift, c, d, &mut f);
         p += 1;
         if frame::is_ready(row, c) {
-            return accept(
-                level,
-                c,
-                f,
-                alarm::count(row, st, piece, first, p),
-                p - first,
-                true,
-            );
+            let counted = alarm::count(row, st, piece, first, p);
+            return accept(level, c, f, counted, p - first, true);
         }
     }
-    accept(
-        level,
-        c,
-        f,
-        alarm::count(row, st, piece, first, p),
-        p - first,
-        false,
-    )
+    let counted = alarm::count(row, st, piece, first, p); // whatever the mode
+    accept(level, c, f, counted, p - first, false)
 }
 
 fn feed_row(row: Row, s: State, piece: &[u8], first: usize, count: usize) -> Fed
