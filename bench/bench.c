@@ -49,7 +49,7 @@ struct input {
 /* What one engine works in. */
 struct output {
     uint8_t notes[FRAMES], buffer[BUFFER_BYTES], line[LINE_BYTES], frame[2][366];
-    uint64_t state[2][5]; /* of an aligned receiver, and of one that hunts */
+    uint64_t state[2][9]; /* of an aligned receiver, and of one that hunts */
     uint64_t answer[10];
 };
 
@@ -123,7 +123,7 @@ static void make_input(struct input *input, const struct row *row)
 }
 
 /* Gives a receiver all digits, and says how many frames were ready. */
-static unsigned feed_all(feed_call *feed, uint64_t state[5], uint8_t frame[366], const uint8_t *bytes, size_t length,
+static unsigned feed_all(feed_call *feed, uint64_t state[9], uint8_t frame[366], const uint8_t *bytes, size_t length,
                          uint64_t first, uint64_t count)
 {
     uint64_t answer[3];
@@ -214,7 +214,7 @@ static void compare_demultiplexing(const struct input *input, const uint8_t *lin
 /* Feeds the same pieces, cut anywhere, to all engines; compares every answer and every state. */
 static void compare_receiving(const struct input *input, const uint8_t *line, uint64_t longest)
 {
-    uint64_t place = 0, end = 8 * (uint64_t)input->line_bytes, answer[ENGINES][3], state[ENGINES][5] = {{0}};
+    uint64_t place = 0, end = 8 * (uint64_t)input->line_bytes, answer[ENGINES][3], state[ENGINES][9] = {{0}};
     uint8_t frame[ENGINES][366] = {{0}};
 
     for (unsigned e = 0; e < ENGINES; e++)

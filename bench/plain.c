@@ -122,14 +122,6 @@ uint64_t plain_demultiplex(uint64_t level, const uint8_t *line, size_t line_byte
     return 0;
 }
 
-static unsigned all_ones(const struct row *row, const uint8_t *frame)
-{
-    for (unsigned place = row->word_digits; place < row->frame_digits; place++)
-        if (!get(frame, place))
-            return 0;
-    return 1;
-}
-
 static void begin_frame(const struct row *row, uint8_t *frame, uint64_t window)
 {
     memset(frame, 0, 366);
@@ -147,8 +139,23 @@ static uint64_t judged(uint64_t mode, int good)
     return mode == 6 ? 0 : mode + 1;
 }
 
+/* A stretch with a digit more: where it is whole, two alike in a row decide the alarm. */
+static void count_digit(const struct row *row, uint64_t stretch[4], unsigned digit)
+{
+    stretch[0]++;
+    stretch[1] += !digit;
+    if (stretch[0] == row->frame_digits) {
+        uint64_t few = stretch[1] <= row->few_zeros;
+
+        if (few == stretch[2])
+            stretch[3] = few;
+        stretch[2] = few;
+        stretch[0] = stretch[1] = 0;
+    }
+}
+
 /* A shift register, digit by digit. */
-uint64_t plain_receiver_feed(uint64_t state[5], uint8_t frame[366], const uint8_t *piece, size_t piece_bytes,
+uint64_t plain_receiver_feed(uint64_t state[9], uint8_t frame[366], const uint8_t *piece, size_t piece_bytes,
                              uint64_t first, uint64_t count, uint64_t answer[3])
 {
     const struct row *row = row_of(state[0]);
@@ -156,11 +163,12 @@ uint64_t plain_receiver_feed(uint64_t state[5], uint8_t frame[366], const uint8_
     const uint64_t end = row->frame_digits, last = end - row->word_digits;
 
     (void)piece_bytes;
-    answer[1] = answer[2] = 0;
+    answer[1] = 0;
     while (taken < count && !answer[1]) {
         unsigned digit = get(piece, first + taken++);
         int good;
 
+        count_digit(row, state + 5, digit);
         window = (window << 1 | digit) & ((1u << row->word_digits) - 1);
         seen += seen < row->word_digits;
         good = window == row->word;
@@ -174,10 +182,8 @@ uint64_t plain_receiver_feed(uint64_t state[5], uint8_t frame[366], const uint8_
         place++;
         if (place <= last)
             put(frame, row->word_digits - 1 + place, digit);
-        if (place == last && mode >= 3) {
+        if (place == last && mode >= 3)
             answer[1] = 1;
-            answer[2] = all_ones(row, frame);
-        }
         if (place == end) {
             mode = judged(mode, good);
             place = 0;
@@ -190,5 +196,6 @@ uint64_t plain_receiver_feed(uint64_t state[5], uint8_t frame[366], const uint8_
     state[3] = mode;
     state[4] = place;
     answer[0] = taken;
+    answer[2] = state[8];
     return 0;
 }

@@ -340,15 +340,53 @@ static void copy_digits(uint8_t *to, size_t place, const uint8_t *from, size_t f
     copy_digits(to, 8 * whole, from, shift + 8 * whole, count % 8);
 }
 
-static int all_ones(const struct row *row, const uint8_t *frame)
+/* How many of a word's digits are 1. */
+static inline unsigned ones_in(uint64_t word)
 {
-    unsigned at = row->word_digits / 8, bytes = row->frame_digits / 8;
+    word -= word >> 1 & UINT64_C(0x5555555555555555);
+    word = (word & UINT64_C(0x3333333333333333)) + (word >> 2 & UINT64_C(0x3333333333333333));
+    word = (word + (word >> 4)) & UINT64_C(0x0F0F0F0F0F0F0F0F);
+    return (unsigned)(word * UINT64_C(0x0101010101010101) >> 56);
+}
 
-    if ((frame[at] | (0xFF00 >> row->word_digits % 8 & 0xFF)) != 0xFF)
-        return 0;
-    while (++at < bytes && frame[at] == 0xFF)
-        ;
-    return at == bytes;
+/* The zeros among so many digits. */
+static size_t zeros_among(const uint8_t *piece, size_t bytes, size_t first, size_t count)
+{
+    size_t ones = 0, left = count;
+    unsigned head = (unsigned)(8 - first % 8) % 8;
+
+    if (head && left >= head) {
+        ones += ones_in(first_of(digits_at(piece, bytes, first), head));
+        first += head;
+        left -= head;
+    }
+    for (; left >= 64; first += 64, left -= 64)
+        ones += ones_in(load_at(piece, bytes, first / 8));
+    /* At most 63 digits that begin a byte, or at most 6 that do not. */
+    if (left)
+        ones += ones_in(first_of(digits_at(piece, bytes, first), (unsigned)left));
+    return count - ones;
+}
+
+/* Counts digits into stretches: where one is whole, two alike in a row decide the alarm. */
+static void count_digits(const struct row *row, uint64_t stretch[4], const uint8_t *piece, size_t bytes, size_t first, size_t count)
+{
+    while (count) {
+        size_t room = row->frame_digits - stretch[0], now = room < count ? room : count;
+
+        stretch[0] += now;
+        stretch[1] += zeros_among(piece, bytes, first, now);
+        if (stretch[0] == row->frame_digits) {
+            uint64_t few = stretch[1] <= row->few_zeros;
+
+            if (few == stretch[2])
+                stretch[3] = few;
+            stretch[2] = few;
+            stretch[0] = stretch[1] = 0;
+        }
+        first += now;
+        count -= now;
+    }
 }
 
 static void begin_frame(const struct row *row, uint8_t *frame, uint64_t window)
@@ -406,7 +444,7 @@ static uint64_t window_after(const struct row *row, uint64_t window, const uint8
 }
 
 /* Hunts from a digit on, and says how many digits that took. */
-static size_t hunt(const struct row *row, uint64_t state[5], const uint8_t *piece, size_t bytes, size_t first, size_t count)
+static size_t hunt(const struct row *row, uint64_t state[9], const uint8_t *piece, size_t bytes, size_t first, size_t count)
 {
     unsigned length = row->word_digits;
     size_t taken = 0, place;
@@ -440,7 +478,7 @@ static uint64_t judged(uint64_t mode, int good)
 }
 
 /* Takes digits up to the frame's last one, or up to where its next word is due. */
-static size_t follow(const struct row *row, uint64_t state[5], uint8_t *frame, const uint8_t *piece, size_t bytes, size_t first, size_t count)
+static size_t follow(const struct row *row, uint64_t state[9], uint8_t *frame, const uint8_t *piece, size_t bytes, size_t first, size_t count)
 {
     size_t last = row->frame_digits - row->word_digits, stop = state[4] < last ? last : row->frame_digits;
     size_t now = stop - state[4] < count ? stop - state[4] : count;
@@ -452,13 +490,13 @@ static size_t follow(const struct row *row, uint64_t state[5], uint8_t *frame, c
     return now;
 }
 
-uint64_t quick_receiver_feed(uint64_t state[5], uint8_t frame[366], const uint8_t *piece, size_t piece_bytes,
+uint64_t quick_receiver_feed(uint64_t state[9], uint8_t frame[366], const uint8_t *piece, size_t piece_bytes,
                              uint64_t first, uint64_t count, uint64_t answer[3])
 {
     const struct row *row = row_of(state[0]);
     uint64_t taken = 0;
 
-    answer[1] = answer[2] = 0;
+    answer[1] = 0;
     while (taken < count && !answer[1]) {
         if (state[3] == 0) {
             taken += hunt(row, state, piece, piece_bytes, first + taken, count - taken);
@@ -467,10 +505,8 @@ uint64_t quick_receiver_feed(uint64_t state[5], uint8_t frame[366], const uint8_
             continue;
         }
         taken += follow(row, state, frame, piece, piece_bytes, first + taken, count - taken);
-        if (state[4] == row->frame_digits - row->word_digits && state[3] >= 3) {
+        if (state[4] == row->frame_digits - row->word_digits && state[3] >= 3)
             answer[1] = 1;
-            answer[2] = all_ones(row, frame);
-        }
         if (state[4] == row->frame_digits) {
             state[3] = judged(state[3], state[1] == row->word);
             state[4] = 0;
@@ -478,6 +514,8 @@ uint64_t quick_receiver_feed(uint64_t state[5], uint8_t frame[366], const uint8_
                 begin_frame(row, frame, state[1]);
         }
     }
+    count_digits(row, state + 5, piece, piece_bytes, first, taken);
     answer[0] = taken;
+    answer[2] = state[8];
     return 0;
 }

@@ -108,7 +108,7 @@
  *     {
  *         uint8_t line[FRAME] = {0}, stream[4 * FRAME], buffer[4 * QUARTER] = {0};
  *         uint8_t notes[1] = {SPRITBOBBIN_STUFFED_1 | SPRITBOBBIN_REMOTE_ALARM};
- *         uint64_t sent[5], received[7];
+ *         uint64_t sent[5], received[10];
  *         int i;
  *
  *         buffer[1 * QUARTER] = 0x80; // the first digit of tributary 2
@@ -197,7 +197,7 @@ enum {
     SPRITBOBBIN_DISSENT = 6,     /* demultiplexing: dissenting digits of tributary 1; then of 2, 3, 4 */
     SPRITBOBBIN_TAKEN = 0,       /* receiver: digits taken */
     SPRITBOBBIN_READY = 1,       /* receiver: 1 if a frame is ready */
-    SPRITBOBBIN_ALL_ONES = 2,    /* receiver: 1 if that frame is marked all-ones */
+    SPRITBOBBIN_ALARM = 2,       /* receiver: 1 if alarm indication stands at the end */
     SPRITBOBBIN_FILE_BYTES = 0,  /* writing a capture: bytes of the file; then the named byte, 0 */
     SPRITBOBBIN_FILE_LEVEL = 0,  /* reading a capture: the level */
     SPRITBOBBIN_LINE_START = 1,  /* the line's first byte in the file */
@@ -215,6 +215,10 @@ enum {
     SPRITBOBBIN_STATE_SEEN = 2,   /* digits since the fresh state, stopping at L */
     SPRITBOBBIN_STATE_MODE = 3,
     SPRITBOBBIN_STATE_PLACE = 4,
+    SPRITBOBBIN_STATE_DIGITS = 5, /* digits of the stretch, fewer than a frame has */
+    SPRITBOBBIN_STATE_ZEROS = 6,  /* the zeros among them */
+    SPRITBOBBIN_STATE_FEW = 7,    /* 1 if the stretch before had few zeros, else 0 */
+    SPRITBOBBIN_STATE_ALARM = 8,  /* 1 if alarm indication stands, else 0 */
     SPRITBOBBIN_HUNTING = 0,
     SPRITBOBBIN_ONE_FOUND = 1,
     SPRITBOBBIN_TWO_FOUND = 2,
@@ -251,10 +255,11 @@ uint64_t spritbobbin_demultiplex(uint64_t level, const uint8_t *line, size_t lin
 /*
  * Makes a fresh receiver: hunting, nothing seen, the frame in hand all zero.
  *
- * Writes all of state (level, window, digits seen, mode, place) and of frame. Returns 0, or 1 for
- * a wrong level; the state is then all zero and a feed refuses it with 6.
+ * Writes all of state (level, window, digits seen, mode, place, the stretch's digits and zeros,
+ * few before, alarm) and of frame. Returns 0, or 1 for a wrong level; the state is then all zero
+ * and a feed refuses it with 6.
  */
-uint64_t spritbobbin_receiver_fresh(uint64_t level, uint64_t state[5], uint8_t frame[366]);
+uint64_t spritbobbin_receiver_fresh(uint64_t level, uint64_t state[9], uint8_t frame[366]);
 
 /*
  * Gives a receiver the digits first to first + count - 1 of a piece of a stream. The receiver
@@ -263,15 +268,20 @@ uint64_t spritbobbin_receiver_fresh(uint64_t level, uint64_t state[5], uint8_t f
  *
  * Stops after the digit that completes a frame, or at the end of the digits given. If a frame is
  * ready, frame holds its digits as received, from its word on: as many bytes as a frame of the
- * level has. Use it before the next call, which goes on at first plus the digits taken. A frame is
- * marked all-ones, alarm indication from the far end, if every digit after its word is 1.
+ * level has. Use it before the next call, which goes on at first plus the digits taken.
+ *
+ * Alarm indication, ones without frames from a far end that has lost its own input: all digits
+ * since the fresh state are cut into stretches of as many digits as a frame has, whatever the
+ * mode. It begins with two stretches in a row that have each at most four zeros (five at level
+ * 4), and ends with two in a row that have each more. A framed signal, of ones too, is none.
  *
  * A stream may be cut into pieces anywhere; a piece of no digits changes nothing. The state may be
  * looked at, copied and put back; the frame in hand belongs to it.
  *
- * answer: digits taken, 1 if a frame is ready, 1 if it is marked all-ones. Returns 0, 6, 2 or 7.
+ * answer: digits taken, 1 if a frame is ready, 1 if alarm indication stands at the end. Returns
+ * 0, 6, 2 or 7.
  */
-uint64_t spritbobbin_receiver_feed(uint64_t state[5], uint8_t frame[366], const uint8_t *piece, size_t piece_bytes,
+uint64_t spritbobbin_receiver_feed(uint64_t state[9], uint8_t frame[366], const uint8_t *piece, size_t piece_bytes,
                                    uint64_t first, uint64_t count, uint64_t answer[3]);
 
 /* What spritbobbin_line_digit returns where the line has ended. */

@@ -13,7 +13,6 @@ pub struct HandedOver {
     pub after: usize,
     /// Its bytes, with zeros up to the end of the store.
     pub bytes: [u8; STORE_BYTES],
-    pub all_ones: bool,
 }
 
 /// All frames that the stream hands over, and the state that it leaves. A level that is
@@ -28,6 +27,7 @@ pub fn whole(level: u64, stream: &[u8]) -> (Vec<HandedOver>, State) {
     let length = row.word_length();
     state.seen = stream.len().min(length) as u64;
     state.window = number(&stream[stream.len().saturating_sub(length)..]);
+    stretches(row, stream, &mut state);
     let mut from = length;
     while let Some(found) = next_word(row, stream, from) {
         let run = follow(row, stream, found);
@@ -45,6 +45,21 @@ pub fn whole(level: u64, stream: &[u8]) -> (Vec<HandedOver>, State) {
         from = lost + 1;
     }
     (frames, state)
+}
+
+/// The stretches of the stream: the alarm is what the last two neighbours that were alike
+/// say, where the stretch before the first had not few.
+fn stretches(row: &Row, stream: &[u8], state: &mut State) {
+    let zeros = |digits: &[u8]| digits.iter().filter(|digit| **digit == 0).count();
+    let cut = stream.chunks_exact(row.frame_digits);
+    let rest = cut.remainder();
+    state.stretch_digits = rest.len() as u64;
+    state.stretch_zeros = zeros(rest) as u64;
+    let few: Vec<bool> =
+        std::iter::once(false).chain(cut.map(|digits| zeros(digits) <= row.few_zeros)).collect();
+    let alike = few.windows(2).rev().find(|pair| pair[0] == pair[1]);
+    state.few_before = u64::from(few[few.len() - 1]);
+    state.alarm = u64::from(alike.map_or(false, |pair| pair[0]));
 }
 
 /// Where a word ends, at `from` digits or later.
@@ -99,9 +114,7 @@ impl Run {
             let start = self.word(row, k) - row.word_length();
             let after = start + row.frame_digits;
             if after <= stream.len() {
-                let rest = &stream[start + row.word_length()..after];
-                let all_ones = rest.iter().all(|&digit| digit == 1);
-                frames.push(HandedOver { after, bytes: store(&stream[start..after]), all_ones });
+                frames.push(HandedOver { after, bytes: store(&stream[start..after]) });
             }
         }
         frames

@@ -21,6 +21,8 @@ pub struct Row {
     pub group_digits: usize,
     /// Digits per tributary in a frame, none stuffed.
     pub tributary_digits: usize,
+    /// The most zeros that are few in as many digits as a frame has.
+    pub few_zeros: usize,
 }
 
 const ROWS: [Row; 3] = [
@@ -34,6 +36,7 @@ const ROWS: [Row; 3] = [
         national_digits: 1,
         group_digits: 3,
         tributary_digits: 206,
+        few_zeros: 4,
     },
     Row {
         level: 3,
@@ -45,6 +48,7 @@ const ROWS: [Row; 3] = [
         national_digits: 1,
         group_digits: 3,
         tributary_digits: 378,
+        few_zeros: 4,
     },
     Row {
         level: 4,
@@ -56,6 +60,7 @@ const ROWS: [Row; 3] = [
         national_digits: 3,
         group_digits: 5,
         tributary_digits: 723,
+        few_zeros: 5,
     },
 ];
 

@@ -8,6 +8,7 @@
 
 #![forbid(unsafe_code)]
 
+pub mod alarm;
 mod captures;
 pub mod digits;
 pub mod frame;

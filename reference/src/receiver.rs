@@ -1,11 +1,14 @@
-//! Finding frames in a stream: the table of modes, word for word, on a plain struct. It
-//! answers for any given state, also for states that no stream leads to.
+//! Finding frames in a stream: the table of modes, word for word, on a plain struct, and
+//! alarm indication. It answers for any given state, also for states that no stream leads
+//! to.
 
+use crate::alarm::Stretches;
 use crate::digits::{number, of_number, pack, unpack};
 use crate::level::{row, Row, MOST_BYTES, STORE_BYTES};
 
 /// The receiver's state as numbers. The window's newest digit is worth 1; the mode is 0
-/// hunting, 1 one found, 2 two found, 3 + m aligned with m missed.
+/// hunting, 1 one found, 2 two found, 3 + m aligned with m missed. Then the stretch: its
+/// digits and zeros so far, 1 if the stretch before it had few zeros, 1 if the alarm stands.
 #[derive(Clone, Debug, PartialEq, Eq)]
 pub struct State {
     pub level: u64,
@@ -13,6 +16,10 @@ pub struct State {
     pub seen: u64,
     pub mode: u64,
     pub place: u64,
+    pub stretch_digits: u64,
+    pub stretch_zeros: u64,
+    pub few_before: u64,
+    pub alarm: u64,
     pub frame: [u8; STORE_BYTES],
 }
 
@@ -21,15 +28,27 @@ pub struct Fed {
     pub refusal: u64,
     pub taken: u64,
     pub ready: bool,
-    pub all_ones: bool,
+    /// Whether the alarm stands at the end.
+    pub alarm: bool,
     pub state: State,
 }
 
 /// A fresh state of the level, or refusal 1 and a state that is zero throughout.
 pub fn fresh(level: u64) -> (u64, State) {
     let (refusal, level) = if row(level).is_some() { (0, level) } else { (1, 0) };
-    let frame = [0; STORE_BYTES];
-    (refusal, State { level, window: 0, seen: 0, mode: 0, place: 0, frame })
+    let state = State {
+        level,
+        window: 0,
+        seen: 0,
+        mode: 0,
+        place: 0,
+        stretch_digits: 0,
+        stretch_zeros: 0,
+        few_before: 0,
+        alarm: 0,
+        frame: [0; STORE_BYTES],
+    };
+    (refusal, state)
 }
 
 /// Feeds the digits `first` to `first + count - 1` of the slice, up to the digit that
@@ -40,7 +59,7 @@ pub fn feed(state: &State, piece: &[u8], first: u64, count: u64) -> Fed {
         Some(row) => row,
         None => {
             let state = state.clone();
-            return Fed { refusal, taken: 0, ready: false, all_ones: false, state };
+            return Fed { refusal, taken: 0, ready: false, alarm: false, state };
         }
     };
     let mut receiver = Receiver::of(row, state);
@@ -50,8 +69,7 @@ pub fn feed(state: &State, piece: &[u8], first: u64, count: u64) -> Fed {
         taken += 1;
         ready = receiver.hands_over();
     }
-    let all_ones = ready && receiver.all_ones();
-    Fed { refusal: 0, taken, ready, all_ones, state: receiver.state() }
+    Fed { refusal: 0, taken, ready, alarm: receiver.stretches.alarm, state: receiver.state() }
 }
 
 /// The digit at a place of the line, or 2 where the line has ended.
@@ -93,6 +111,10 @@ fn valid(state: &State) -> bool {
         && state.place < row.frame_digits as u64
         && (!hunting || state.place == 0)
         && (hunting || state.seen >= length)
+        && state.stretch_digits < row.frame_digits as u64
+        && state.stretch_zeros <= state.stretch_digits
+        && state.few_before <= 1
+        && state.alarm <= 1
 }
 
 #[derive(Clone, Copy, PartialEq)]
@@ -112,6 +134,7 @@ struct Receiver<'a> {
     mode: Mode,
     place: usize,
     store: Vec<u8>,
+    stretches: Stretches,
 }
 
 impl Receiver<'_> {
@@ -129,6 +152,12 @@ impl Receiver<'_> {
             },
             place: state.place as usize,
             store: unpack(&state.frame, STORE_BYTES * 8),
+            stretches: Stretches {
+                digits: state.stretch_digits as usize,
+                zeros: state.stretch_zeros as usize,
+                few_before: state.few_before == 1,
+                alarm: state.alarm == 1,
+            },
         }
     }
 
@@ -146,12 +175,17 @@ impl Receiver<'_> {
                 Mode::Aligned(missed) => 3 + missed,
             },
             place: self.place as u64,
+            stretch_digits: self.stretches.digits as u64,
+            stretch_zeros: self.stretches.zeros as u64,
+            few_before: u64::from(self.stretches.few_before),
+            alarm: u64::from(self.stretches.alarm),
             frame,
         }
     }
 
     /// One digit: the window first, then the row of the table, then the frame in hand.
     fn digit(&mut self, digit: u8) {
+        self.stretches.digit(self.row, digit);
         let length = self.row.word_length();
         self.window.remove(0);
         self.window.push(digit);
@@ -200,10 +234,5 @@ impl Receiver<'_> {
 
     fn hands_over(&self) -> bool {
         matches!(self.mode, Mode::Aligned(_)) && self.place == self.last_place()
-    }
-
-    fn all_ones(&self) -> bool {
-        let after_word = &self.store[self.row.word_length()..self.row.frame_digits];
-        after_word.iter().all(|&digit| digit == 1)
     }
 }

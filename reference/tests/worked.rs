@@ -62,7 +62,7 @@ fn digits(text: &str) -> Vec<u8> {
 }
 
 fn state(level: u64, window: u64, seen: u64, mode: u64, place: u64, store: u8) -> State {
-    State { level, window, seen, mode, place, frame: [store; 366] }
+    State { level, window, seen, mode, place, frame: [store; 366], ..start(2) }
 }
 
 fn start(level: u64) -> State {
@@ -89,7 +89,7 @@ fn feed_refused(state: &State, slice: usize, first: u64, count: u64) -> u64 {
     let fed = feed(state, &vec![0; slice], first, count);
     if fed.refusal != 0 {
         let (taken, state) = (0, state.clone());
-        let expected = Fed { refusal: fed.refusal, taken, ready: false, all_ones: false, state };
+        let expected = Fed { refusal: fed.refusal, taken, ready: false, alarm: false, state };
         assert_eq!(fed, expected);
     }
     fed.refusal
@@ -204,7 +204,6 @@ fn case_11() {
     let four = line.repeat(4);
     let first = feed(&start(2), &four, 0, 3392);
     assert_eq!((first.refusal, first.taken, first.ready), (0, 2544, true));
-    assert!(!first.all_ones);
     assert_eq!(first.state.frame[..106], line);
     assert_eq!(first.state.frame[106..], [0; 260]);
     let second = feed(&first.state, &four, 2544, 848);
@@ -438,20 +437,8 @@ fn a_digit_overwrites_the_store() {
 #[test]
 fn later_bytes_are_handed_over_as_they_are() {
     let fed = feed(&state(2, 0, 10, 3, 837, 0xFF), &[0x80], 0, 1);
-    assert_eq!((fed.taken, fed.ready, fed.all_ones), (1, true, true));
+    assert_eq!((fed.taken, fed.ready), (1, true));
     assert_eq!(fed.state.frame, [0xFF; 366]);
-}
-
-#[test]
-fn the_mark_is_of_the_store() {
-    let ones = [0xFF; 106];
-    let fed = feed(&state(2, 0, 10, 3, 1, 0), &ones, 0, 837);
-    assert_eq!((fed.taken, fed.ready, fed.all_ones), (837, true, false));
-    let fed = feed(&state(2, 0, 10, 3, 0, 0), &ones, 0, 838);
-    assert_eq!((fed.taken, fed.ready, fed.all_ones), (838, true, true));
-    // A word that was missed does not matter to the mark.
-    let fed = feed(&state(2, 0, 10, 5, 0, 0), &ones, 0, 838);
-    assert!(fed.all_ones && fed.state.mode == 5);
 }
 
 /// Frames of zeros at level 2, each word right or its first digit wrong.
@@ -490,10 +477,7 @@ fn empty_pieces() {
     let waiting = state(2, 0, 10, 3, 838, 0xFF);
     let fed = feed(&waiting, &[], 0, 0);
     let state_before = waiting.clone();
-    assert_eq!(
-        fed,
-        Fed { refusal: 0, taken: 0, ready: false, all_ones: false, state: state_before }
-    );
+    assert_eq!(fed, Fed { refusal: 0, taken: 0, ready: false, alarm: false, state: state_before });
     assert_eq!(feed_refused(&state(2, 0, 0, 0, 1, 0), 0, 0, 0), 6);
     assert_eq!(feed_refused(&waiting, 65_537, 0, 0), 2);
     assert_eq!(feed_refused(&waiting, 0, 1, 0), 7);

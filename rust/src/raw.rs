@@ -35,16 +35,17 @@ extern "C" {
         answer: &mut [u64; 10],
     ) -> u64;
 
-    /// State: level, window, digits seen, mode, place.
+    /// State: level, window, digits seen, mode, place, the stretch's digits and zeros, 1 if the
+    /// stretch before had few zeros, 1 if the alarm stands.
     pub fn spritbobbin_receiver_fresh(
         level: u64,
-        state: &mut [u64; 5],
+        state: &mut [u64; 9],
         frame: &mut [u8; STORE],
     ) -> u64;
 
-    /// Answer: digits taken, 1 if a frame is ready, 1 if it is marked all-ones.
+    /// Answer: digits taken, 1 if a frame is ready, 1 if the alarm stands at the end.
     pub fn spritbobbin_receiver_feed(
-        state: &mut [u64; 5],
+        state: &mut [u64; 9],
         frame: &mut [u8; STORE],
         piece: *const u8,
         piece_bytes: usize,

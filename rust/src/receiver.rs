@@ -32,7 +32,7 @@ use crate::{Level, Refusal};
 #[derive(Clone, Debug, PartialEq, Eq)]
 pub struct Receiver {
     level: Level,
-    numbers: [u64; 5],
+    numbers: [u64; 9],
     store: [u8; STORE],
 }
 
@@ -65,6 +65,14 @@ pub struct State {
     pub mode: u64,
     /// The digits since the end of the last word; 0 while hunting.
     pub place: u64,
+    /// The digits of the stretch that is being cut, fewer than a frame has.
+    pub stretch_digits: u64,
+    /// The zeros among them.
+    pub stretch_zeros: u64,
+    /// 1 if the stretch before had few zeros, else 0.
+    pub few_before: u64,
+    /// 1 if alarm indication stands, else 0.
+    pub alarm: u64,
     /// The frame in hand.
     pub frame: [u8; STORE],
 }
@@ -74,7 +82,6 @@ pub struct State {
 pub struct Frame {
     level: Level,
     store: [u8; STORE],
-    all_ones: bool,
 }
 
 /// What one call took of a piece.
@@ -84,12 +91,14 @@ pub struct Taken {
     pub digits: usize,
     /// The frame that the last of them completed.
     pub frame: Option<Frame>,
+    /// Whether alarm indication stands after the last of them.
+    pub alarm: bool,
 }
 
 impl Receiver {
     /// A fresh receiver, which hunts.
     pub fn new(level: Level) -> Receiver {
-        let (mut numbers, mut store) = ([0; 5], [0; STORE]);
+        let (mut numbers, mut store) = ([0; 9], [0; STORE]);
         // Sound: the two arrays have the lengths that the library writes. It refuses only a wrong
         // level, which `level` is not.
         unsafe { raw::spritbobbin_receiver_fresh(level.number(), &mut numbers, &mut store) };
@@ -115,9 +124,7 @@ impl Receiver {
     /// ```
     pub fn resume(state: &State) -> Result<Receiver, Refusal> {
         let level = Level::try_from(state.level).map_err(|_| Refusal::State)?;
-        let State { level: number, window, seen, mode, place, frame } = *state;
-        let numbers = [number, window, seen, mode, place];
-        let mut receiver = Receiver { level, numbers, store: frame };
+        let mut receiver = Receiver { level, numbers: numbers(state), store: state.frame };
         // A piece of no digits changes nothing, and the state is judged all the same.
         receiver.take(&[], 0, 0)?;
         Ok(receiver)
@@ -143,10 +150,37 @@ impl Receiver {
         matches!(self.mode(), Mode::Aligned { .. })
     }
 
+    /// Whether alarm indication stands: the far end has lost its own input and sends ones without
+    /// frames. Two stretches in a row, each of as many digits as a frame has, had few zeros, and no
+    /// two in a row have had more since. The mode says nothing of it.
+    ///
+    /// ```
+    /// use spritbobbin::{Level, Receiver};
+    ///
+    /// let mut receiver = Receiver::new(Level::Two);
+    /// assert_eq!(receiver.feed(&[0xFF; 2 * 106]).count(), 0);
+    /// assert!(receiver.has_alarm());
+    /// ```
+    pub fn has_alarm(&self) -> bool {
+        self.numbers[8] == 1
+    }
+
     /// Its state in numbers.
     pub fn state(&self) -> State {
-        let [level, window, seen, mode, place] = self.numbers;
-        State { level, window, seen, mode, place, frame: self.store }
+        let [level, window, seen, mode, place, stretch_digits, stretch_zeros, few_before, alarm] =
+            self.numbers;
+        State {
+            level,
+            window,
+            seen,
+            mode,
+            place,
+            stretch_digits,
+            stretch_zeros,
+            few_before,
+            alarm,
+            frame: self.store,
+        }
     }
 
     /// Takes the stream's next bytes and hands out the frames that they complete.
@@ -201,9 +235,9 @@ impl Receiver {
         }
     }
 
-    fn taken(&self, [digits, ready, all_ones]: [u64; 3]) -> Taken {
-        let frame = Frame { level: self.level, store: self.store, all_ones: all_ones == 1 };
-        Taken { digits: count(digits), frame: (ready == 1).then_some(frame) }
+    fn taken(&self, [digits, ready, alarm]: [u64; 3]) -> Taken {
+        let frame = Frame { level: self.level, store: self.store };
+        Taken { digits: count(digits), frame: (ready == 1).then_some(frame), alarm: alarm == 1 }
     }
 
     /// The next frame that a piece completes from a digit on, which is moved past what was taken;
@@ -228,11 +262,21 @@ impl Frame {
     pub fn bytes(&self) -> &[u8] {
         &self.store[..self.level.frame_bytes()]
     }
+}
 
-    /// Whether every digit after its word is 1: alarm indication from the far end.
-    pub fn is_all_ones(&self) -> bool {
-        self.all_ones
-    }
+/// The numbers of a state, in the library's order.
+fn numbers(state: &State) -> [u64; 9] {
+    [
+        state.level,
+        state.window,
+        state.seen,
+        state.mode,
+        state.place,
+        state.stretch_digits,
+        state.stretch_zeros,
+        state.few_before,
+        state.alarm,
+    ]
 }
 
 impl AsRef<[u8]> for Frame {

@@ -132,9 +132,8 @@ fn pieces() {
 }
 
 fn aligned(level: Level) -> State {
-    let frame = [0; 366];
     let seen = if level == Level::Four { 12 } else { 10 };
-    State { level: level.number(), window: 0, seen, mode: 6, place: 5, frame }
+    State { seen, mode: 6, place: 5, ..Receiver::new(level).state() }
 }
 
 #[test]
@@ -145,6 +144,8 @@ fn states() {
         let last = level.frame_digits() as u64 - 1;
         let window = (1 << seen) - 1;
         assert!(Receiver::resume(&State { window, place: last, ..good.clone() }).is_ok());
+        let stretch = State { stretch_digits: last, stretch_zeros: last, ..good.clone() };
+        assert!(Receiver::resume(&State { few_before: 1, alarm: 1, ..stretch }).is_ok());
         let wrong = [
             State { level: 5, ..good.clone() },
             State { level: level.number() + (1 << 32), ..good.clone() },
@@ -155,6 +156,10 @@ fn states() {
             State { mode: u64::MAX, ..good.clone() },
             State { place: last + 1, ..good.clone() },
             State { mode: 0, ..good.clone() },
+            State { stretch_digits: last + 1, ..good.clone() },
+            State { stretch_zeros: 1, ..good.clone() },
+            State { few_before: 2, ..good.clone() },
+            State { alarm: u64::MAX, ..good.clone() },
         ];
         for state in wrong {
             assert_eq!(Receiver::resume(&state), Err(Refusal::State), "{state:?}");

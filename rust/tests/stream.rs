@@ -75,16 +75,23 @@ fn lost_after_four_wrong_words() {
 }
 
 #[test]
-fn all_ones_is_marked() {
-    let mut frame = [0xFF; 106];
-    frame[..2].copy_from_slice(&[0b1111_0100, 0b0011_1111]);
-    let marks = |stream: &[u8]| -> Vec<bool> {
-        Receiver::new(Level::Two).feed(stream).map(|frame| frame.is_all_ones()).collect()
-    };
-    let mut stream = frame.repeat(4);
-    assert_eq!(marks(&stream), [true, true]);
-    stream[4 * 106 - 1] = 0xFE;
-    assert_eq!(marks(&stream), [true, false]);
+fn alarm_indication() {
+    for level in Level::ALL {
+        let bytes = level.frame_bytes();
+        let mut receiver = Receiver::new(level);
+        receiver.feed(&vec![0xFF; 2 * bytes - 1]).for_each(drop);
+        assert!(!receiver.has_alarm());
+        // The stretch's last digit, and what the call reports.
+        assert!(!receiver.take(&[0xFF], 0, 7).unwrap().alarm);
+        assert!(receiver.take(&[0xFF], 7, 1).unwrap().alarm && receiver.has_alarm());
+        // Frames, of ones too, end it with the second stretch.
+        let mut frame = line(level, 1);
+        frame[level.frame_bytes() / 2..].fill(0xFF);
+        receiver.feed(&frame).for_each(drop);
+        assert!(receiver.has_alarm());
+        receiver.feed(&frame).for_each(drop);
+        assert!(!receiver.has_alarm());
+    }
 }
 
 #[test]

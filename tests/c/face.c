@@ -122,10 +122,10 @@ static void names_the_frame(void)
 }
 
 /* A piece that is refused with this number, and leaves the receiver as it was. */
-static void refused_piece(uint64_t state[5], uint8_t frame[366], const uint8_t *piece, size_t piece_bytes,
+static void refused_piece(uint64_t state[9], uint8_t frame[366], const uint8_t *piece, size_t piece_bytes,
                           uint64_t first, uint64_t count, uint64_t refusal)
 {
-    uint64_t before[5], answer[3];
+    uint64_t before[9], answer[3];
     uint8_t frame_before[366];
 
     memcpy(before, state, sizeof before);
@@ -136,21 +136,40 @@ static void refused_piece(uint64_t state[5], uint8_t frame[366], const uint8_t *
     check(!memcmp(before, state, sizeof before) && !memcmp(frame_before, frame, 366), "a refused piece changes nothing");
 }
 
+/* Ones raise the alarm with the second stretch; a refused piece reports none. */
+static void alarm(uint64_t state[9], uint8_t frame[366])
+{
+    uint8_t *ones = lend(2 * SPRITBOBBIN_FRAME_BYTES_2, 0xFF);
+    uint64_t answer[3];
+
+    spritbobbin_receiver_fresh(2, state, frame);
+    check(spritbobbin_receiver_feed(state, frame, ones, 212, 0, 1695, answer) == 0, "ones are taken");
+    check(answer[SPRITBOBBIN_TAKEN] == 1695 && answer[SPRITBOBBIN_ALARM] == 0, "no alarm a digit before");
+    check(state[SPRITBOBBIN_STATE_DIGITS] == 847 && state[SPRITBOBBIN_STATE_ZEROS] == 0, "the stretch");
+    check(spritbobbin_receiver_feed(state, frame, ones, 212, 1695, 1, answer) == 0, "the last digit");
+    check(answer[SPRITBOBBIN_ALARM] == 1 && state[SPRITBOBBIN_STATE_ALARM] == 1, "alarm indication");
+    check(state[SPRITBOBBIN_STATE_FEW] == 1 && state[SPRITBOBBIN_STATE_DIGITS] == 0, "a stretch begins");
+    refused_piece(state, frame, ones, 212, 1696, 1, SPRITBOBBIN_REFUSED_DIGITS);
+    state[SPRITBOBBIN_STATE_ALARM] = 2;
+    refused_piece(state, frame, ones, 212, 0, 1, SPRITBOBBIN_REFUSED_STATE);
+    free(ones);
+}
+
 /* Case 11, and the refusals of a piece. */
 static void receiver(void)
 {
     size_t length = 4 * SPRITBOBBIN_FRAME_BYTES_2, i;
     uint8_t *stream = lend(length, 0), *frame = lend(366, 0xA5), *long_one = lend(SPRITBOBBIN_MOST_BYTES + 1, 0);
-    uint64_t state[5], answer[3];
+    uint64_t state[9], answer[3];
 
     for (i = 0; i < length; i += SPRITBOBBIN_FRAME_BYTES_2)
         stream[i] = 0xF4;
     check(spritbobbin_receiver_fresh(2, state, frame) == SPRITBOBBIN_ACCEPTED && state[0] == 2, "a fresh receiver");
-    check(all_zero(state + 1, 4) && all(frame, 366, 0), "a fresh receiver is all zero but for the level");
+    check(all_zero(state + 1, 8) && all(frame, 366, 0), "a fresh receiver is all zero but for the level");
 
     check(spritbobbin_receiver_feed(state, frame, stream, length, 0, 3392, answer) == 0, "case 11 is accepted");
     check(answer[SPRITBOBBIN_TAKEN] == 2544 && answer[SPRITBOBBIN_READY] == 1, "the first frame of case 11");
-    check(frame[0] == 0xF4 && all(frame + 1, 365, 0) && answer[SPRITBOBBIN_ALL_ONES] == 0, "case 1's bytes");
+    check(frame[0] == 0xF4 && all(frame + 1, 365, 0) && answer[SPRITBOBBIN_ALARM] == 0, "case 1's bytes");
     check(spritbobbin_receiver_feed(state, frame, stream, length, 2544, 848, answer) == 0, "case 11 goes on");
     check(answer[SPRITBOBBIN_TAKEN] == 848 && answer[SPRITBOBBIN_READY] == 1, "the second frame of case 11");
     check(frame[0] == 0xF4 && all(frame + 1, 365, 0), "the same bytes");
@@ -162,9 +181,10 @@ static void receiver(void)
     refused_piece(state, frame, long_one, SPRITBOBBIN_MOST_BYTES + 1, 0, 1, SPRITBOBBIN_REFUSED_LINE);
     state[SPRITBOBBIN_STATE_MODE] = 7;
     refused_piece(state, frame, stream, length, 0, 1, SPRITBOBBIN_REFUSED_STATE);
+    alarm(state, frame);
 
     check(spritbobbin_receiver_fresh(5, state, frame) == SPRITBOBBIN_REFUSED_LEVEL, "no receiver of level 5");
-    check(all_zero(state, 5) && all(frame, 366, 0), "a refused receiver is all zero");
+    check(all_zero(state, 9) && all(frame, 366, 0), "a refused receiver is all zero");
     free(stream);
     free(frame);
     free(long_one);

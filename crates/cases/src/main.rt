@@ -1,8 +1,9 @@
-// Runs worked cases 9, 10 and 11 of document 01, the example of request 1 and more of the kind: each refusal at its border, and each pair
+// Runs worked cases 9, 10 and 11 of document 01, the example of request 1, stretches of the alarm and more of the kind: each refusal at its border, and each pair
 // of faults that tells the order. What it must write was worked out by the separate program of reference/, which shares nothing with the crates.
 use capture_cases::capture;
 use demultiplex::Demultiplexed;
 use multiplex::Multiplexed;
+use stream_cases::alarm;
 use stream_cases::stream;
 use telling::inputs;
 use telling::say;
@@ -333,6 +334,7 @@ fn main() {
     }
     receive_all();
     stream::feed_all();
+    alarm::stretch_all();
     stream::case_11(3392);
     stream::case_11(1);
     stream::case_11(7);

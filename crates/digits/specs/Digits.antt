@@ -1,11 +1,11 @@
 -- Packed digits: what a slice of bytes means as a list of digits, and which bytes a list of digits makes.
 -- Document 01, "Digits and bytes": eight to a byte, first digit in the most significant bit.
 -- There is no other notion of a digit in the project: every statement on a line, a quarter or a frame goes through `digitsOf`.
-use Prim.Native.Nat.{ℕ, zero, suc, _+_, _*_, _/_, _%_, _^_, _<_}
+use Prim.Native.Nat.{ℕ, zero, suc, _+_, _-_, _*_, _/_, _%_, _^_, _<_}
 use mathlib.Core.Bool.{cond}
 use mathlib.Core.List.{List, [], _∷_, _++_}
 use lib.Dec.{eqb}
-use lib.ListN.{getD, drop}
+use lib.ListN.{getD, take, drop}
 
 -- the eight digits of a byte, first digit in the most significant bit
 abbrev pub eight : ℕ → List ℕ
@@ -49,8 +49,22 @@ Binary ds = (i : ℕ) → getD ds i 0 < 2
 unfoldable pub withDigit : ℕ → ℕ → ℕ → ℕ
 withDigit b k d = (b / 2 ^ k / 2 * 2 + d) * 2 ^ k + b % 2 ^ k
 
+-- the number w written with k digits, first digit first
+unfoldable pub written : ℕ → ℕ → List ℕ
+written zero w = []
+written (suc k) w = w / 2 ^ k % 2 ∷ written k w
+
 -- in how many places two lists differ
 unfoldable pub differing : List ℕ → List ℕ → ℕ
 differing [] es = 0
 differing (d ∷ ds) [] = 0
 differing (d ∷ ds) (e ∷ es) = cond (eqb d e) 0 1 + differing ds es
+
+-- the digits of these bytes from a first one on and before an end
+abbrev pub between : List ℕ → ℕ → ℕ → List ℕ
+between bs first end = take (end - first) (drop first (digitsOf bs))
+
+-- how many of these digits are 0
+unfoldable pub zerosIn : List ℕ → ℕ
+zerosIn [] = 0
+zerosIn (d ∷ ds) = 1 - d + zerosIn ds

@@ -1,6 +1,8 @@
-// Packed digits: read the digit at a place of a slice, write the digit at a place of a slice.
+// Packed digits: read the digit at a place of a slice, write the digit at a place of a slice, count the zeros of a part.
 // Digits stand eight to a byte, first digit in the most significant bit. Every crate above speaks of lists of digits
 // (specs/Digits.antt) and of the laws in proofs/Laws.antt, and of bytes no more.
+pub mod zeros;
+
 ghost use mathlib.Core.Path.{_≡_};
 ghost use mathlib.Core.Bool.{cond};
 ghost use Prim.Native.Nat.{_*_, _<_};

@@ -25,13 +25,11 @@ pub const STREAM: usize = 3;
 
 pub const PREFIX: usize = 4;
 
-// How far it is: the receiver, the digits it has taken, whether alignment was ever found, the frames marked all-ones, the frames held, and
-// those taken apart.
+// How far it is: the receiver, the digits it has taken, whether alignment was ever found, the frames held, and those taken apart.
 pub struct Finding {
     pub state: State,
     pub digits: usize,
     pub found: bool,
-    pub ones: usize,
     pub held: usize,
     pub passage: Passage,
 }
@@ -78,7 +76,6 @@ fn start(level: u64, open: OpenFiles) -> Finding {
         state,
         digits: 0,
         found: false,
-        ones: 0,
         held: 0,
         passage: passage::start(open),
     }
@@ -160,7 +157,7 @@ fn chunk_on(
     u
 }
 
-// Feeds a chunk to the receiver, stretch by stretch.
+// Feeds a chunk to the receiver, share by share.
 fn listen(row: Row, level: u64, piece: &[u8], line: &mut [u8], t: Finding) -> Finding
     requires { ⌜ Shared row × (length (now piece) ≤ 65536) × (length (now line) ≡ 65536) ⌝ }
 {
@@ -183,25 +180,26 @@ fn listen(row: Row, level: u64, piece: &[u8], line: &mut [u8], t: Finding) -> Fi
     u
 }
 
-// What one stretch gave: a change of alignment is said, and a frame is held.
+// What one share gave: a change of alignment and one of the alarm are said, and a frame is held.
 fn after(row: Row, level: u64, heard: Heard, line: &mut [u8], t: Finding) -> Finding
     requires { ⌜ Shared row × (length (now line) ≡ 65536) ⌝ }
 {
     let fed = heard.fed;
     let state = fed.state;
-    let change = heard.change;
+    let alignment = heard.alignment;
+    let alarm = heard.alarm;
     let digits = sizes::plus(t.digits, fed.taken);
-    let found = say_change(row, change, digits, state.place);
+    let found = say_change(row, alignment, digits, state.place);
+    say_alarm(alarm, digits);
     let u = Finding {
         state,
         digits,
         found: t.found || found,
-        ones: t.ones,
         held: t.held,
         passage: t.passage,
     };
     if fed.ready {
-        return hold(row, level, fed.ones, line, u);
+        return hold(row, level, line, u);
     }
     u
 }
@@ -210,13 +208,13 @@ fn after(row: Row, level: u64, heard: Heard, line: &mut [u8], t: Finding) -> Fin
 fn say_change(row: Row, change: Change, digits: usize, place: usize) -> bool {
     match change {
         Change::Nothing => false,
-        Change::Found => {
+        Change::Begins => {
             say::text(b"found at digit ");
             say::number(sizes::minus(sizes::minus(digits, place), row.len));
             say::text(b": the third good word in a row, and the first frame handed over\n");
             true
         }
-        Change::Lost => {
+        Change::Ends => {
             say::text(b"lost at digit ");
             say::number(sizes::minus(digits, row.len));
             say::text(b": the fourth wrong word in a row, and its frame is not handed over\n");
@@ -225,8 +223,25 @@ fn say_change(row: Row, change: Change, digits: usize, place: usize) -> bool {
     }
 }
 
+// Says a change of the alarm at the last digit of the second stretch in a row.
+fn say_alarm(change: Change, digits: usize) {
+    match change {
+        Change::Nothing => {}
+        Change::Begins => {
+            say::text(b"alarm indication begins at digit ");
+            say::number(sizes::minus(digits, 1));
+            say::text(b": the second stretch in a row with few zeros ends there\n");
+        }
+        Change::Ends => {
+            say::text(b"alarm indication ends at digit ");
+            say::number(sizes::minus(digits, 1));
+            say::text(b": the second stretch in a row with more zeros ends there\n");
+        }
+    }
+}
+
 // Holds the frame that is ready. 64 frames are taken apart at once.
-fn hold(row: Row, level: u64, ones: bool, line: &mut [u8], t: Finding) -> Finding
+fn hold(row: Row, level: u64, line: &mut [u8], t: Finding) -> Finding
     requires { ⌜ Shared row × (length (now line) ≡ 65536) ⌝ }
 {
     let held = t.held % 64;
@@ -235,9 +250,6 @@ fn hold(row: Row, level: u64, ones: bool, line: &mut [u8], t: Finding) -> Findin
     put_frame(row, line, held, &frame);
     let mut u = t;
     u.held = held + 1;
-    if ones {
-        u.ones = sizes::plus(u.ones, 1);
-    }
     if held == 63 {
         return flush(row, level, line, u);
     }
@@ -283,7 +295,6 @@ fn end(row: Row, t: Finding, writes: bool) {
     let mode = state.mode;
     say_found(row, t.found);
     say::line(b"frames handed over: ", totals.frames);
-    say::line(b"frames marked all-ones: ", t.ones);
     passage::say_totals(totals);
     say_mode(mode);
     if writes {

@@ -5,6 +5,7 @@ use Prim.Native.Nat.{ℕ, _<_}
 use native.Mathlib.Omega.{arith}
 use lib.Dec.{eqb, lit<}
 use borrow.Author.Tests.{eqb-true}
+use Rattle.digits.specs.Digits.{written, zerosIn}
 use Rattle.levels.specs.declared.table.Row.{Row}
 use Rattle.levels.specs.declared.table.Level.{Level}
 use Rattle.levels.specs.declared.table.Level.the-variants.{Of, NoSuchLevel}
@@ -12,12 +13,15 @@ use Rattle.levels.specs.Table.{levelOf, row2, row3, row4, Shared}
 use Rattle.levels.proofs.Choice.{cond-by}
 
 pub shared2 : Shared row2
+unfolding zerosIn written
 shared2 = omega arith
 
 pub shared3 : Shared row3
+unfolding zerosIn written
 shared3 = omega arith
 
 pub shared4 : Shared row4
+unfolding zerosIn written
 shared4 = omega arith
 
 -- a level's row, where there is one, has the shared facts

@@ -1,9 +1,10 @@
--- The level table of document 01, "Digits and bytes", and what its rows share.
+-- The level table of document 01, "Digits and bytes", with the limit of document 02, request 4, and what its rows share.
 use mathlib.Core.Path.{_≡_}
 use mathlib.Core.Logic.{_≢_}
 use mathlib.Core.Bool.{cond}
 use Prim.Native.Nat.{ℕ, _+_, _*_, _-_, _/_, _%_, _^_, _≤_, _<_}
 use lib.Dec.{eqb}
+use Rattle.digits.specs.Digits.{written, zerosIn}
 use Rattle.levels.specs.declared.table.Row.{Row}
 use Rattle.levels.specs.declared.table.Level.{Level}
 use Rattle.levels.specs.declared.table.Level.the-variants.{Of, NoSuchLevel}
@@ -20,20 +21,21 @@ use Rattle.levels.specs.declared.table.Level.the-variants.{Of, NoSuchLev
 -- | control digits in a group            | 3          | 3          | 5            |
 -- | digits per tributary n, none stuffed | 206        | 378        | 723          |
 -- | room per tributary, in digits        | 206        | 378        | 723          |
+-- | zeros that are few in N digits       | 4          | 4          | 5            |
 abbrev pub row2 : Row
 row2 =
     record
-    { digits = 848; bytes = 106; sets = 4; set = 212; word = 0b1111010000; len = 10; alarm = 10; national = 11; nationals = 1; first = 12; middle = 4; last = 8; control = 3; n = 206; room = 206 }
+    { digits = 848; bytes = 106; sets = 4; set = 212; word = 0b1111010000; len = 10; alarm = 10; national = 11; nationals = 1; first = 12; middle = 4; last = 8; control = 3; n = 206; room = 206; limit = 4 }
 
 abbrev pub row3 : Row
 row3 =
     record
-    { digits = 1536; bytes = 192; sets = 4; set = 384; word = 0b1111010000; len = 10; alarm = 10; national = 11; nationals = 1; first = 12; middle = 4; last = 8; control = 3; n = 378; room = 378 }
+    { digits = 1536; bytes = 192; sets = 4; set = 384; word = 0b1111010000; len = 10; alarm = 10; national = 11; nationals = 1; first = 12; middle = 4; last = 8; control = 3; n = 378; room = 378; limit = 4 }
 
 abbrev pub row4 : Row
 row4 =
     record
-    { digits = 2928; bytes = 366; sets = 6; set = 488; word = 0b111110100000; len = 12; alarm = 12; national = 13; nationals = 3; first = 16; middle = 4; last = 8; control = 5; n = 723; room = 723 }
+    { digits = 2928; bytes = 366; sets = 6; set = 488; word = 0b111110100000; len = 12; alarm = 12; national = 13; nationals = 3; first = 16; middle = 4; last = 8; control = 5; n = 723; room = 723; limit = 5 }
 
 -- the row of a level; every number but 2, 3 and 4 is no level
 unfoldable pub levelOf : ℕ → Level
@@ -70,6 +72,8 @@ pub record Shared (row : Row) : Type 0 where
   -- the word has L digits, more than one
   pub word-some : 2 ≤ row .len
   pub word-fits : row .word < 2 ^ row .len
+  -- and more zeros than are few, so that frames are no alarm indication, whatever stands between the words
+  pub limit-word : row .limit < zerosIn (written (row .len) (row .word))
   -- the digits per tributary: a column of four places for each, less the heads; the justification place carries
   pub counted : row .n + row .first / 4 + (row .sets - 2) * (row .middle / 4) + row .last / 4 ≡ row .digits / 4 + 1
   -- there is room for them, and for at most one more

@@ -29,6 +29,8 @@ pub struct Row {
     pub n: usize,
     // room per tributary, in digits
     pub room: usize,
+    // zeros that are few in N digits: alarm indication
+    pub limit: usize,
 }
 
 pub enum Level {
@@ -78,6 +80,7 @@ const TABLE: [Row; 3] = [
         control: 3,
         n: 206,
         room: 206,
+        limit: 4,
     },
     Row {
         digits: 1536,
@@ -95,6 +98,7 @@ const TABLE: [Row; 3] = [
         control: 3,
         n: 378,
         room: 378,
+        limit: 4,
     },
     Row {
         digits: 2928,
@@ -112,6 +116,7 @@ const TABLE: [Row; 3] = [
         control: 5,
         n: 723,
         room: 723,
+        limit: 5,
     },
 ];
 

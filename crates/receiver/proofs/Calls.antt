@@ -16,12 +16,11 @@ use Rattle.levels.proofs.Rows.{shared-row}
 use Rattle.receiver.specs.declared.State.{State}
 use Rattle.receiver.specs.declared.Fed.{Fed}
 use Rattle.receiver.specs.Frame.{readyOf}
-use Rattle.receiver.specs.Feed.{coreOf, freshState, refusalOf, afterOf, handedOver, runOf, feedRow, Valid}
+use Rattle.receiver.specs.Feed.{coreOf, freshState, refusalOf, afterOf, accepted, runOf, feedRow, ValidState}
 use Rattle.receiver.specs.History.{heard, since}
 use Rattle.receiver.specs.Calls.{Delivered, handedAt, streamed, Piece, digitsIn, answerTo, leftBy, takenBy, handedIn, handedBy, restOf, callsFor, callsForAll, digitsInAll, Lent, AllLent}
 use Rattle.receiver.proofs.Validity.{cond-told}
-use Rattle.receiver.proofs.Traces.{traced-fresh}
-use Rattle.receiver.proofs.Pieces.{heard-append, heard-valid, heard-level, Ran, ran, feed-run}
+use Rattle.receiver.proofs.Pieces.{heard-append, heard-state, heard-level, Ran, ran, feed-run, fresh-state}
 
 -- ---- a run, and the stream of the digits that it took
 
@@ -50,8 +49,8 @@ module _ (row : Row) where
       by-ready : (ready : Bool) → readyOf row (coreOf next) ≡ ready
           → ((n : ℕ) → runOf row ds (suc t) next .taken ≡ suc t + n
           → handedIn (before + 1 + n) (runOf row ds (suc t) next) ≡ streamed row (before + 1) next (take n ds))
-          → cond ready (handedOver row (suc t) next) (runOf row ds (suc t) next) .taken ≡ t + m
-          → handedIn (before + m) (cond ready (handedOver row (suc t) next) (runOf row ds (suc t) next)) ≡ streamed row before s (take m (d ∷ ds))
+          → cond ready (accepted next (suc t) true) (runOf row ds (suc t) next) .taken ≡ t + m
+          → handedIn (before + m) (cond ready (accepted next (suc t) true) (runOf row ds (suc t) next)) ≡ streamed row before s (take m (d ∷ ds))
       by-ready true q rest e =
           let one : m ≡ 1 = omega arith in
           rw (one, q)
@@ -75,7 +74,7 @@ module _ (row : Row) (s : State) (known : levelOf (s .level) ≡ Of row) (p : Pi
   unfolding feedRow heard streamed
   answered =
       rw known
-      (cond-told Answered (eqb (refusalOf row (coreOf s) (length (p .slice)) (p .first) (p .count)) 0) (λ _. run)
+      (cond-told Answered (eqb (refusalOf row (coreOf s) (s .stretch) (length (p .slice)) (p .first) (p .count)) 0) (λ _. run)
       (λ _. record { within = omega arith; state = refl; frames = λ _. refl }))
     where
       run : Answered (runOf row (digitsIn p) 0 s)
@@ -127,19 +126,19 @@ piece-rest p taken h =
     ∙ sym (rw all at (take-add taken (p .count - taken) ds))
 
 -- one call for a piece, from a valid state
-lent-ran : (row : Row) (s : State) → levelOf (s .level) ≡ Of row → Valid row (coreOf s) → (p : Piece) → Lent p → Ran row (digitsIn p) 0 s (answerTo s p)
+lent-ran : (row : Row) (s : State) → levelOf (s .level) ≡ Of row → ValidState row s → (p : Piece) → Lent p → Ran row (digitsIn p) 0 s (answerTo s p)
 lent-ran row s known v p lent =
-    rw (feed-run s row known (p .slice) (p .first) (p .count) (record { valid = v; small = lent .small; within = lent .within }))
+    rw (feed-run s row known (p .slice) (p .first) (p .count) (record { valid = v .0; counting = v .1; small = lent .small; within = lent .within }))
     (ran row (digitsIn p) 0 s)
 
-left-valid : (row : Row) (s : State) → levelOf (s .level) ≡ Of row → Valid row (coreOf s) → (ps : List Piece)
-    → (levelOf (leftBy s ps .level) ≡ Of row) × Valid row (coreOf (leftBy s ps))
+left-valid : (row : Row) (s : State) → levelOf (s .level) ≡ Of row → ValidState row s → (ps : List Piece)
+    → (levelOf (leftBy s ps .level) ≡ Of row) × ValidState row (leftBy s ps)
 left-valid row s known v ps =
     rw (as-taken row ps 0 s known .0, heard-level row (takenBy s ps) s)
-    (known, heard-valid row (shared-row (s .level) row known) (takenBy s ps) s v)
+    (known, heard-state row (shared-row (s .level) row known) (takenBy s ps) s v)
 
 -- the calls for a piece take all its digits
-all-of-one : (row : Row) (n : ℕ) (s : State) → levelOf (s .level) ≡ Of row → Valid row (coreOf s) → (p : Piece) → Lent p → p .count ≤ n
+all-of-one : (row : Row) (n : ℕ) (s : State) → levelOf (s .level) ≡ Of row → ValidState row s → (p : Piece) → Lent p → p .count ≤ n
     → takenBy s (callsFor n s p) ≡ digitsIn p
 unfolding callsFor takenBy leftBy
 all-of-one row zero s known v p lent few =
@@ -170,7 +169,7 @@ all-of-one row (suc n) s known v p lent few =
     by-ready true e rest = ap (λ (xs : List ℕ). take k ds ++ xs) (rest (omega (arith, r .counted, r .at-frame e .0))) ∙ piece-rest p k upto
     by-ready false e rest = append-nil (take k ds) ∙ take-all k ds (omega (arith, r .counted, r .at-end e))
 
-all-taken : (row : Row) (ps : List Piece) (s : State) → levelOf (s .level) ≡ Of row → Valid row (coreOf s) → AllLent ps
+all-taken : (row : Row) (ps : List Piece) (s : State) → levelOf (s .level) ≡ Of row → ValidState row s → AllLent ps
     → takenBy s (callsForAll s ps) ≡ digitsInAll ps
 unfolding callsForAll takenBy digitsInAll
 all-taken row [] s known v lent = refl
@@ -182,7 +181,7 @@ all-taken row (p ∷ ps) s known v lent =
 
 -- ---- the stream, wherever it was cut
 
-module _ (row : Row) (s : State) (known : levelOf (s .level) ≡ Of row) (v : Valid row (coreOf s)) where
+module _ (row : Row) (s : State) (known : levelOf (s .level) ≡ Of row) (v : ValidState row s) where
   -- pieces fed one after another, each with its rest after a frame: the state and the frames are those of the stream of all their digits
   pub as-the-stream : (ps : List Piece) → AllLent ps
       → (leftBy s (callsForAll s ps) ≡ heard row s (digitsInAll ps)) × (handedBy 0 s (callsForAll s ps) ≡ streamed row 0 s (digitsInAll ps))
@@ -200,4 +199,4 @@ module _ (row : Row) (s : State) (known : levelOf (s .level) ≡ Of row) (v : Va
 pub fresh-stream : (level : ℕ) (row : Row) → levelOf level ≡ Of row → (ps : List Piece) → AllLent ps
     → (leftBy (freshState level) (callsForAll (freshState level) ps) ≡ since row level (digitsInAll ps))
     × (handedBy 0 (freshState level) (callsForAll (freshState level) ps) ≡ streamed row 0 (freshState level) (digitsInAll ps))
-fresh-stream level row known = as-the-stream row (freshState level) known (traced-fresh row (shared-row level row known) level .valid)
+fresh-stream level row known = as-the-stream row (freshState level) known (fresh-state row (shared-row level row known) level)

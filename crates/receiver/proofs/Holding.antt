@@ -1,22 +1,19 @@
--- Laws of the frame in hand: what `begin` writes is `begun`, what `put_digit` leaves is `put`, and the mark digit by digit.
+-- Laws of the frame in hand: what `begin` writes is `begun`, and what `put_digit` leaves is `put`.
 use mathlib.Core.Path.{_≡_, sym, ap, ap₂, _∙_}
-use mathlib.Core.Bool.{true, _&&_}
 use mathlib.Core.List.{List, _∷_, _++_, append-assoc}
 use Prim.Native.Nat.{ℕ, zero, suc, _+_, _-_, _*_, _/_, _%_, _^_, _≤_, _<_}
 use native.Mathlib.Omega.{arith}
-use native.Mathlib.Numerals.{add-one}
 use native.Mathlib.Decide.{decLt, ℕ-discrete}
 use native.Mathlib.Nat.{div-one}
-use lib.Dec.{eqb}
 use lib.ListN.{length, getD, set, take, replicate, length-append, length-take, length-set, length-replicate, getD-replicate, List·getD-append, replicate-append-replicate, List·getD-eq-default}
 use lib.Seq.{getD-append-add, getD-take}
 use lib.Pow.{shl-lt}
-use Rattle.digits.specs.Digits.{digitsOf, eight, Bytes, Binary}
+use Rattle.digits.specs.Digits.{digitsOf, eight, Bytes, Binary, written}
 use Rattle.digits.proofs.Laws.{digits-length, bytes-of-digits, digits-of-bytes, bytes-length}
 use Rattle.levels.specs.declared.table.Row.{Row}
 use Rattle.levels.specs.Table.{Shared}
-use Rattle.receiver.specs.Frame.{written, holding, begun, put, onesFrom}
-use Rattle.receiver.proofs.Written.{written-length, written-split, written-shift, written-mod}
+use Rattle.receiver.specs.Frame.{holding, begun, put}
+use Rattle.digits.proofs.Written.{written-length, written-split, written-shift, written-mod}
 
 -- a frame has room for its word: with `Shared`'s `word-some`, that the word has two digits, all that the receiver asks of its length
 pub word-within : (row : Row) → Shared row → row .len ≤ row .digits
@@ -104,17 +101,3 @@ put-is f f′ p d e bytes =
     let l : length f′ ≡ length f =
     omega (arith, digits-length f′, digits-length f, length-set (digitsOf f) p d, ap length e) in
     sym (bytes-of-digits f′ bytes) ∙ rw (l, e)
-
--- ---- the mark, from place p of the frame on
-
-pub ones-step : (ds : List ℕ) (n p : ℕ) → p < n → onesFrom ds p (n - p) ≡ (eqb (getD ds p 0) 1 && onesFrom ds (p + 1) (n - (p + 1)))
-unfolding onesFrom
-ones-step ds n p h =
-    let e : n - p ≡ suc (n - (p + 1)) = omega arith in
-    rw (e, add-one p)
-
-pub ones-end : (ds : List ℕ) (n : ℕ) → onesFrom ds n (n - n) ≡ true
-unfolding onesFrom
-ones-end ds n =
-    let e : n - n ≡ 0 = omega arith in
-    rw e

@@ -7,17 +7,20 @@ use native.Mathlib.Omega.{arith}
 use borrow.Author.Tests.{ltb-true, ltb-false}
 use lib.Dec.{ltb}
 use lib.ListN.{length, getD}
-use Rattle.digits.specs.Digits.{digitsOf}
+use Rattle.digits.specs.Digits.{digitsOf, between}
 use Rattle.levels.specs.declared.table.Row.{Row}
 use Rattle.levels.specs.Table.{Shared}
 use Rattle.receiver.specs.declared.Mode.{Mode}
 use Rattle.receiver.specs.declared.Mode.the-variants.{Hunting, OneFound, TwoFound, Aligned}
 use Rattle.receiver.specs.declared.modes.Core.{Core}
+use Rattle.receiver.specs.declared.alarm.Stretch.{Stretch}
+use Rattle.receiver.specs.Alarm.{countOf, counted}
 use Rattle.receiver.specs.Modes.{hunting, windowOf, seenOf, good, asks, placeAfter, afterDigit, stepOf}
 use Rattle.receiver.specs.Frame.{keepOf, readyOf}
 use Rattle.receiver.specs.Feed.{stateOf, afterOf, runOf, pieceOf, Valid}
 use Rattle.receiver.specs.Hunt.{stillHunting, Hunted}
 use Rattle.receiver.proofs.Validity.{cond-told, step-valid}
+use Rattle.receiver.proofs.Counts.{counted-none, counted-one}
 use Rattle.receiver.proofs.Runs.{piece-step}
 
 -- a valid core that hunts is no more than its window and its digits seen
@@ -51,29 +54,30 @@ still-step row w came d bad =
     (cond-told (λ (c : Core). c ≡ record { window = windowOf row w d; seen = min (came + 1) (row .len); mode = Hunting; place = 0 })
     (asks row (min (came + 1) (row .len)) Hunting 0) (λ _. refl) (λ _. refl))
 
-after-still : (row : Row) (w came d level : ℕ) (f : List ℕ) → good row (windowOf row w d) ≡ false
-    → afterOf row (stateOf level (stillHunting row w came) f) d ≡ stateOf level (stillHunting row (windowOf row w d) (came + 1)) f
+after-still : (row : Row) (w came d level : ℕ) (f : List ℕ) (st : Stretch) → good row (windowOf row w d) ≡ false
+    → afterOf row (stateOf level (stillHunting row w came) f st) d ≡ stateOf level (stillHunting row (windowOf row w d) (came + 1)) f (countOf row st d)
 unfolding afterOf keepOf stillHunting
-after-still row w came d level f bad = rw (still-step row w came d bad)
+after-still row w came d level f st bad = rw (still-step row w came d bad)
 
 ready-still : (row : Row) (w came : ℕ) → readyOf row (stillHunting row w came) ≡ false
 unfolding readyOf stillHunting
 ready-still row w came = refl
 
 -- such a digit is the first of a piece, and no frame is ready after it
-run-still : (row : Row) (slice : List ℕ) (at end w came d level taken : ℕ) (f : List ℕ)
+run-still : (row : Row) (slice : List ℕ) (at end w came d level taken : ℕ) (f : List ℕ) (st : Stretch)
     → at < end → end ≤ 8 * length slice → d ≡ getD (digitsOf slice) at 0 → good row (windowOf row w d) ≡ false
-    → runOf row (pieceOf slice at (end - at)) taken (stateOf level (stillHunting row w came) f)
-    ≡ runOf row (pieceOf slice (at + 1) (end - (at + 1))) (suc taken) (stateOf level (stillHunting row (windowOf row w d) (came + 1)) f)
+    → runOf row (pieceOf slice at (end - at)) taken (stateOf level (stillHunting row w came) f st)
+    ≡ runOf row (pieceOf slice (at + 1) (end - (at + 1))) (suc taken)
+    (stateOf level (stillHunting row (windowOf row w d) (came + 1)) f (countOf row st d))
 unfolding runOf
-run-still row slice at end w came d level taken f h within ed bad =
-    rw (piece-step slice at end h within, ← ed, after-still row w came d level f bad, ready-still row (windowOf row w d) (came + 1))
+run-still row slice at end w came d level taken f st h within ed bad =
+    rw (piece-step slice at end h within, ← ed, after-still row w came d level f st bad, ready-still row (windowOf row w d) (came + 1))
 
 module _ (row : Row) (sh : Shared row) (slice : List ℕ) (end p : ℕ) where
   pub hunted-none : (c : Core) → Valid row c → p < end → Hunted row slice end p c p c
   hunted-none c v h =
       let none : p - p ≡ 0 = omega arith in
-      record { valid = v; from = omega arith; before = h; same = λ level taken f. rw (none, nothing taken) }
+      record { valid = v; from = omega arith; before = h; same = λ level taken f st. rw (← counted-none row slice st p, none, nothing taken) }
     where
       nothing : (t : ℕ) → t + 0 ≡ t
       nothing t = omega arith
@@ -98,7 +102,9 @@ module _ (row : Row) (sh : Shared row) (slice : List ℕ) (end p : ℕ) where
         valid = rw (en, ← step) (step-valid row sh (stillHunting row w came) (h .valid) d);
         from = omega (arith, h .from);
         before = room;
-        same = λ level taken f.
+        same = λ level taken f st.
             let t : taken + (at + 1 - p) ≡ suc (taken + (at - p)) = omega (arith, h .from) in
-            h .same level taken f ∙ rw (en, t) (run-still row slice at end w came d level (taken + (at - p)) f (omega arith) within ed bad′);
+            h .same level taken f st
+            ∙ rw (en, t, counted-one row slice st p at d (h .from) (omega arith) ed)
+            (run-still row slice at end w came d level (taken + (at - p)) f (counted row st (between slice p at)) (omega arith) within ed bad′);
       }

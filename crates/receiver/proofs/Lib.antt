@@ -1,6 +1,6 @@
-pub mod Written
 pub mod Holding
 pub mod Validity
+pub mod Counts
 pub mod Runs
 pub mod Hunts
 pub mod Lasts
@@ -11,3 +11,5 @@ pub mod Words
 pub mod Losses
 pub mod Answers
 pub mod Calls
+pub mod Alarms
+pub mod FramedLines

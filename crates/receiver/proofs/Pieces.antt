@@ -1,7 +1,7 @@
 -- Calls in turn: a run is the history grown by the digits it took; two pieces in turn are one; a state handed back is valid;
 -- and a frame that a call hands over is the N digits received last.
 use mathlib.Core.Path.{_≡_, refl, sym, ap, _∙_}
-use mathlib.Core.Bool.{Bool, cond, true, false, true≢false}
+use mathlib.Core.Bool.{Bool, cond, true, false, _||_, true≢false}
 use mathlib.Core.List.{List, [], _∷_, _++_}
 use Prim.Native.Nat.{ℕ, zero, suc, _+_, _*_, _≤_, _<_}
 use native.Mathlib.Omega.{arith}
@@ -18,10 +18,12 @@ use Rattle.levels.proofs.Rows.{shared-row}
 use Rattle.receiver.specs.declared.State.{State}
 use Rattle.receiver.specs.declared.Fed.{Fed}
 use Rattle.receiver.specs.Frame.{readyOf}
-use Rattle.receiver.specs.Feed.{coreOf, freshState, freshOf, invalid, refusalOf, afterOf, handedOver, runOf, pieceOf, feedRow, feedOf, Valid}
+use Rattle.receiver.specs.Feed.{coreOf, freshState, freshOf, invalid, refusalOf, afterOf, accepted, refused, runOf, pieceOf, feedRow, feedOf, Valid, ValidState}
+use Rattle.receiver.specs.Alarm.{uncounted, counted, Counting}
 use Rattle.receiver.specs.History.{heard, readyAfter, since, joined, Handed}
 use Rattle.receiver.proofs.Holding.{binary-append, binary-take}
-use Rattle.receiver.proofs.Validity.{cond-told, valid-only, step-valid, Accepted, accepted-if, accepted-only}
+use Rattle.receiver.proofs.Validity.{cond-told, valid-only, counting-only, step-valid, Accepted, accepted-if, accepted-only}
+use Rattle.receiver.proofs.Counts.{counted-counting}
 use Rattle.receiver.proofs.Traces.{Traced, traced-fresh, traced, handed}
 
 -- ---- histories
@@ -37,10 +39,22 @@ module _ (row : Row) (sh : Shared row) where
   heard-valid [] s v = v
   heard-valid (d ∷ ds) s v = heard-valid ds (afterOf row s d) (step-valid row sh (coreOf s) v d)
 
+-- the stretch depends on the digits alone, whatever the mode
+pub heard-stretch : (row : Row) (ds : List ℕ) (s : State) → heard row s ds .stretch ≡ counted row (s .stretch) ds
+unfolding heard afterOf counted
+heard-stretch row [] s = refl
+heard-stretch row (d ∷ ds) s = heard-stretch row ds (afterOf row s d)
+
+pub heard-counting : (row : Row) (ds : List ℕ) (s : State) → Counting row (s .stretch) → Counting row (heard row s ds .stretch)
+heard-counting row ds s k = rw (heard-stretch row ds s) (counted-counting row ds (s .stretch) k)
+
 pub heard-level : (row : Row) (ds : List ℕ) (s : State) → heard row s ds .level ≡ s .level
 unfolding heard afterOf
 heard-level row [] s = refl
 heard-level row (d ∷ ds) s = heard-level row ds (afterOf row s d)
+
+pub heard-state : (row : Row) → Shared row → (ds : List ℕ) (s : State) → ValidState row s → ValidState row (heard row s ds)
+heard-state row sh ds s v = (heard-valid row sh ds s (v .0), heard-counting row ds s (v .1))
 
 -- ---- a run: the state is that of the history grown by the digits taken; it stops at a ready frame, or else at the end
 
@@ -49,6 +63,7 @@ pub record Ran (row : Row) (ds : List ℕ) (before : ℕ) (s : State) (r : Fed) 
   pub counted : r .taken ≡ before + taken
   pub within : taken ≤ length ds
   pub state : r .state ≡ heard row s (take taken ds)
+  pub alarm : r .alarm ≡ r .state .stretch .alarm
   pub accepted : r .refusal ≡ 0
   pub at-frame : r .ready ≡ true → (0 < taken) × (readyOf row (coreOf (r .state)) ≡ true)
   pub at-end : r .ready ≡ false → taken ≡ length ds
@@ -63,6 +78,7 @@ ran row [] before s =
       counted = omega arith;
       within = omega arith;
       state = refl;
+      alarm = refl;
       accepted = refl;
       at-frame = λ e. absurd (true≢false (sym e));
       at-end = λ _. refl;
@@ -78,6 +94,7 @@ ran row (d ∷ ds) before s =
       counted = omega arith;
       within = omega arith;
       state = refl;
+      alarm = refl;
       accepted = refl;
       at-frame = λ _. (omega arith, e);
       at-end = λ q. absurd (true≢false q);
@@ -89,6 +106,7 @@ ran row (d ∷ ds) before s =
       counted = omega (arith, r .counted);
       within = omega (arith, r .within);
       state = r .state;
+      alarm = r .alarm;
       accepted = r .accepted;
       at-frame = λ q. (omega arith, r .at-frame q .1);
       at-end = λ q. ap suc (r .at-end q);
@@ -121,13 +139,13 @@ run-append row (x ∷ xs) ys t s =
     (run-append row xs ys (suc t) (afterOf row s x))
   where
     one : (ready : Bool) (a b : Fed) → a ≡ onward row ys b
-        → cond ready (handedOver row (suc t) (afterOf row s x)) a ≡ onward row ys (cond ready (handedOver row (suc t) (afterOf row s x)) b)
+        → cond ready (accepted (afterOf row s x) (suc t) true) a ≡ onward row ys (cond ready (accepted (afterOf row s x) (suc t) true) b)
     one true a b e = refl
     one false a b e = e
 
 -- the digits taken before only add up
 later : ℕ → Fed → Fed
-later k r = record { refusal = r .refusal; taken = k + r .taken; ready = r .ready; ones = r .ones; state = r .state }
+later k r = record { refusal = r .refusal; taken = k + r .taken; ready = r .ready; alarm = r .alarm; state = r .state }
 
 run-later : (row : Row) (ds : List ℕ) (k t : ℕ) (s : State) → runOf row ds (k + t) s ≡ later k (runOf row ds t s)
 unfolding runOf later
@@ -137,8 +155,8 @@ run-later row (d ∷ ds) k t s =
     rw e (one (readyOf row (coreOf (afterOf row s d))) (run-later row ds k (suc t) (afterOf row s d)))
   where
     one : (ready : Bool) → runOf row ds (k + suc t) (afterOf row s d) ≡ later k (runOf row ds (suc t) (afterOf row s d))
-        → cond ready (handedOver row (k + suc t) (afterOf row s d)) (runOf row ds (k + suc t) (afterOf row s d))
-        ≡ later k (cond ready (handedOver row (suc t) (afterOf row s d)) (runOf row ds (suc t) (afterOf row s d)))
+        → cond ready (accepted (afterOf row s d) (k + suc t) true) (runOf row ds (k + suc t) (afterOf row s d))
+        ≡ later k (cond ready (accepted (afterOf row s d) (suc t) true) (runOf row ds (suc t) (afterOf row s d)))
     one true q = refl
     one false q = q
 
@@ -153,19 +171,19 @@ run-joined row xs ys s =
 -- ---- the same of the public call
 
 module _ (s : State) (row : Row) (known : levelOf (s .level) ≡ Of row) where
-  pub feed-run : (slice : List ℕ) (first count : ℕ) → Accepted row (coreOf s) (length slice) first count
+  pub feed-run : (slice : List ℕ) (first count : ℕ) → Accepted row (coreOf s) (s .stretch) (length slice) first count
       → feedOf s slice first count ≡ runOf row (pieceOf slice first count) 0 s
   unfolding feedRow
-  feed-run slice first count a = rw (known, eq-eqb _ 0 (accepted-only row (coreOf s) (length slice) first count a))
+  feed-run slice first count a = rw (known, eq-eqb _ 0 (accepted-only row (coreOf s) (s .stretch) (length slice) first count a))
 
   -- an accepted call's state was valid, and what it asks of the piece held
-  pub accepted-valid : (slice : List ℕ) (first count : ℕ) → feedOf s slice first count .refusal ≡ 0 → Accepted row (coreOf s) (length slice) first count
+  pub accepted-valid : (slice : List ℕ) (first count : ℕ) → feedOf s slice first count .refusal ≡ 0 → Accepted row (coreOf s) (s .stretch) (length slice) first count
   unfolding feedRow
   accepted-valid slice first count e =
-      accepted-if row (coreOf s) (length slice) first count
-      (told (refusalOf row (coreOf s) (length slice) first count) (rw known at e))
+      accepted-if row (coreOf s) (s .stretch) (length slice) first count
+      (told (refusalOf row (coreOf s) (s .stretch) (length slice) first count) (rw known at e))
     where
-      told : (n : ℕ) → cond (eqb n 0) (runOf row (pieceOf slice first count) 0 s) (record { refusal = n; taken = 0; ready = false; ones = false; state = s }) .refusal ≡ 0 → n ≡ 0
+      told : (n : ℕ) → cond (eqb n 0) (runOf row (pieceOf slice first count) 0 s) (refused n s) .refusal ≡ 0 → n ≡ 0
       told n = cond-told (λ (r : Fed). r .refusal ≡ 0 → n ≡ 0) (eqb n 0) (λ q _. eqb-true n 0 q) (λ _ q. q)
 
   -- an accepted call answers as the run over its digits
@@ -192,19 +210,19 @@ module _ (s : State) (row : Row) (known : levelOf (s .level) ≡ Of row) where
       r .passed k lo (omega (arith, r .at-end none)) (λ _. none)
 
   -- every state handed back from a valid one is valid, and of the same level
-  pub feed-valid : Valid row (coreOf s) → (slice : List ℕ) (first count : ℕ)
-      → Valid row (coreOf (feedOf s slice first count .state)) × (feedOf s slice first count .state .level ≡ s .level)
+  pub feed-valid : ValidState row s → (slice : List ℕ) (first count : ℕ)
+      → ValidState row (feedOf s slice first count .state) × (feedOf s slice first count .state .level ≡ s .level)
   unfolding feedRow
   feed-valid v slice first count =
       rw known
-      (cond-told (λ (r : Fed). Valid row (coreOf (r .state)) × (r .state .level ≡ s .level))
-      (eqb (refusalOf row (coreOf s) (length slice) first count) 0) (λ _. run-valid) (λ _. (v, refl)))
+      (cond-told (λ (r : Fed). ValidState row (r .state) × (r .state .level ≡ s .level))
+      (eqb (refusalOf row (coreOf s) (s .stretch) (length slice) first count) 0) (λ _. run-valid) (λ _. (v, refl)))
     where
-      run-valid : Valid row (coreOf (runOf row (pieceOf slice first count) 0 s .state)) × (runOf row (pieceOf slice first count) 0 s .state .level ≡ s .level)
+      run-valid : ValidState row (runOf row (pieceOf slice first count) 0 s .state) × (runOf row (pieceOf slice first count) 0 s .state .level ≡ s .level)
       run-valid =
           let r = ran row (pieceOf slice first count) 0 s in
           rw (r .state) (
-            heard-valid row (shared-row (s .level) row known) (take (r .taken) (pieceOf slice first count)) s v,
+            heard-state row (shared-row (s .level) row known) (take (r .taken) (pieceOf slice first count)) s v,
             heard-level row (take (r .taken) (pieceOf slice first count)) s,
           )
 
@@ -212,9 +230,9 @@ module _ (s : State) (row : Row) (known : levelOf (s .level) ≡ Of row) where
 pub feed-joined : (s : State) (row : Row) → levelOf (s .level) ≡ Of row
     → (slice₁ : List ℕ) (first₁ count₁ : ℕ) (slice₂ : List ℕ) (first₂ count₂ : ℕ) (slice : List ℕ) (first count : ℕ)
     → pieceOf slice first count ≡ pieceOf slice₁ first₁ count₁ ++ pieceOf slice₂ first₂ count₂
-    → Accepted row (coreOf s) (length slice₁) first₁ count₁
+    → Accepted row (coreOf s) (s .stretch) (length slice₁) first₁ count₁
     → length slice₂ ≤ 65536 → first₂ + count₂ ≤ 8 * length slice₂
-    → Accepted row (coreOf s) (length slice) first count
+    → Accepted row (coreOf s) (s .stretch) (length slice) first count
     → feedOf s slice first count ≡ joined (feedOf s slice₁ first₁ count₁) (feedOf (feedOf s slice₁ first₁ count₁ .state) slice₂ first₂ count₂)
 feed-joined s row known slice₁ first₁ count₁ slice₂ first₂ count₂ slice first count same a₁ small within a =
     feed-run s row known slice first count a
@@ -226,20 +244,20 @@ feed-joined s row known slice₁ first₁ count₁ slice₂ first₂ count₂ sl
     ys : List ℕ
     ys = pieceOf slice₂ first₂ count₂
 
-    between : State
-    between = runOf row xs 0 s .state
+    midway : State
+    midway = runOf row xs 0 s .state
 
     r : Ran row xs 0 s (runOf row xs 0 s)
     r = ran row xs 0 s
 
-    level : levelOf (between .level) ≡ Of row
+    level : levelOf (midway .level) ≡ Of row
     level = rw (r .state, heard-level row (take (r .taken) xs) s) known
 
-    valid : Valid row (coreOf between)
-    valid = rw (r .state) (heard-valid row (shared-row (s .level) row known) (take (r .taken) xs) s (a₁ .valid))
+    valid : ValidState row midway
+    valid = rw (r .state) (heard-state row (shared-row (s .level) row known) (take (r .taken) xs) s (a₁ .valid, a₁ .counting))
 
-    next : feedOf between slice₂ first₂ count₂ ≡ runOf row ys 0 between
-    next = feed-run between row level slice₂ first₂ count₂ (record { valid = valid; small = small; within = within })
+    next : feedOf midway slice₂ first₂ count₂ ≡ runOf row ys 0 midway
+    next = feed-run midway row level slice₂ first₂ count₂ (record { valid = valid .0; counting = valid .1; small = small; within = within })
 
 -- one piece, wherever it is cut
 pub feed-cut : (s : State) (row : Row) → levelOf (s .level) ≡ Of row → (slice : List ℕ) (first a b : ℕ)
@@ -250,7 +268,7 @@ feed-cut s row known slice first a b e =
     let cut : pieceOf slice first (a + b) ≡ pieceOf slice first a ++ pieceOf slice (first + a) b =
     take-add a b (drop first (digitsOf slice)) ∙ rw (drop-drop a first (digitsOf slice)) in
     feed-joined s row known slice first a slice (first + a) b slice first (a + b) cut
-    (record { valid = whole .valid; small = whole .small; within = omega (arith, whole .within) })
+    (record { valid = whole .valid; counting = whole .counting; small = whole .small; within = omega (arith, whole .within) })
     (whole .small)
     (omega (arith, whole .within))
     whole
@@ -307,6 +325,13 @@ feed-from level row known ds bin slice first count e =
 
 -- ---- fresh
 
-pub fresh-valid : (level : ℕ) (row : Row) → levelOf level ≡ Of row → invalid row (coreOf (freshOf level .state)) ≡ false
+pub fresh-state : (row : Row) → Shared row → (level : ℕ) → ValidState row (freshState level)
+fresh-state row sh level =
+    let v = traced-fresh row sh level .valid in
+    (v, record { within = omega (arith, v .place); fewer = omega arith })
+
+pub fresh-valid : (level : ℕ) (row : Row) → levelOf level ≡ Of row
+    → (invalid row (coreOf (freshOf level .state)) || uncounted row (freshOf level .state .stretch)) ≡ false
 fresh-valid level row known =
-    rw known (valid-only row (coreOf (freshState level)) (traced-fresh row (shared-row level row known) level .valid))
+    let v = fresh-state row (shared-row level row known) level in
+    rw (known, valid-only row (coreOf (freshState level)) (v .0), counting-only row (freshState level .stretch) (v .1))

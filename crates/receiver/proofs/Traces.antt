@@ -9,7 +9,7 @@ use borrow.Author.Tests.{ltb-true, ltb-false, leb-true, leb-false, eqb-true, ne-
 use lib.Dec.{eqb, ltb, leb}
 use lib.ListN.{length, set, take, drop, replicate, length-append, length-replicate}
 use lib.Seq.{take-all, take-append-le, set-at}
-use Rattle.digits.specs.Digits.{Binary}
+use Rattle.digits.specs.Digits.{Binary, written}
 use Rattle.levels.specs.declared.table.Row.{Row}
 use Rattle.levels.specs.Table.{Shared}
 use Rattle.receiver.specs.declared.Mode.{Mode}
@@ -17,10 +17,10 @@ use Rattle.receiver.specs.declared.Mode.the-variants.{Hunting, OneFound,
 use Rattle.receiver.specs.declared.modes.Core.{Core}
 use Rattle.receiver.specs.declared.State.{State}
 use Rattle.receiver.specs.Modes.{hunting, windowOf, seenOf, asks, placeAfter, afterDigit, stepOf}
-use Rattle.receiver.specs.Frame.{written, holding, begun, put, keepOf, aligned, readyOf}
+use Rattle.receiver.specs.Frame.{holding, begun, put, keepOf, aligned, readyOf}
 use Rattle.receiver.specs.Feed.{coreOf, freshState, afterOf, Valid}
 use Rattle.receiver.specs.History.{heard, since, lastOf, Handed}
-use Rattle.receiver.proofs.Written.{written-zero, written-more}
+use Rattle.digits.proofs.Written.{written-zero, written-more}
 use Rattle.receiver.proofs.Holding.{word-within, binary-append, holding-digits, holding-length}
 use Rattle.receiver.proofs.Validity.{cond-told, and-both, step-valid, asked-came}
 use Rattle.receiver.proofs.Lasts.{last-length, last-binary, last-more, last-less, last-zeros}

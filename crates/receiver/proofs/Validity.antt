@@ -13,6 +13,8 @@ use Rattle.receiver.specs.declared.Mode.{Mode}
 use Rattle.receiver.specs.declared.Mode.the-variants.{Hunting, OneFound, TwoFound, Aligned}
 use Rattle.receiver.specs.declared.modes.Core.{Core}
 use Rattle.receiver.specs.Modes.{hunting, missed, windowOf, seenOf, good, asks, judged, placeAfter, afterDigit, stepOf}
+use Rattle.receiver.specs.declared.alarm.Stretch.{Stretch}
+use Rattle.receiver.specs.Alarm.{uncounted, Counting}
 use Rattle.receiver.specs.Feed.{invalid, refusalOf, Valid}
 
 -- ---- tests
@@ -81,25 +83,46 @@ module _ (row : Row) (c : Core) where
       last true rests came = rw (eq-eqb (c .place) 0 (rests refl))
       last false rests came = rw (le-ltb (c .seen) (row .len) (came refl))
 
+-- ---- and so for the stretch
+
+pub counting-if : (row : Row) (st : Stretch) → uncounted row st ≡ false → Counting row st
+unfolding uncounted
+counting-if row st e =
+    record {
+      within = leb-false (row .digits) (st .digits) (or-left (leb (row .digits) (st .digits)) (ltb (st .digits) (st .zeros)) e);
+      fewer = ltb-false (st .digits) (st .zeros) (or-right (leb (row .digits) (st .digits)) (ltb (st .digits) (st .zeros)) e);
+    }
+
+pub counting-only : (row : Row) (st : Stretch) → Counting row st → uncounted row st ≡ false
+unfolding uncounted
+counting-only row st c = rw (lt-leb (row .digits) (st .digits) (c .within), le-ltb (st .digits) (st .zeros) (c .fewer))
+
 -- ---- what an accepted call says
 
-pub record Accepted (row : Row) (c : Core) (bytes first count : ℕ) : Type 0 where
+pub record Accepted (row : Row) (c : Core) (st : Stretch) (bytes first count : ℕ) : Type 0 where
   pub valid : Valid row c
+  pub counting : Counting row st
   pub small : bytes ≤ 65536
   pub within : first + count ≤ 8 * bytes
 
-pub accepted-if : (row : Row) (c : Core) (bytes first count : ℕ) → refusalOf row c bytes first count ≡ 0 → Accepted row c bytes first count
-unfolding refusalOf
-accepted-if row c bytes first count =
-    cond-told (λ (n : ℕ). n ≡ 0 → Accepted row c bytes first count) (invalid row c) (λ _ h. absurd (omega arith))
-    (λ v. cond-told (λ (n : ℕ). n ≡ 0 → Accepted row c bytes first count) (ltb 65536 bytes) (λ _ h. absurd (omega arith))
-    (λ b. cond-told (λ (n : ℕ). n ≡ 0 → Accepted row c bytes first count) (ltb (8 * bytes) (first + count)) (λ _ h. absurd (omega arith))
-    (λ w _. record { valid = valid-if row c v; small = ltb-false 65536 bytes b; within = ltb-false (8 * bytes) (first + count) w })))
+module _ (row : Row) (c : Core) (st : Stretch) (bytes first count : ℕ) where
+  pub accepted-if : refusalOf row c st bytes first count ≡ 0 → Accepted row c st bytes first count
+  unfolding refusalOf
+  accepted-if =
+      cond-told (λ (n : ℕ). n ≡ 0 → Accepted row c st bytes first count) (invalid row c || uncounted row st) (λ _ h. absurd (omega arith))
+      (λ v. cond-told (λ (n : ℕ). n ≡ 0 → Accepted row c st bytes first count) (ltb 65536 bytes) (λ _ h. absurd (omega arith))
+      (λ b. cond-told (λ (n : ℕ). n ≡ 0 → Accepted row c st bytes first count) (ltb (8 * bytes) (first + count)) (λ _ h. absurd (omega arith))
+      (λ w _. record {
+        valid = valid-if row c (or-left (invalid row c) (uncounted row st) v);
+        counting = counting-if row st (or-right (invalid row c) (uncounted row st) v);
+        small = ltb-false 65536 bytes b;
+        within = ltb-false (8 * bytes) (first + count) w;
+      })))
 
-pub accepted-only : (row : Row) (c : Core) (bytes first count : ℕ) → Accepted row c bytes first count → refusalOf row c bytes first count ≡ 0
-unfolding refusalOf
-accepted-only row c bytes first count a =
-    rw (valid-only row c (a .valid), le-ltb 65536 bytes (a .small), le-ltb (8 * bytes) (first + count) (a .within))
+  pub accepted-only : Accepted row c st bytes first count → refusalOf row c st bytes first count ≡ 0
+  unfolding refusalOf
+  accepted-only a =
+      rw (valid-only row c (a .valid), counting-only row st (a .counting), le-ltb 65536 bytes (a .small), le-ltb (8 * bytes) (first + count) (a .within))
 
 -- ---- a digit keeps it valid
 

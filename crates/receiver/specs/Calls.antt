@@ -1,26 +1,25 @@
 -- Calls in turn. A stream of digits comes in pieces; a call stops at a frame, and the caller calls again with the rest of its piece.
 -- Here is what such calls hand over, and what the stream of all their digits does. proofs/Calls.antt says that the two are one.
-use mathlib.Core.Bool.{Bool, cond}
+use mathlib.Core.Bool.{cond}
 use mathlib.Core.List.{List, [], _∷_, _++_}
 use Prim.Native.Nat.{ℕ, zero, suc, _+_, _-_, _*_, _≤_}
 use lib.ListN.{length, take}
 use Rattle.levels.specs.declared.table.Row.{Row}
 use Rattle.receiver.specs.declared.State.{State}
 use Rattle.receiver.specs.declared.Fed.{Fed}
-use Rattle.receiver.specs.Frame.{readyOf, markOf}
+use Rattle.receiver.specs.Frame.{readyOf}
 use Rattle.receiver.specs.Feed.{coreOf, afterOf, pieceOf, feedOf}
 
 -- ---- the stream
 
--- a frame handed over: after how many digits of the stream, its mark, and the array
+-- a frame handed over: after how many digits of the stream, and the array
 pub record Delivered : Type 0 where
   pub after : ℕ
-  pub ones : Bool
   pub frame : List ℕ
 
 -- what is handed over at the digit that made this state
 abbrev pub handedAt : Row → ℕ → State → List Delivered
-handedAt row after s = cond (readyOf row (coreOf s)) (record { after = after; ones = markOf row (s .frame); frame = s .frame } ∷ []) []
+handedAt row after s = cond (readyOf row (coreOf s)) (record { after = after; frame = s .frame } ∷ []) []
 
 -- what these digits hand over, where so many came before
 unfoldable pub streamed : Row → ℕ → State → List ℕ → List Delivered
@@ -53,7 +52,7 @@ takenBy s (p ∷ ps) = take (answerTo s p .taken) (digitsIn p) ++ takenBy (answe
 
 -- what an answer hands over
 abbrev pub handedIn : ℕ → Fed → List Delivered
-handedIn after r = cond (r .ready) (record { after = after; ones = r .ones; frame = r .state .frame } ∷ []) []
+handedIn after r = cond (r .ready) (record { after = after; frame = r .state .frame } ∷ []) []
 
 -- what they hand over, where so many digits came before
 unfoldable pub handedBy : ℕ → State → List Piece → List Delivered

@@ -1,4 +1,5 @@
--- The two calls: a fresh state, and a piece fed to a state. Document 01, "Finding frames in a stream" and "Refusal numbers".
+-- The two calls: a fresh state, and a piece fed to a state. Document 01, "Finding frames in a stream" and "Refusal numbers", and
+-- document 02, request 4.
 use mathlib.Core.Path.{_≡_}
 use mathlib.Core.Bool.{Bool, cond, true, false, not, _&&_, _||_}
 use mathlib.Core.List.{List, [], _∷_}
@@ -12,25 +13,27 @@ use Rattle.levels.specs.declared.table.Level.the-variants.{Of, NoSuchLevel}
 use Rattle.levels.specs.Table.{levelOf}
 use Rattle.receiver.specs.declared.Mode.the-variants.{Hunting}
 use Rattle.receiver.specs.declared.modes.Core.{Core}
+use Rattle.receiver.specs.declared.alarm.Stretch.{Stretch}
 use Rattle.receiver.specs.declared.State.{State}
 use Rattle.receiver.specs.declared.Made.{Made}
 use Rattle.receiver.specs.declared.Fed.{Fed}
 use Rattle.receiver.specs.Modes.{hunting, missed, stepOf}
-use Rattle.receiver.specs.Frame.{keepOf, readyOf, markOf}
+use Rattle.receiver.specs.Frame.{keepOf, readyOf}
+use Rattle.receiver.specs.Alarm.{countOf, freshStretch, uncounted, Counting}
 
--- a state is its level, its core and the frame in hand
+-- a state is its level, its core, the frame in hand and the stretch that is being cut
 abbrev pub coreOf : State → Core
 coreOf s = record { window = s .window; seen = s .seen; mode = s .mode; place = s .place }
 
-abbrev pub stateOf : ℕ → Core → List ℕ → State
-stateOf level c f =
-    record { level = level; window = c .window; seen = c .seen; mode = c .mode; place = c .place; frame = f }
+abbrev pub stateOf : ℕ → Core → List ℕ → Stretch → State
+stateOf level c f st =
+    record { level = level; window = c .window; seen = c .seen; mode = c .mode; place = c .place; frame = f; stretch = st }
 
 -- ---- a fresh state
 
 -- "A fresh state hunts and all its numbers but the level are 0", the array "all zero"
 abbrev pub freshState : ℕ → State
-freshState level = stateOf level (record { window = 0; seen = 0; mode = Hunting; place = 0 }) (replicate 366 0)
+freshState level = stateOf level (record { window = 0; seen = 0; mode = Hunting; place = 0 }) (replicate 366 0) freshStretch
 
 -- "one refused with 1 has level 0 too"
 abbrev pub freshAt : Level → ℕ → Made
@@ -47,7 +50,7 @@ FreshMet level made = made ≡ freshOf level
 -- ---- refusals
 
 -- 6: "receiver state is not valid: [level wrong,] window at or over 2 to the L, digits seen over L, missed over 3, place at or
--- over N, hunting with a place other than 0, or not hunting with fewer than L digits seen"
+-- over N, hunting with a place other than 0, or not hunting with fewer than L digits seen"; and `uncounted` of specs/Alarm.antt
 unfoldable pub invalid : Row → Core → Bool
 invalid row c =
     leb (2 ^ row .len) (c .window)
@@ -59,13 +62,13 @@ invalid row c =
 
 -- "For a piece: 6, 2, 7. The first that applies is the answer." 2: "slice over 65,536 bytes". 7: "first digit plus number of
 -- digits is more than the slice holds"
-unfoldable pub refusalOf : Row → Core → ℕ → ℕ → ℕ → ℕ
-refusalOf row c bytes first count =
-    cond (invalid row c) 6 (cond (ltb 65536 bytes) 2 (cond (ltb (8 * bytes) (first + count)) 7 0))
+unfoldable pub refusalOf : Row → Core → Stretch → ℕ → ℕ → ℕ → ℕ
+refusalOf row c st bytes first count =
+    cond (invalid row c || uncounted row st) 6 (cond (ltb 65536 bytes) 2 (cond (ltb (8 * bytes) (first + count)) 7 0))
 
--- "Under a refusal .. digits taken are 0, no frame is ready, a state comes back equal"
+-- "Under a refusal .. digits taken are 0, no frame is ready, a state comes back equal"; the alarm "under a refusal none"
 abbrev pub refused : ℕ → State → Fed
-refused number s = record { refusal = number; taken = 0; ready = false; ones = false; state = s }
+refused number s = record { refusal = number; taken = 0; ready = false; alarm = false; state = s }
 
 -- ---- the run over a piece
 
@@ -73,22 +76,17 @@ refused number s = record { refusal = number; taken = 0; ready = false; ones = f
 unfoldable pub afterOf : Row → State → ℕ → State
 afterOf row s d =
     stateOf (s .level) (stepOf row (coreOf s) d) (keepOf row (stepOf row (coreOf s) d) d (s .frame))
+    (countOf row (s .stretch) d)
 
--- "It reports digits taken, whether a frame is ready, and the mark, which is "no" where none is ready."
-abbrev pub accepted : State → ℕ → Bool → Bool → Fed
-accepted s taken ready ones = record { refusal = 0; taken = taken; ready = ready; ones = ones; state = s }
-
-abbrev pub atEnd : ℕ → State → Fed
-atEnd taken s = accepted s taken false false
-
-abbrev pub handedOver : Row → ℕ → State → Fed
-handedOver row taken s = accepted s taken true (markOf row (s .frame))
+-- "It reports digits taken, whether a frame is ready", and "the alarm at its end"
+abbrev pub accepted : State → ℕ → Bool → Fed
+accepted s taken ready = record { refusal = 0; taken = taken; ready = ready; alarm = s .stretch .alarm; state = s }
 
 -- these digits, where so many were taken before: it "stops after the digit that completes a frame, or at the end of the piece"
 unfoldable pub runOf : Row → List ℕ → ℕ → State → Fed
-runOf row [] taken s = atEnd taken s
+runOf row [] taken s = accepted s taken false
 runOf row (d ∷ ds) taken s =
-    cond (readyOf row (coreOf (afterOf row s d))) (handedOver row (suc taken) (afterOf row s d))
+    cond (readyOf row (coreOf (afterOf row s d))) (accepted (afterOf row s d) (suc taken) true)
     (runOf row ds (suc taken) (afterOf row s d))
 
 -- the digits of a piece: so many of a slice, from a first one on
@@ -97,8 +95,8 @@ pieceOf slice first count = take count (drop first (digitsOf slice))
 
 unfoldable pub feedRow : Row → State → List ℕ → ℕ → ℕ → Fed
 feedRow row s slice first count =
-    cond (eqb (refusalOf row (coreOf s) (length slice) first count) 0) (runOf row (pieceOf slice first count) 0 s)
-    (refused (refusalOf row (coreOf s) (length slice) first count) s)
+    cond (eqb (refusalOf row (coreOf s) (s .stretch) (length slice) first count) 0) (runOf row (pieceOf slice first count) 0 s)
+    (refused (refusalOf row (coreOf s) (s .stretch) (length slice) first count) s)
 
 -- "level wrong" is the first item of 6
 abbrev pub feedAt : Level → State → List ℕ → ℕ → ℕ → Fed
@@ -120,3 +118,7 @@ pub record Valid (row : Row) (c : Core) : Type 0 where
   pub place : c .place < row .digits
   pub rests : hunting (c .mode) ≡ true → c .place ≡ 0
   pub came : hunting (c .mode) ≡ false → row .len ≤ c .seen
+
+-- a state of this row that is not refused with 6
+abbrev pub ValidState : Row → State → Type 0
+ValidState row s = Valid row (coreOf s) × Counting row (s .stretch)

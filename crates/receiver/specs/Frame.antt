@@ -1,21 +1,16 @@
 -- The frame in hand. Document 01, "Finding frames in a stream": the array of 366 bytes changes only so; when it is handed
--- over; its mark. Told in digits: digit p of the array is digit p of the frame.
+-- over. Told in digits: digit p of the array is digit p of the frame.
 use mathlib.Core.Bool.{Bool, cond, true, false, _&&_}
 use mathlib.Core.List.{List, [], _∷_, _++_}
 use Prim.Native.Nat.{ℕ, zero, suc, _+_, _-_, _/_, _%_, _^_}
 use lib.Dec.{eqb, leb}
 use lib.ListN.{length, getD, set, replicate}
-use Rattle.digits.specs.Digits.{digitsOf, bytesOf}
+use Rattle.digits.specs.Digits.{digitsOf, bytesOf, written}
 use Rattle.levels.specs.declared.table.Row.{Row}
 use Rattle.receiver.specs.declared.Mode.{Mode}
 use Rattle.receiver.specs.declared.Mode.the-variants.{Hunting, OneFound, TwoFound, Aligned}
 use Rattle.receiver.specs.declared.modes.Core.{Core}
 use Rattle.receiver.specs.Modes.{hunting}
-
--- the number w written with k digits, first digit first
-unfoldable pub written : ℕ → ℕ → List ℕ
-written zero w = []
-written (suc k) w = w / 2 ^ k % 2 ∷ written k w
 
 -- the array that has these digits first and is zero after them
 unfoldable pub holding : List ℕ → List ℕ
@@ -46,12 +41,3 @@ aligned (Aligned m) = true
 -- "A frame is handed over at its last digit, place N−L, exactly if the mode is aligned there."
 unfoldable pub readyOf : Row → Core → Bool
 readyOf row c = aligned (c .mode) && eqb (c .place) (row .digits - row .len)
-
--- the n digits from place p on are 1
-unfoldable pub onesFrom : List ℕ → ℕ → ℕ → Bool
-onesFrom ds p zero = true
-onesFrom ds p (suc n) = eqb (getD ds p 0) 1 && onesFrom ds (suc p) n
-
--- "It is marked all-ones, meaning alarm indication from the far end, if every digit after its word is 1."
-unfoldable pub markOf : Row → List ℕ → Bool
-markOf row f = onesFrom (digitsOf f) (row .len) (row .digits - row .len)

@@ -5,11 +5,12 @@ use mathlib.Core.Bool.{Bool, cond, false}
 use mathlib.Core.List.{List, [], _∷_}
 use Prim.Native.Nat.{ℕ, _+_, _-_, _≤_}
 use lib.ListN.{length, take, drop}
+use Rattle.digits.specs.Digits.{written}
 use Rattle.levels.specs.declared.table.Row.{Row}
 use Rattle.receiver.specs.declared.State.{State}
 use Rattle.receiver.specs.declared.Fed.{Fed}
 use Rattle.receiver.specs.Modes.{good}
-use Rattle.receiver.specs.Frame.{written, holding, readyOf}
+use Rattle.receiver.specs.Frame.{holding, readyOf}
 use Rattle.receiver.specs.Feed.{coreOf, afterOf, freshState}
 
 -- the state that these digits make of a state, whatever calls they came in
@@ -57,4 +58,4 @@ pub record Handed (row : Row) (ds frame : List ℕ) : Type 0 where
 abbrev pub joined : Fed → Fed → Fed
 joined one two =
     cond (one .ready) one
-    (record { refusal = two .refusal; taken = one .taken + two .taken; ready = two .ready; ones = two .ones; state = two .state })
+    (record { refusal = two .refusal; taken = one .taken + two .taken; ready = two .ready; alarm = two .alarm; state = two .state })

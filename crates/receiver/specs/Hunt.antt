@@ -4,7 +4,10 @@ use mathlib.Core.List.{List}
 use Prim.Native.Nat.{ℕ, _+_, _-_, _≤_, _<_, min}
 use Rattle.levels.specs.declared.table.Row.{Row}
 use Rattle.receiver.specs.declared.Mode.the-variants.{Hunting}
+use Rattle.digits.specs.Digits.{between}
 use Rattle.receiver.specs.declared.modes.Core.{Core}
+use Rattle.receiver.specs.declared.alarm.Stretch.{Stretch}
+use Rattle.receiver.specs.Alarm.{counted}
 use Rattle.receiver.specs.Feed.{stateOf, runOf, pieceOf, Valid}
 
 unfoldable pub stillHunting : Row → ℕ → ℕ → Core
@@ -15,6 +18,6 @@ pub record Hunted (row : Row) (slice : List ℕ) (end p : ℕ) (c : Core) (at : 
   pub valid : Valid row c′
   pub from : p ≤ at
   pub before : at < end
-  pub same : (level taken : ℕ) (f : List ℕ)
-      → runOf row (pieceOf slice p (end - p)) taken (stateOf level c f)
-      ≡ runOf row (pieceOf slice at (end - at)) (taken + (at - p)) (stateOf level c′ f)
+  pub same : (level taken : ℕ) (f : List ℕ) (st : Stretch)
+      → runOf row (pieceOf slice p (end - p)) taken (stateOf level c f st)
+      ≡ runOf row (pieceOf slice at (end - at)) (taken + (at - p)) (stateOf level c′ f (counted row st (between slice p at)))

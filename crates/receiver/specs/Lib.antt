@@ -1,6 +1,8 @@
 pub mod Modes
 pub mod Frame
+pub mod Alarm
 pub mod Feed
 pub mod Hunt
 pub mod History
+pub mod Line
 pub mod Calls

@@ -1,11 +1,11 @@
-// The frame in hand: what a digit does to it, when it is handed over, and its mark.
+// The frame in hand: what a digit does to it, and when it is handed over.
 use crate::modes::Core;
 use levels::table::Row;
 ghost use mathlib.Core.Path.{_≡_};
 ghost use Prim.Native.Nat.{_+_, _-_, _^_, _<_};
 ghost use Rattle.levels.specs.Table.{Shared};
 ghost use Rattle.receiver.specs.Feed.{Valid};
-ghost use Rattle.receiver.specs.Frame.{begun, put, keepOf, readyOf, markOf};
+ghost use Rattle.receiver.specs.Frame.{begun, put, keepOf, readyOf};
 
 // Cleared, with the L digits of the window first: they are the first digits of the first two bytes.
 fn begin(row: Row, shift: usize, window: usize, f: &mut [u8; 366])
@@ -54,19 +54,4 @@ pub fn is_ready(row: Row, c: Core) -> bool
         return c.place == row.digits - row.len;
     }
     false
-}
-
-// The mark: whether every digit after the word is 1.
-pub fn is_all_ones(row: Row, f: &[u8; 366]) -> bool
-    requires { ⌜ Shared row ⌝ }
-    ensures { λ r. ⌜ r ≡ markOf row (now (f .entry)) ⌝ }
-{
-    let mut p = row.len;
-    while p < row.digits {
-        if digits::digit_at(f, p) != 1 {
-            return false;
-        }
-        p += 1;
-    }
-    true
 }

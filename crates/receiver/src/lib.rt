@@ -1,9 +1,11 @@
 // The receiver: finding frames in a stream of digits. Two calls, `fresh` and `feed`; a state goes in by value and comes
 // back by value. Each answer equals a definition of specs/Feed.antt, for any state and any piece whatever; the whole statement
 // of each call has a name there.
+pub mod alarm;
 mod frame;
 mod modes;
 
+use crate::alarm::Stretch;
 use crate::modes::Core;
 use levels::table::Level;
 use levels::table::Row;
@@ -13,6 +15,7 @@ ghost use lib.ListN.{length};
 ghost use Rattle.levels.specs.Table.{Shared};
 ghost use Rattle.receiver.specs.Modes.{hunting};
 ghost use Rattle.receiver.specs.Frame.{aligned};
+ghost use Rattle.receiver.specs.Alarm.{Counting};
 ghost use Rattle.receiver.specs.Feed.{Valid, coreOf, stateOf, pieceOf, invalid, refusalOf, refused};
 ghost use Rattle.receiver.specs.Feed.{accepted, runOf, feedRow, freshState, FreshMet, FeedMet};
 
@@ -46,7 +49,7 @@ pub fn is_aligned(mode: Mode) -> bool
 }
 
 // The level, the last L digits (the newest worth 1), how many digits came since reset (stopping at L), the mode, the
-// place, and the frame in hand.
+// place, the frame in hand, and the stretch that is being cut.
 pub struct State {
     pub level: u64,
     pub window: usize,
@@ -54,6 +57,7 @@ pub struct State {
     pub mode: Mode,
     pub place: usize,
     pub frame: [u8; 366],
+    pub stretch: Stretch,
 }
 
 // What making a fresh state gives.
@@ -62,12 +66,12 @@ pub struct Made {
     pub state: State,
 }
 
-// What a piece gives: digits taken, whether a frame is ready (it is in the state), and whether it is marked all-ones.
+// What a piece gives: digits taken, whether a frame is ready (it is in the state), and whether the alarm stands at its end.
 pub struct Fed {
     pub refusal: u64,
     pub taken: usize,
     pub ready: bool,
-    pub ones: bool,
+    pub alarm: bool,
     pub state: State,
 }
 
@@ -81,6 +85,12 @@ fn fresh_state(level: u64) -> State
         mode: Mode::Hunting,
         place: 0,
         frame: [0u8; 366],
+        stretch: Stretch {
+            digits: 0,
+            zeros: 0,
+            few: false,
+            alarm: false,
+        },
     }
 }
 
@@ -137,11 +147,14 @@ fn is_invalid(row: Row, c: Core) -> bool
 }
 
 // The refusal of a piece, given the row of the state's level. The sum of first and count may be too large for a number.
-fn refusal_of(row: Row, c: Core, bytes: usize, first: usize, count: usize) -> u64
+fn refusal_of(row: Row, c: Core, st: Stretch, bytes: usize, first: usize, count: usize) -> u64
     requires { ⌜ Shared row ⌝ }
-    ensures { λ r. ⌜ r ≡ refusalOf row c bytes first count ⌝ }
+    ensures { λ r. ⌜ r ≡ refusalOf row c st bytes first count ⌝ }
 {
     if is_invalid(row, c) {
+        return 6;
+    }
+    if alarm::is_uncounted(row, st) {
         return 6;
     }
     if 65536 < bytes {
@@ -156,27 +169,29 @@ fn refusal_of(row: Row, c: Core, bytes: usize, first: usize, count: usize) -> u6
     0
 }
 
-fn refuse(refusal: u64, s: State) -> Fed
+// What a refused piece gives.
+pub fn refuse(refusal: u64, s: State) -> Fed
     ensures { λ r. ⌜ r ≡ refused refusal s ⌝ }
 {
     Fed {
         refusal,
         taken: 0,
         ready: false,
-        ones: false,
+        alarm: false, // whatever the state says
         state: s,
     }
 }
 
-fn accept(level: u64, c: Core, f: [u8; 366], taken: usize, ready: bool, ones: bool) -> Fed
-    ensures { λ r. ⌜ r ≡ accepted (stateOf level c f) taken ready ones ⌝ }
+fn accept(level: u64, c: Core, f: [u8; 366], st: Stretch, taken: usize, ready: bool) -> Fed
+    ensures { λ r. ⌜ r ≡ accepted (stateOf level c f st) taken ready ⌝ }
 {
     let mode = c.mode;
+    let alarm = st.alarm;
     Fed {
         refusal: 0,
         taken,
         ready,
-        ones,
+        alarm,
         state: State {
             level,
             window: c.window,
@@ -184,13 +199,15 @@ fn accept(level: u64, c: Core, f: [u8; 366], taken: usize, ready: bool, ones: bo
             mode,
             place: c.place,
             frame: f,
+            stretch: st,
         },
     }
 }
 
-// The run over an accepted piece. The core goes round by value, the array is lent.
+// The run over an accepted piece. The core goes round by value, the array is lent; the zeros are counted at the end, over the
+// digits taken.
 fn run(row: Row, s: State, piece: &[u8], first: usize, count: usize) -> Fed
-    requires { ⌜ Shared row × Valid row (coreOf s) × (length (now piece) ≤ 65536) × (first + count ≤ 8 * length (now piece)) ⌝ }
+    requires { ⌜ Shared row × Valid row (coreOf s) × Counting row (s .stretch) × (length (now piece) ≤ 65536) × (first + count ≤ 8 * length (now piece)) ⌝ }
     ensures { λ r. ⌜ r ≡ runOf row (pieceOf (now (piece .entry)) first count) 0 s ⌝ }
 {
     let level = s.level;
@@ -198,6 +215,7 @@ fn run(row: Row, s: State, piece: &[u8], first: usize, count: usize) -> Fed
     let shift = 16 - row.len;
     let mut c = core_of(s);
     let mut f = s.frame;
+    let st = s.stretch;
     let end = first + count;
     let mut p = first;
     while p < end {
@@ -208,18 +226,20 @@ fn run(row: Row, s: State, piece: &[u8], first: usize, count: usize) -> Fed
         frame::keep(row, shift, c, d, &mut f);
         p += 1;
         if frame::is_ready(row, c) {
-            let ones = frame::is_all_ones(row, &f);
-            return accept(level, c, f, p - first, true, ones);
+            let counted = alarm::count(row, st, piece, first, p);
+            return accept(level, c, f, counted, p - first, true);
         }
     }
-    accept(level, c, f, p - first, false, false)
+    let counted = alarm::count(row, st, piece, first, p); // whatever the mode
+    accept(level, c, f, counted, p - first, false)
 }
 
 fn feed_row(row: Row, s: State, piece: &[u8], first: usize, count: usize) -> Fed
     requires { ⌜ Shared row ⌝ }
     ensures { λ r. ⌜ r ≡ feedRow row s (now (piece .entry)) first count ⌝ }
 {
-    let refusal = refusal_of(row, core_of(s), piece.len(), first, count);
+    let st = s.stretch;
+    let refusal = refusal_of(row, core_of(s), st, piece.len(), first, count);
     if refusal != 0 {
         return refuse(refusal, s);
     }

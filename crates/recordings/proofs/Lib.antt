@@ -4,4 +4,4 @@ pub mod Following
 pub mod Products
 pub mod Shows
 pub mod SizesAnswers
-pub mod Stretches
+pub mod Shares

@@ -1,4 +1,4 @@
-// Recordings of any length: what the program needs besides the calls to take a recording through them 64 frames at a time.
+// What the program needs besides the calls: to take a recording of any length through them 64 frames at a time, and to show a label.
 pub mod carry;
 pub mod labels;
 pub mod sizes;

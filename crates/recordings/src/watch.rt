@@ -1,22 +1,25 @@
-// Listening to a recording: the receiver is fed in stretches that end with the next word it judges, so that each finding and each losing of
-// alignment is seen at its own digit. A stretch that begins hunting ends with the first frame handed over.
+// Listening to a recording: the receiver is fed in shares that end with the next word it judges and with the end of its stretch, so that each
+// finding and each losing of alignment, and each begin and end of the alarm, is seen at its own digit. A share that begins hunting ends at
+// the latest with the first frame handed over.
 use levels::table::Row;
 use receiver::Fed;
 use receiver::Mode;
 use receiver::State;
 ghost use mathlib.Core.Path.{_≡_};
 ghost use Prim.Native.Nat.{_-_, min};
-ghost use Rattle.recordings.specs.Watch.{changeOf, stretchOf, ListenMet};
+ghost use Rattle.recordings.specs.Watch.{changeOf, shareOf, ListenMet};
 
+// Of alignment: found and lost. Of the alarm: it begins and ends.
 pub enum Change {
     Nothing,
-    Found,
-    Lost,
+    Begins,
+    Ends,
 }
 
 pub struct Heard {
     pub fed: Fed,
-    pub change: Change,
+    pub alignment: Change,
+    pub alarm: Change,
 }
 
 fn change_of(before: bool, after: bool) -> Change
@@ -26,25 +29,27 @@ fn change_of(before: bool, after: bool) -> Change
         if after {
             return Change::Nothing;
         }
-        return Change::Lost;
+        return Change::Ends;
     }
     if after {
-        return Change::Found;
+        return Change::Begins;
     }
     Change::Nothing
 }
 
-// The digits up to the end of the next word that is judged, of those that are left. Hunting, all of them.
-fn stretch(row: Row, mode: Mode, place: usize, left: usize) -> usize
-    ensures { λ r. ⌜ r ≡ stretchOf row mode place left ⌝ }
+// The digits up to the end of the stretch and, outside hunting, of the next word that is judged, of those that are left.
+fn share(row: Row, mode: Mode, place: usize, digits: usize, left: usize) -> usize
+    ensures { λ r. ⌜ r ≡ shareOf row mode place digits left ⌝ }
 {
+    let in_stretch = up_to(row, digits, left);
     if receiver::is_hunting(mode) {
-        return left;
+        return in_stretch;
     }
-    to_word(row, place, left)
+    up_to(row, place, in_stretch)
 }
 
-fn to_word(row: Row, place: usize, left: usize) -> usize
+// The digits that are missing to N, of those that are left.
+fn up_to(row: Row, place: usize, left: usize) -> usize
     ensures { λ r. ⌜ r ≡ min (row .digits - place) left ⌝ }
 {
     if row.digits <= place {
@@ -56,15 +61,22 @@ fn to_word(row: Row, place: usize, left: usize) -> usize
     left
 }
 
-// Feeds the next stretch of a piece, from its digit first on, of which so many digits are left.
+// Feeds the next share of a piece, from its digit first on, of which so many digits are left.
 pub fn listen(row: Row, s: State, piece: &[u8], first: usize, left: usize) -> Heard
     ensures { λ r. ⌜ ListenMet row s (now (piece .entry)) first left r ⌝ }
 {
     let mode = s.mode;
-    let count = stretch(row, mode, s.place, left);
+    let st = s.stretch;
+    let count = share(row, mode, s.place, st.digits, left);
     let fed = receiver::feed(s, piece, first, count);
     let state = fed.state;
     let after = state.mode;
-    let change = change_of(receiver::is_aligned(mode), receiver::is_aligned(after));
-    Heard { fed, change }
+    let st_after = state.stretch;
+    let alignment = change_of(receiver::is_aligned(mode), receiver::is_aligned(after));
+    let alarm = change_of(st.alarm, st_after.alarm);
+    Heard {
+        fed,
+        alignment,
+        alarm,
+    }
 }

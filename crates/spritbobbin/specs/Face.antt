@@ -1,10 +1,10 @@
 -- The C face: how answers and states pass as numbers in fixed arrays, and the whole statement of each call. The definitions of the calls
 -- behind the face say what the numbers are.
 use mathlib.Core.Path.{_≡_}
-use mathlib.Core.Bool.{Bool, cond, true, false, not}
+use mathlib.Core.Bool.{Bool, cond, true, false, not, _||_}
 use mathlib.Core.List.{List, [], _∷_}
 use Prim.Native.Nat.{ℕ, zero, suc, _+_, _-_}
-use lib.Dec.{eqb, leb}
+use lib.Dec.{eqb, leb, ltb}
 use lib.ListN.{length, getD}
 use Rattle.multiplex.specs.declared.Multiplexed.{Multiplexed}
 use Rattle.demultiplex.specs.declared.Demultiplexed.{Demultiplexed}
@@ -16,7 +16,8 @@ use Rattle.captures.specs.declared.Written.{Written}
 use Rattle.captures.specs.declared.Reading.{Reading}
 use Rattle.multiplex.specs.Multiplex.{multiplexed, lineAfter}
 use Rattle.demultiplex.specs.Demultiplex.{demultiplexed, notesAfter, bufferAfter}
-use Rattle.receiver.specs.Feed.{freshOf, feedOf}
+use Rattle.receiver.specs.declared.alarm.Stretch.{Stretch}
+use Rattle.receiver.specs.Feed.{refused, freshOf, feedOf}
 use Rattle.line_reader.specs.Step.{stepAt, digitOrEnd}
 use Rattle.captures.specs.Captures.{writtenOf, leftOf, readOf}
 
@@ -41,17 +42,47 @@ modeNumber (Aligned m) = 3 + m
 unfoldable pub modeOf : ℕ → Mode
 modeOf n = cond (eqb n 0) Hunting (cond (eqb n 1) OneFound (cond (eqb n 2) TwoFound (cond (leb n 6) (Aligned (n - 3)) (Aligned 4))))
 
--- state: level, window, digits seen, mode, place; the frame in hand beside it
+-- a number that stands for yes or no: 0 is no
+abbrev pub isYes : ℕ → Bool
+isYes n = not (eqb n 0)
+
+-- state: level, window, digits seen, mode, place, then the stretch's digits, its zeros, 1 if the stretch before had few zeros, 1 if the alarm
+-- stands; the frame in hand beside it
+abbrev pub stretchFrom : List ℕ → Stretch
+stretchFrom s = record { digits = getD s 5 0; zeros = getD s 6 0; few = isYes (getD s 7 0); alarm = isYes (getD s 8 0) }
+
 abbrev pub stateFrom : List ℕ → List ℕ → State
 stateFrom s frame =
-    record { level = getD s 0 0; window = getD s 1 0; seen = getD s 2 0; mode = modeOf (getD s 3 0); place = getD s 4 0; frame = frame }
+    record {
+      level = getD s 0 0;
+      window = getD s 1 0;
+      seen = getD s 2 0;
+      mode = modeOf (getD s 3 0);
+      place = getD s 4 0;
+      frame = frame;
+      stretch = stretchFrom s;
+    }
 
 abbrev pub stateNumbers : State → List ℕ
-stateNumbers s = s .level ∷ s .window ∷ s .seen ∷ modeNumber (s .mode) ∷ s .place ∷ []
+stateNumbers s =
+    s .level
+    ∷ s .window
+    ∷ s .seen
+    ∷ modeNumber (s .mode)
+    ∷ s .place
+    ∷ s .stretch .digits
+    ∷ s .stretch .zeros
+    ∷ cond (s .stretch .few) 1 0
+    ∷ cond (s .stretch .alarm) 1 0
+    ∷ []
 
--- answer: digits taken, 1 if a frame is ready, 1 if it is marked all-ones
+-- feeding a state whose numbers for yes and no were these: "in a lent state any other value [than 0 or 1] is refused with 6"
+unfoldable pub fedBy : State → ℕ → ℕ → List ℕ → ℕ → ℕ → Fed
+fedBy s few alarm piece first count = cond (ltb 1 few || ltb 1 alarm) (refused 6 s) (feedOf s piece first count)
+
+-- answer: digits taken, 1 if a frame is ready, 1 if the alarm stands at the end
 abbrev pub fedAnswer : Fed → List ℕ
-fedAnswer f = f .taken ∷ cond (f .ready) 1 0 ∷ cond (f .ones) 1 0 ∷ []
+fedAnswer f = f .taken ∷ cond (f .ready) 1 0 ∷ cond (f .alarm) 1 0 ∷ []
 
 -- a refused feed writes no state and no frame
 abbrev pub fedState : Fed → List ℕ → List ℕ
@@ -68,10 +99,6 @@ writtenAnswer w = w .bytes ∷ w .byte ∷ []
 abbrev pub readAnswer : Reading → List ℕ
 readAnswer r =
     r .level ∷ r .line .start ∷ r .line .bytes ∷ cond (r .labelled) 1 0 ∷ r .label .start ∷ r .label .bytes ∷ r .byte ∷ []
-
--- a number that says whether there is a label: 0 is no
-abbrev pub isYes : ℕ → Bool
-isYes n = not (eqb n 0)
 
 -- ---- the whole statement of each call: what it is given, the number that it returns, and what it leaves in everything lent for writing
 
@@ -96,7 +123,7 @@ FreshMet level returned stateLeft frameLeft =
 -- spritbobbin_receiver_feed returns the refusal number, and leaves the state's numbers, its frame and the answer
 abbrev pub FeedMet : List ℕ → List ℕ → List ℕ → ℕ → ℕ → ℕ → List ℕ → List ℕ → List ℕ → Type 0
 FeedMet state frame piece first count returned stateLeft frameLeft answerLeft =
-    let f = feedOf (stateFrom state frame) piece first count in
+    let f = fedBy (stateFrom state frame) (getD state 7 0) (getD state 8 0) piece first count in
     (returned ≡ f .refusal) × (stateLeft ≡ fedState f state) × (frameLeft ≡ fedFrame f frame) × (answerLeft ≡ fedAnswer f)
 
 -- spritbobbin_line_digit returns the digit, or 2 where the line has ended; nothing is lent for writing

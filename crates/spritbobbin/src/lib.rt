@@ -7,9 +7,10 @@ use multiplex::Multiplexed;
 use receiver::Fed;
 use receiver::Mode;
 use receiver::State;
+use receiver::alarm::Stretch;
 ghost use mathlib.Core.Path.{_≡_};
 ghost use mathlib.Core.Bool.{cond};
-ghost use Rattle.spritbobbin.specs.Face.{sentAnswer, receivedAnswer, modeNumber, modeOf, stateNumbers, fedAnswer};
+ghost use Rattle.spritbobbin.specs.Face.{sentAnswer, receivedAnswer, modeNumber, modeOf, stateNumbers, fedBy, fedAnswer};
 ghost use Rattle.spritbobbin.specs.Face.{writtenAnswer, readAnswer, CaptureWriteMet, CaptureReadMet};
 ghost use Rattle.spritbobbin.specs.Face.{MultiplexMet, DemultiplexMet, FreshMet, FeedMet, LineDigitMet};
 
@@ -109,16 +110,21 @@ fn mode_of(n: u64) -> Mode
     Mode::Aligned(4)
 }
 
-fn numbers_of(s: State) -> [u64; 5]
+fn numbers_of(s: State) -> [u64; 9]
     ensures { λ r. ⌜ r ≡ stateNumbers s ⌝ }
 {
     let mode = s.mode;
+    let st = s.stretch;
     [
         s.level,
         s.window as u64,
         s.seen as u64,
         mode_number(mode),
         s.place as u64,
+        st.digits as u64,
+        st.zeros as u64,
+        as_number(st.few),
+        as_number(st.alarm),
     ]
 }
 
@@ -134,14 +140,14 @@ fn as_number(t: bool) -> u64
 fn fed_numbers(f: Fed) -> [u64; 3]
     ensures { λ r. ⌜ r ≡ fedAnswer f ⌝ }
 {
-    [f.taken as u64, as_number(f.ready), as_number(f.ones)]
+    [f.taken as u64, as_number(f.ready), as_number(f.alarm)]
 }
 
 // Makes a fresh state; one that is refused with 1 is all zero, and is written.
 #[no_mangle]
 pub extern "C" fn spritbobbin_receiver_fresh(
     level: u64,
-    state: &mut [u64; 5],
+    state: &mut [u64; 9],
     frame: &mut [u8; 366],
 ) -> u64
     ensures { λ r. ⌜ FreshMet level r (now (state .exit)) (now (frame .exit)) ⌝ }
@@ -154,10 +160,23 @@ pub extern "C" fn spritbobbin_receiver_fresh(
     made.refusal
 }
 
-// Feeds a piece; answer: digits taken, 1 if a frame is ready, 1 if it is marked all-ones. A refused feed writes no state.
+// Feeds a piece to a state of whose numbers two stand for yes or no: another number than 0 and 1 is refused with 6.
+fn fed_by(s: State, few: u64, alarm: u64, piece: &[u8], first: usize, count: usize) -> Fed
+    ensures { λ r. ⌜ r ≡ fedBy s few alarm (now (piece .entry)) first count ⌝ }
+{
+    if 1 < few {
+        return receiver::refuse(6, s);
+    }
+    if 1 < alarm {
+        return receiver::refuse(6, s);
+    }
+    receiver::feed(s, piece, first, count)
+}
+
+// Feeds a piece; answer: digits taken, 1 if a frame is ready, 1 if the alarm stands at the end. A refused feed writes no state.
 #[no_mangle]
 pub extern "C" fn spritbobbin_receiver_feed(
-    state: &mut [u64; 5],
+    state: &mut [u64; 9],
     frame: &mut [u8; 366],
     piece: &[u8],
     first: u64,
@@ -177,8 +196,14 @@ pub extern "C" fn spritbobbin_receiver_feed(
         mode,
         place: state[4] as usize,
         frame: held,
+        stretch: Stretch {
+            digits: state[5] as usize,
+            zeros: state[6] as usize,
+            few: state[7] != 0,
+            alarm: state[8] != 0,
+        },
     };
-    let fed = receiver::feed(s, piece, first as usize, count as usize);
+    let fed = fed_by(s, state[7], state[8], piece, first as usize, count as usize);
     *answer = fed_numbers(fed);
     if fed.refusal != 0 {
         return fed.refusal;

@@ -1,2 +1,3 @@
-// The cases of the receiver, apart from the others so that each crate is checked quickly.
+// The cases of the receiver, its alarm among them, apart from the others so that each crate is checked quickly.
+pub mod alarm;
 pub mod stream;

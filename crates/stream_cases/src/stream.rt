@@ -184,7 +184,7 @@ fn feed_one(c: Feeding) {
 }
 
 fn feed_on(c: Feeding, slice: &[u8]) {
-    let mut state = [c.level, c.window, c.seen, c.mode, c.place];
+    let mut state = [c.level, c.window, c.seen, c.mode, c.place, 0, 0, 0, 0];
     let mut frame = [0u8; 366];
     let mut answer = [0u64; 3];
     let no = spritbobbin::spritbobbin_receiver_feed(
@@ -212,16 +212,20 @@ fn given(c: Feeding) {
 }
 
 // What every feed answers, and the state's numbers.
-fn fed(no: u64, state: [u64; 5], answer: [u64; 3]) {
+pub fn fed(no: u64, state: [u64; 9], answer: [u64; 3]) {
     say::counted(b": refusal ", no);
     say::counted(b" taken ", answer[0]);
     say::counted(b" ready ", answer[1]);
-    say::counted(b" all-ones ", answer[2]);
+    say::counted(b" alarm ", answer[2]);
     say::counted(b" state ", state[0]);
     say::counted(b" ", state[1]);
     say::counted(b" ", state[2]);
     say::counted(b" ", state[3]);
     say::counted(b" ", state[4]);
+    say::counted(b" ", state[5]);
+    say::counted(b" ", state[6]);
+    say::counted(b" ", state[7]);
+    say::counted(b" ", state[8]);
 }
 
 // Case 1's line four times over, in pieces of at most so many digits: a line to each frame that is ready.
@@ -249,7 +253,7 @@ fn repeat(line: &mut [u8; 424], one: &[u8; 106]) {
 
 // At most a call for each digit of the line.
 fn walk(line: &[u8; 424], size: u64) {
-    let mut state = [0u64; 5];
+    let mut state = [0u64; 9];
     let mut frame = [0u8; 366];
     let mut answer = [0u64; 3];
     spritbobbin::spritbobbin_receiver_fresh(2, &mut state, &mut frame);
@@ -283,7 +287,7 @@ fn least(a: u64, b: u64) -> u64 {
     b
 }
 
-fn ready(size: u64, digits: u64, no: u64, state: [u64; 5], answer: [u64; 3], frame: &[u8; 366]) {
+fn ready(size: u64, digits: u64, no: u64, state: [u64; 9], answer: [u64; 3], frame: &[u8; 366]) {
     say::counted(b"case 11 pieces ", size);
     say::counted(b" digits ", digits);
     fed(no, state, answer);
@@ -296,6 +300,6 @@ fn ready(size: u64, digits: u64, no: u64, state: [u64; 5], answer: [u64; 3], fra
     say::text(b"\n");
 }
 
-fn wide(b: u8) -> u64 {
+pub fn wide(b: u8) -> u64 {
     b as u64
 }

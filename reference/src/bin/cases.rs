@@ -10,7 +10,8 @@
 //! - byte i of a multiplex call's buffer is i modulo 256;
 //! - a multiplex call's notes are 0 before frame `from`, and `note` from that frame on;
 //! - every byte of a demultiplex call's line is `fill`;
-//! - the bytes of a piece, and of the frame store of a given state, are 0;
+//! - the bytes of a piece, and of the frame store of a given state, are 0, but the piece of
+//!   a given stretch is one byte, `fill`, and its state hunts with no digits seen;
 //! - byte i of the line and of the label of a capture that is written is i modulo 256, and
 //!   its file holds 165 in every byte beforehand;
 //! - a file that is read has the bytes given and zeros after them.
@@ -30,6 +31,8 @@ type Sending = (u64, usize, usize, u8, usize, usize);
 type Receiving = (u64, usize, u8, usize, usize);
 /// level, window, seen, mode, place, slice bytes, first, count
 type Feeding = (u64, u64, u64, u64, u64, usize, u64, u64);
+/// level, digits, zeros, few before, alarm, fill, first, count
+type Stretched = (u64, u64, u64, u64, u64, u8, u64, u64);
 /// level, line bytes, label bytes, labelled, file bytes
 type Writing = (u64, usize, usize, u64, usize);
 
@@ -99,6 +102,37 @@ const FEEDINGS: [Feeding; 14] = [
     // The order 6, 2, 7.
     (2, 0, 0, 7, 0, 65_537, MAX, 1),
     (2, 0, 0, 0, 0, 65_537, MAX, 1),
+];
+
+const STRETCHES: [Stretched; 23] = [
+    // The limit of each level, with a 1 and with a 0 as the last digit.
+    (2, 847, 4, 1, 0, 255, 0, 1),
+    (2, 847, 4, 1, 0, 0, 0, 1),
+    (2, 847, 5, 1, 0, 255, 0, 1),
+    (3, 1535, 4, 1, 0, 255, 0, 1),
+    (3, 1535, 4, 1, 0, 0, 0, 1),
+    (4, 2927, 5, 1, 0, 255, 0, 1),
+    (4, 2927, 5, 1, 0, 0, 0, 1),
+    // Begun by two in a row, ended by two in a row, and else as it was.
+    (2, 847, 0, 0, 0, 255, 0, 1),
+    (2, 847, 5, 0, 1, 255, 0, 1),
+    (2, 847, 5, 1, 1, 255, 0, 1),
+    (2, 847, 0, 0, 1, 255, 0, 1),
+    // A digit before the end, and digits after it.
+    (2, 846, 4, 1, 0, 255, 0, 1),
+    (2, 846, 4, 1, 0, 255, 0, 8),
+    // An empty piece says the alarm, and a refused one does not.
+    (2, 0, 0, 0, 1, 0, 0, 0),
+    (2, 0, 0, 0, 1, 0, 9, 0),
+    // Refused with 6.
+    (2, 848, 0, 0, 0, 0, 0, 1),
+    (3, 1536, 0, 0, 0, 0, 0, 1),
+    (4, 2928, 0, 0, 0, 0, 0, 1),
+    (2, 847, 847, 0, 0, 0, 0, 1),
+    (2, 3, 4, 0, 1, 0, 0, 1),
+    (2, 0, 0, 2, 0, 0, 0, 1),
+    (2, 0, 0, 0, 2, 0, 0, 1),
+    (2, 0, 0, MAX, 1, 0, 0, 1),
 ];
 
 const WRITINGS: [Writing; 24] = [
@@ -208,25 +242,46 @@ fn receiving((level, line, fill, notes, buffer): Receiving) {
 fn fed(answer: &Fed) -> String {
     let state = &answer.state;
     format!(
-        "refusal {} taken {} ready {} all-ones {} state {} {} {} {} {}",
+        "refusal {} taken {} ready {} alarm {} state {} {} {} {} {} {} {} {} {}",
         answer.refusal,
         answer.taken,
         u64::from(answer.ready),
-        u64::from(answer.all_ones),
+        u64::from(answer.alarm),
         state.level,
         state.window,
         state.seen,
         state.mode,
         state.place,
+        state.stretch_digits,
+        state.stretch_zeros,
+        state.few_before,
+        state.alarm,
     )
 }
 
 fn feeding((level, window, seen, mode, place, slice, first, count): Feeding) {
-    let state = State { level, window, seen, mode, place, frame: [0; 366] };
+    let state = State { level, window, seen, mode, place, ..fresh(2).1 };
     let answer = feed(&state, &vec![0; slice], first, count);
     println!(
         "feed level {level} window {window} seen {seen} mode {mode} place {place} \
          slice {slice} first {first} count {count}: {}",
+        fed(&answer)
+    );
+}
+
+fn stretched((level, digits, zeros, few, alarm, fill, first, count): Stretched) {
+    let state = State {
+        level,
+        stretch_digits: digits,
+        stretch_zeros: zeros,
+        few_before: few,
+        alarm,
+        ..fresh(2).1
+    };
+    let answer = feed(&state, &[fill], first, count);
+    println!(
+        "stretch level {level} digits {digits} zeros {zeros} few {few} alarm {alarm} \
+         fill {fill} first {first} count {count}: {}",
         fed(&answer)
     );
 }
@@ -301,6 +356,7 @@ fn main() {
     SENDINGS.into_iter().for_each(sending);
     RECEIVINGS.into_iter().for_each(receiving);
     FEEDINGS.into_iter().for_each(feeding);
+    STRETCHES.into_iter().for_each(stretched);
     [3392, 1, 7, 1000].into_iter().for_each(case_11);
     example();
     WRITINGS.into_iter().for_each(writing);

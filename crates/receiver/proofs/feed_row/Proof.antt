@@ -16,8 +16,8 @@ returns c =
 
 run-requires : tie.Need-run-requires
 run-requires c κs =
-    let a = accepted-if _ _ _ _ _ (sym (c .before .refusal-of .ensures) ∙ c .if1 .left) in
-    (c .before .before .before .before .pre, rw (c .before .before .core-of .ensures) at (a .valid), a .small, a .within)
+    let a = accepted-if _ _ _ _ _ _ (sym (c .before .refusal-of .ensures) ∙ c .if1 .left) in
+    (c .before .before .before .before .before .pre, rw (c .before .before .core-of .ensures) at (a .valid), a .counting, a .small, a .within)
 
 returns-2 : tie.Need-returns-2
 unfolding feedRow

@@ -7,18 +7,20 @@ use Rattle.spritbobbin.proofs.spritbobbin_receiver_feed.Tie as tie
 
 returns : tie.Need-returns
 returns c =
-    let m = c .before .before .before .before .before .before .before .before .mode-of .ensures in
-    let e = c .before .before .before .feed .ensures in
-    rw (← m, ← e, ne-eqb _ _ (c .if1 .taken)) (refl, refl, refl, c .before .before .fed-numbers .ensures)
+    let c3 = c .before .before .before in
+    let m = c3 .before .before .before .before .before .before .before .before .before .before .before .mode-of .ensures in
+    rw (← m, ← (c3 .fed-by .ensures), ne-eqb _ _ (c .if1 .taken)) (refl, refl, refl, c .before .before .fed-numbers .ensures)
 
 returns-2 : tie.Need-returns-2
 returns-2 c =
-    let m = c .before .before .before .before .before .before .before .before .before .before .before .mode-of .ensures in
-    let e = c .before .before .before .before .before .before .feed .ensures in
-    rw (← m, ← e, eq-eqb _ _ (c .before .before .before .if1 .left)) (refl, c .before .numbers-of .ensures, refl, c .before .before .before .before .before .fed-numbers .ensures)
+    let c5 = c .before .before .before .before .before in
+    let c6 = c5 .before in
+    let m = c6 .before .before .before .before .before .before .before .before .before .before .before .mode-of .ensures in
+    rw (← m, ← (c6 .fed-by .ensures), eq-eqb _ _ (c .before .before .before .if1 .left)) (refl, c .before .numbers-of .ensures, refl, c5 .fed-numbers .ensures)
 
 pub spritbobbin-receiver-feed-spec : {M : Type 1} → statement M
 spritbobbin-receiver-feed-spec =
     tie.close
     (tie.spec (λ c. search needs) (λ c κs. search needs) (λ c. search needs) (λ c. search needs) (λ c. search needs) (λ c. search needs)
+    (λ c. search needs) (λ c. search needs) (λ c. search needs) (λ c. search needs) (λ c. search needs) (λ c. search needs)
     (λ c κs. search needs) (λ c κs. search needs) returns (λ c κs. search needs) returns-2)

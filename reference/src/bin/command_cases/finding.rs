@@ -15,6 +15,7 @@ pub fn cases() -> Vec<Case> {
     levels().into_iter().for_each(|row| cases.extend(long_way(row)));
     levels().into_iter().for_each(|row| cases.extend(half_words(row)));
     [level(2), level(4)].into_iter().for_each(|row| cases.extend(ends(row)));
+    levels().into_iter().for_each(|row| cases.extend(alarms(row)));
     cases.extend(nothing());
     cases.extend(long());
     cases.extend(in_turn(wrong_levels(), &OUTPUTS));
@@ -45,15 +46,18 @@ impl Finding {
 
     /// The recording must be what the case is made for.
     fn with_events(self, events: &[Event]) -> Finding {
-        assert_eq!(self.found.events, events, "alignment is found or lost elsewhere");
+        assert_eq!(
+            self.found.events, events,
+            "alignment is found or lost, or the alarm begins or ends, elsewhere"
+        );
         self
     }
 
-    /// The same for the frames handed over, those of ones among them, and the last mode.
-    fn with_counts(self, frames: usize, all_ones: usize, mode: u64) -> Finding {
+    /// The same for the frames handed over and the last mode.
+    fn with_counts(self, frames: usize, mode: u64) -> Finding {
         let found = &self.found;
-        let counts = (found.frames.len(), found.all_ones(), found.mode);
-        assert_eq!(counts, (frames, all_ones, mode), "other frames are handed over");
+        let counts = (found.frames.len(), found.mode);
+        assert_eq!(counts, (frames, mode), "other frames are handed over");
         self
     }
 
@@ -90,8 +94,8 @@ fn long_way(row: &'static Row) -> Vec<Case> {
     let finding = Finding::of(row, stream.bytes());
     let found = &finding.found;
     let lost = Event::Lost(1237 + 81 * n);
-    assert!(found.events.len() == 3 && found.events[1] == lost);
-    assert_eq!((found.all_ones(), found.mode), (3, mode));
+    assert!(found.alignment().len() == 3 && found.alignment()[1] == lost);
+    assert_eq!(found.mode, mode);
     let files = finding.writes("long-way");
     let files = if row.level == 3 {
         files.had("back.notes", OLD).had("back.tributaries", OLD)
@@ -124,24 +128,50 @@ fn ends(row: &'static Row) -> Vec<Case> {
     let missed = Stream::new(row, 13).good(4).wrong(1).bytes();
     let (word_cut, frame_cut) = (&third[..third.len() - 1], &frame[..frame.len() - 1]);
     vec![
-        find(&third).with_counts(0, 0, 3).writes("ends-after-third-word"),
-        find(word_cut).with_counts(0, 0, 2).prints("ends-in-third-word"),
-        find(&stream().word().bytes()).with_counts(0, 0, 1).prints("ends-after-first-word"),
-        find(&frame).with_counts(1, 0, 3).writes("ends-after-first-frame"),
-        find(frame_cut).with_counts(0, 0, 3).writes("ends-in-first-frame"),
-        find(&missed).with_counts(3, 0, 4).prints("ends-with-a-missed-word"),
+        find(&third).with_counts(0, 3).writes("ends-after-third-word"),
+        find(word_cut).with_counts(0, 2).prints("ends-in-third-word"),
+        find(&stream().word().bytes()).with_counts(0, 1).prints("ends-after-first-word"),
+        find(&frame).with_counts(1, 3).writes("ends-after-first-frame"),
+        find(frame_cut).with_counts(0, 3).writes("ends-in-first-frame"),
+        find(&missed).with_counts(3, 4).prints("ends-with-a-missed-word"),
+    ]
+}
+
+/// The alarm: framed ones raise none, ones do, and so few zeros are no matter; frames end it,
+/// also where it began before the recording's first stretch was whole in ones.
+fn alarms(row: &'static Row) -> Vec<Case> {
+    let (n, few) = (row.frame_digits, row.few_zeros);
+    let framed = Stream::new(row, 20).ones_after_word().ones_after_word().ones_after_word();
+    let framed = Finding::of(row, framed.ones_after_word().bytes());
+    let framed = framed.with_events(&[Event::Found(2 * n)]).with_counts(2, 3);
+    let stream = Stream::new(row, 21).good(3).junk(5).ones(3 * n - 5).good(5);
+    let long = Finding::of(row, stream.bytes());
+    let (begins, ends) = (Event::AlarmBegins(6 * n - 1), Event::AlarmEnds(8 * n - 1));
+    assert!(long.found.events.contains(&begins) && long.found.events.contains(&ends));
+    let at_limit = |zeros| {
+        let stream = Stream::new(row, 22).zeros(few).ones(n - few).zeros(zeros).ones(2 * n - zeros);
+        Finding::of(row, stream.bytes())
+    };
+    let limit = at_limit(few).with_events(&[Event::AlarmBegins(2 * n - 1)]);
+    let over = at_limit(few + 1).with_events(&[]);
+    vec![
+        framed.prints("framed-ones"),
+        long.writes("alarm"),
+        limit.prints("alarm-at-the-limit"),
+        over.prints("no-alarm-over-the-limit"),
     ]
 }
 
 /// Recordings in which alignment is not found.
 fn nothing() -> Vec<Case> {
     let find = |number, bytes| Finding::of(level(number), bytes).with_events(&[]);
+    let ones = Event::AlarmBegins(2 * level(4).frame_digits - 1);
     vec![
         find(2, vec![]).prints("empty"),
         find(3, vec![]).writes("empty"),
         find(4, Random::new(14).bytes(2500)).writes("random"),
         find(3, vec![0; 1000]).prints("zeros"),
-        find(4, vec![0xFF; 1000]).prints("ones"),
+        Finding::of(level(4), vec![0xFF; 1000]).with_events(&[ones]).prints("ones"),
         find(2, Stream::new(level(3), 15).good(20).bytes()).writes("frames-of-level-3"),
     ]
 }
@@ -156,11 +186,11 @@ fn long() -> Vec<Case> {
     let frames = Finding::of(row, frames);
     let across = |after: usize| after - n < border && border < after;
     assert!(frames.found.frames.iter().any(|frame| across(frame.after)));
-    assert_eq!(frames.found.events.len(), 3);
+    assert_eq!(frames.found.alignment().len(), 3);
     let late = Stream::new(row, 17).zeros(border - 5 - 2 * n).good(4).bytes();
     let late = Finding::of(row, late).with_events(&[Event::Found(border - 5)]);
     let by_hand = worked::send(row, &[0], &[0; 104]).line.repeat(4);
-    let by_hand = Finding::of(row, by_hand).with_counts(2, 0, 3);
+    let by_hand = Finding::of(row, by_hand).with_counts(2, 3);
     vec![frames.writes("long"), late.prints("late"), by_hand.writes("worked-by-hand")]
 }
 

@@ -43,22 +43,21 @@ pub fn found(row: &Row, bytes: usize, found: &Found, taken: &Taken) -> String {
     let digits = 8 * bytes;
     let mut text =
         format!("Level {}: {bytes} bytes, {digits} digits, numbered from 0.\n", row.level);
-    text += &events(row, &found.events);
+    text += &found.events.iter().map(event).collect::<String>();
+    if found.alignment().is_empty() {
+        text += &not_found(row);
+    }
     text += &format!("frames handed over: {}\n", found.frames.len());
-    text += &format!("frames marked all-ones: {}\n", found.all_ones());
     text += &table_and_errors(taken);
     text + &format!("at the end: {}\n", mode(found.mode))
 }
 
-fn events(row: &Row, events: &[Event]) -> String {
-    if events.is_empty() {
-        let apart = row.frame_digits;
-        return format!(
-            "alignment was not found: three good words in a row, {apart} digits apart, \
-             did not come\n"
-        );
-    }
-    events.iter().map(event).collect()
+fn not_found(row: &Row) -> String {
+    let apart = row.frame_digits;
+    format!(
+        "alignment was not found: three good words in a row, {apart} digits apart, \
+         did not come\n"
+    )
 }
 
 fn event(event: &Event) -> String {
@@ -70,6 +69,14 @@ fn event(event: &Event) -> String {
         Event::Lost(digit) => format!(
             "lost at digit {digit}: the fourth wrong word in a row, and its frame is not \
              handed over\n"
+        ),
+        Event::AlarmBegins(digit) => format!(
+            "alarm indication begins at digit {digit}: the second stretch in a row with few \
+             zeros ends there\n"
+        ),
+        Event::AlarmEnds(digit) => format!(
+            "alarm indication ends at digit {digit}: the second stretch in a row with more \
+             zeros ends there\n"
         ),
     }
 }

@@ -75,11 +75,14 @@ pub fn quarters(tributaries: &[Vec<u8>; 4], bytes: usize) -> Vec<u8> {
     buffer
 }
 
-/// Where alignment is found or lost: the first digit of the word that decides it.
+/// Where alignment is found or lost: the first digit of the word that decides it. Where the
+/// alarm begins or ends: the last digit of the stretch that decides it.
 #[derive(Clone, Copy, Debug, PartialEq)]
 pub enum Event {
     Found(usize),
     Lost(usize),
+    AlarmBegins(usize),
+    AlarmEnds(usize),
 }
 
 #[derive(Default)]
@@ -96,12 +99,15 @@ impl Found {
         self.frames.iter().flat_map(|frame| frame.bytes[..row.frame_bytes()].to_vec()).collect()
     }
 
-    pub fn all_ones(&self) -> usize {
-        self.frames.iter().filter(|frame| frame.all_ones).count()
+    /// Where alignment is found and lost.
+    pub fn alignment(&self) -> Vec<Event> {
+        let of_alignment = |event: &&Event| matches!(event, Event::Found(_) | Event::Lost(_));
+        self.events.iter().filter(of_alignment).copied().collect()
     }
 }
 
-/// Feeds the recording to a fresh receiver, up to each digit at which its mode can change.
+/// Feeds the recording to a fresh receiver, up to each digit at which its mode or the alarm
+/// can change.
 /// The frames and the last state must be those that the search through all digits gives.
 pub fn find(row: &Row, stream: &[u8]) -> Found {
     let digits = unpack(stream, 8 * stream.len());
@@ -115,12 +121,16 @@ pub fn find(row: &Row, stream: &[u8]) -> Found {
         assert_eq!(fed.refusal, 0, "a piece is refused");
         at += fed.taken as usize;
         if fed.ready {
-            let (bytes, all_ones) = (fed.state.frame, fed.all_ones);
-            found.frames.push(HandedOver { after: at, bytes, all_ones });
+            found.frames.push(HandedOver { after: at, bytes: fed.state.frame });
         }
         match (state.mode, fed.state.mode) {
             (2, 3) => found.events.push(Event::Found(at - row.word_length())),
             (3..=6, 0) => found.events.push(Event::Lost(at - row.word_length())),
+            _ => {}
+        }
+        match (state.alarm, fed.state.alarm) {
+            (0, 1) => found.events.push(Event::AlarmBegins(at - 1)),
+            (1, 0) => found.events.push(Event::AlarmEnds(at - 1)),
             _ => {}
         }
         state = fed.state;
@@ -130,14 +140,15 @@ pub fn find(row: &Row, stream: &[u8]) -> Found {
     found
 }
 
-/// How many digits on the mode can change: at the next word while hunting, else at the
-/// check. A piece stays within what one call takes.
+/// How many digits on the mode or the alarm can change: at the next word while hunting, else
+/// at the check; and at the stretch's end. A piece stays within what one call takes.
 fn step(row: &Row, digits: &[u8], at: usize, state: &State) -> usize {
+    let stretch = row.frame_digits - state.stretch_digits as usize;
     if state.mode != 0 {
-        return row.frame_digits - state.place as usize;
+        return stretch.min(row.frame_digits - state.place as usize);
     }
     let word = row.word_digits();
-    let last = digits.len().min(at + 500_000);
+    let last = digits.len().min(at + stretch);
     let end = (at + 1..last).find(|&end| digits[..end].ends_with(&word));
     end.unwrap_or(last) - at
 }

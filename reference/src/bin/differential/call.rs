@@ -83,8 +83,10 @@ impl Call {
         match self {
             Call::Multiplex(_) => "four counts, frame",
             Call::Demultiplex(_) => "four counts, frame, alignment, dissent of four",
-            Call::Fresh(_) => "level, window, seen, mode, place",
-            Call::Feed(_) => "taken, ready, all-ones; level, window, seen, mode, place",
+            Call::Fresh(_) => "level, window, seen, mode, place, digits, zeros, few before, alarm",
+            Call::Feed(_) => {
+                "taken, ready, alarm; level, window, seen, mode, place, digits, zeros, few before, alarm"
+            },
             Call::LineDigit(..) => "none",
             Call::CaptureWrite(_) => "bytes, named byte",
             Call::CaptureRead(_) => {
@@ -146,8 +148,10 @@ impl Call {
     }
 }
 
-pub fn state_numbers(state: &State) -> [u64; 5] {
-    [state.level, state.window, state.seen, state.mode, state.place]
+pub fn state_numbers(state: &State) -> [u64; 9] {
+    let stretch = [state.stretch_digits, state.stretch_zeros, state.few_before, state.alarm];
+    let [digits, zeros, few, alarm] = stretch;
+    [state.level, state.window, state.seen, state.mode, state.place, digits, zeros, few, alarm]
 }
 
 fn outcome(returned: u64, numbers: Vec<u64>, lent: Vec<(&'static str, Vec<u8>)>) -> Outcome {
@@ -173,7 +177,7 @@ fn slices(with: Lending) -> Vec<(&'static str, Vec<u8>)> {
 
 fn fed(piece: &Piece) -> Outcome {
     let answer = feed(&piece.state, &piece.slice, piece.first, piece.count);
-    let numbers = [answer.taken, u64::from(answer.ready), u64::from(answer.all_ones)];
+    let numbers = [answer.taken, u64::from(answer.ready), u64::from(answer.alarm)];
     let numbers = [&numbers[..], &state_numbers(&answer.state)].concat();
     let lent = vec![("frame store", answer.state.frame.to_vec()), ("slice", piece.slice.clone())];
     outcome(answer.refusal, numbers, lent)

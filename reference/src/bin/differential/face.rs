@@ -123,7 +123,7 @@ fn demultiplex(with: &Lending) -> Outcome {
 }
 
 fn fresh(level: u64) -> Outcome {
-    let mut state = numbers("state", &[UNWRITTEN; 5]);
+    let mut state = numbers("state", &[UNWRITTEN; 9]);
     let mut frame = bytes("frame store", &[0xA5; 366]);
     // Sound as above; the two arrays have the lengths that the face asks for.
     let refusal = unsafe { spritbobbin_receiver_fresh(level, state.pointer(), frame.pointer()) };

@@ -12,6 +12,9 @@ use std::alloc::{alloc_zeroed, dealloc, Layout};
 /// 2 to the 32.
 const WIDE: usize = 1 << 32;
 
+/// The numbers of a fresh state of level 2.
+const FRESH: [u64; 9] = [2, 0, 0, 0, 0, 0, 0, 0, 0];
+
 pub fn part(run: &mut Run) {
     match Memory::new(WIDE + (1 << 20)) {
         Some(mut memory) => long_lengths(run, &mut memory),
@@ -235,7 +238,7 @@ fn long_piece(run: &mut Run, slice: &[u8]) {
 
 /// Feeds a fresh state of level 2 and checks that a refused call leaves it so.
 fn raw_feed(piece: *const u8, piece_bytes: usize, first: u64, count: u64) -> Vec<u64> {
-    let mut state = face::numbers("state", &[2, 0, 0, 0, 0]);
+    let mut state = face::numbers("state", &FRESH);
     let mut frame = face::bytes("frame store", &[0; 366]);
     let mut answer = face::numbers("answer", &[UNWRITTEN; 3]);
     // Sound as above; where the length is false the call must be refused unread.
@@ -243,7 +246,7 @@ fn raw_feed(piece: *const u8, piece_bytes: usize, first: u64, count: u64) -> Vec
         let (s, f, a) = (state.pointer(), frame.pointer(), answer.pointer());
         spritbobbin_receiver_feed(s, f, piece, piece_bytes, first, count, a)
     };
-    let kept = state.inner() == [2, 0, 0, 0, 0] && frame.inner() == [0; 366];
+    let kept = state.inner() == FRESH && frame.inner() == [0; 366];
     let written = if kept { &[][..] } else { &[UNWRITTEN] };
     [&[refusal], answer.inner(), written].concat()
 }
@@ -264,7 +267,7 @@ fn null_pointers(run: &mut Run) {
         let received = unsafe {
             spritbobbin_demultiplex(level, null, 0, null_mut, 0, null_mut, 0, back.as_mut_ptr())
         };
-        let expected = [refusal, 0, 0, 0, 0, 0, 0, 0];
+        let expected = [&[refusal], &[0; 10][..]].concat();
         run.expect(1, &inputs, &expected, &[&[received], &back[..]].concat());
         for labelled in [0, 1] {
             let none = if refusal == 0 { [4, 0, 0] } else { [refusal, 0, 0] };
@@ -341,5 +344,6 @@ fn one_false_length(run: &mut Run, level: u64, [line, notes, buffer]: [u64; 3]) 
         ]
     };
     run.expect(0, &inputs, &[refusal, 0, 0, 0, 0, 0], &[&numbers[..1], &sent].concat());
-    run.expect(1, &inputs, &[refusal, 0, 0, 0, 0, 0, 0, 0], &[&numbers[1..], &received].concat());
+    let expected = [&[refusal], &[0; 10][..]].concat();
+    run.expect(1, &inputs, &expected, &[&numbers[1..], &received].concat());
 }

@@ -78,12 +78,24 @@ fn any_state(random: &mut Random, row: &Row) -> State {
     let mut state = fresh(row.level).1;
     (state.window, state.seen, state.mode, state.place) = (window(random, row), seen, mode, place);
     state.frame.copy_from_slice(&random.filled(366));
-    if random.once_in(3) {
-        // A store that misses the mark by one digit at most.
-        state.frame = [0xFF; 366];
-        state.frame[random.index(366)] ^= 1 << random.below(8);
-    }
+    any_stretch(random, row, &mut state);
     state
+}
+
+/// A stretch that ends soon or not, with zeros near the limit or not.
+fn any_stretch(random: &mut Random, row: &Row, state: &mut State) {
+    let whole = row.frame_digits as u64;
+    state.stretch_digits = match random.below(3) {
+        0 => whole - 1 - random.below(3),
+        1 => whole - 1 - random.below(60),
+        _ => random.below(whole),
+    };
+    let limit = row.few_zeros as u64;
+    state.stretch_zeros = match random.below(3) {
+        0 => random.below(state.stretch_digits + 1),
+        _ => random.pick(&[0, limit - 1, limit, limit + 1]).min(state.stretch_digits),
+    };
+    (state.few_before, state.alarm) = (random.below(2), random.below(2));
 }
 
 /// A window that is the word, its first digits, the word with a digit wrong, or any.
@@ -101,12 +113,16 @@ fn window(random: &mut Random, row: &Row) -> u64 {
 /// One number of the state wrong, or just at its border.
 fn wrong_number(random: &mut Random, row: &Row, state: &mut State) {
     let length = row.word_length() as u64;
-    match random.below(6) {
+    match random.below(10) {
         0 => state.level = random.near(3),
         1 => state.window = random.near(1 << length),
         2 => state.seen = random.near(length),
         3 => state.mode = random.near(7),
         4 => state.place = random.near(row.frame_digits as u64),
+        5 => state.stretch_digits = random.near(row.frame_digits as u64),
+        6 => state.stretch_zeros = random.near(state.stretch_digits),
+        7 => state.few_before = random.near(1),
+        8 => state.alarm = random.near(1),
         _ => {
             state.seen = random.near(length);
             state.mode = random.near(6);
@@ -187,8 +203,7 @@ fn stream_from_fresh(run: &mut Run) {
         at += agreed.numbers[0] as usize;
         state = state_of(&agreed);
         if agreed.numbers[1] == 1 {
-            let all_ones = agreed.numbers[2] == 1;
-            frames.push(HandedOver { after: at, bytes: state.frame, all_ones });
+            frames.push(HandedOver { after: at, bytes: state.frame });
         }
     }
     if history::whole(level, &digits) != (frames, state) {
@@ -202,11 +217,14 @@ fn state_of(fed: &Outcome) -> State {
     let mut state = fresh(0).1;
     (state.level, state.window, state.seen) = (numbers[0], numbers[1], numbers[2]);
     (state.mode, state.place) = (numbers[3], numbers[4]);
+    (state.stretch_digits, state.stretch_zeros) = (numbers[5], numbers[6]);
+    (state.few_before, state.alarm) = (numbers[7], numbers[8]);
     state.frame.copy_from_slice(&fed.lent[0].1);
     state
 }
 
-/// Frames in a row, with missed words, slips of some digits, noise, and all-ones frames.
+/// Frames in a row, with missed words, slips of some digits, noise, framed ones, and ones
+/// without frames, with zeros among them.
 fn stream(random: &mut Random, row: &Row) -> Vec<u8> {
     let mut digits: Vec<u8> = (0..random.index(40)).map(|_| random.below(2) as u8).collect();
     let quietness = random.pick(&[2, 6, 1_000]);
@@ -216,12 +234,27 @@ fn stream(random: &mut Random, row: &Row) -> Vec<u8> {
             frame[random.index(row.word_length())] ^= 1;
         }
         digits.extend(frame);
+        if random.once_in(5) {
+            digits.extend(ones(random, row));
+        }
         if random.once_in(4 * quietness) {
             // Lost digits may leave a word half received at the next check.
             digits.truncate(digits.len() - random.index(2 * row.word_length()));
         }
         if random.once_in(4 * quietness) {
             digits.extend((0..random.index(30)).map(|_| random.below(2) as u8));
+        }
+    }
+    digits
+}
+
+/// Ones for some stretches, with so few or so many zeros that either may be judged.
+fn ones(random: &mut Random, row: &Row) -> Vec<u8> {
+    let mut digits = vec![1; random.index(5 * row.frame_digits)];
+    for _ in 0..random.index(3 * row.few_zeros * (1 + digits.len() / row.frame_digits)) {
+        let at = random.index(digits.len());
+        if let Some(digit) = digits.get_mut(at) {
+            *digit = 0;
         }
     }
     digits

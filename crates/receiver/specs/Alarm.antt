@@ -1,0 +1,73 @@
+-- Alarm indication. Document 02, request 4: "the receiver cuts its digits into stretches of N, counted from reset, whatever its mode".
+use mathlib.Core.Bool.{Bool, cond, true, false, _||_}
+use mathlib.Core.List.{List, [], _∷_}
+use mathlib.Core.Path.{_≡_}
+use Prim.Native.Nat.{ℕ, zero, suc, _+_, _-_, _/_, _≤_, _<_}
+use lib.Dec.{eqb, leb, ltb}
+use lib.ListN.{length, take, drop}
+use Rattle.digits.specs.Digits.{zerosIn}
+use Rattle.levels.specs.declared.table.Row.{Row}
+use Rattle.receiver.specs.declared.alarm.Stretch.{Stretch}
+
+-- "at most four zeros (five at level 4)": the limit is a number of the row
+abbrev pub isFew : Row → ℕ → Bool
+isFew row zeros = leb zeros (row .limit)
+
+-- "Alarm indication begins when two stretches in a row have each at most four zeros .. and ends when two in a row have each more":
+-- whether the stretch that ends has few zeros, whether the one before had, and the alarm before
+abbrev pub alarmAfter : Bool → Bool → Bool → Bool
+alarmAfter true true alarm = true
+alarmAfter true false alarm = alarm
+alarmAfter false true alarm = alarm
+alarmAfter false false alarm = false
+
+-- a stretch has ended with so many zeros, and the next begins
+abbrev pub ended : Row → Stretch → ℕ → Stretch
+ended row st zeros = record { digits = 0; zeros = 0; few = isFew row zeros; alarm = alarmAfter (isFew row zeros) (st .few) (st .alarm) }
+
+-- n digits more, z of them zeros, for which the stretch has room: it ends with its N-th digit
+unfoldable pub added : Row → Stretch → ℕ → ℕ → Stretch
+added row st n z =
+    cond (eqb (st .digits + n) (row .digits)) (ended row st (st .zeros + z))
+    (record { digits = st .digits + n; zeros = st .zeros + z; few = st .few; alarm = st .alarm })
+
+-- after a digit; after these digits
+abbrev pub countOf : Row → Stretch → ℕ → Stretch
+countOf row st d = added row st 1 (1 - d)
+
+unfoldable pub counted : Row → Stretch → List ℕ → Stretch
+counted row st [] = st
+counted row st (d ∷ ds) = counted row (countOf row st d) ds
+
+-- "(fresh: no)": no digits, no zeros, the stretch before had not few, and no alarm
+abbrev pub freshStretch : Stretch
+freshStretch = record { digits = 0; zeros = 0; few = false; alarm = false }
+
+-- "N or more digits, or more zeros than digits, are refused with 6"
+unfoldable pub uncounted : Row → Stretch → Bool
+uncounted row st = leb (row .digits) (st .digits) || ltb (st .digits) (st .zeros)
+
+-- the same item by item: proofs/Validity.antt shows that it is `uncounted` answered with no
+pub record Counting (row : Row) (st : Stretch) : Type 0 where
+  pub within : st .digits < row .digits
+  pub fewer : st .zeros ≤ st .digits
+
+-- ---- whole stretches: proofs/Alarms.antt shows that to count digit by digit is to go over these
+
+-- the first n stretches of these digits, N digits each
+unfoldable pub stretchesOf : Row → ℕ → List ℕ → List (List ℕ)
+stretchesOf row zero ds = []
+stretchesOf row (suc n) ds = take (row .digits) ds ∷ stretchesOf row n (drop (row .digits) ds)
+
+-- the alarm after these stretches, where the stretch before them had few zeros or not, and the alarm stood or not
+unfoldable pub alarmOver : Row → Bool → Bool → List (List ℕ) → Bool
+alarmOver row few alarm [] = alarm
+alarmOver row few alarm (x ∷ xs) = alarmOver row (isFew row (zerosIn x)) (alarmAfter (isFew row (zerosIn x)) few alarm) xs
+
+-- the alarm after a history, from reset on: of its whole stretches, wherever its pieces were cut
+abbrev pub alarmOf : Row → List ℕ → Bool
+alarmOf row ds = alarmOver row false false (stretchesOf row (length ds / row .digits) ds)
+
+-- wherever they begin, N of these digits in a row have few zeros; or, with no for yes, have more
+abbrev pub EverywhereFew : Row → Bool → List ℕ → Type 0
+EverywhereFew row few ds = (i : ℕ) → i + row .digits ≤ length ds → isFew row (zerosIn (take (row .digits) (drop i ds))) ≡ few
