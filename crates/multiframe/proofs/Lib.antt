@@ -1,0 +1,4 @@
+pub mod Columns
+pub mod Spares
+pub mod Silent
+pub mod Channels

@@ -1,0 +1,3 @@
+pub mod Multiframe
+pub mod Calls
+pub mod Steps
