@@ -1,54 +1,63 @@
+-- Refused with 2 or 11, or built (Made).
+use mathlib.Core.Path.{_≡_, refl, sym, _∙_}
+use mathlib.Core.Bool.{true, false}
+use native.Mathlib.Omega.{arith}
+use lib.ListN.{length}
+use borrow.Author.Tests.{eq-eqb, ne-eqb, not-true, not-false}
+use Rattle.multiframe.specs.Calls.{lengthsRight, firstSilent}
+use Rattle.multiframe.proofs.Made.{built-is}
+use Rattle.multiframe.proofs.Lengths.{right-lengths}
 use borrow.Author.Needs.{needs}
 use Rattle.multiframe.proofs.build.Statement.{statement}
 use Rattle.multiframe.proofs.build.Tie as tie
-use Rattle.multiframe.proofs.build.Reads as reads
-use Rattle.multiframe.proofs.build.Lts as lts
-use Rattle.multiframe.proofs.first_silent.Reads as first-silent-reads
-use Rattle.multiframe.proofs.lay.Reads as lay-reads
-use Rattle.multiframe.proofs.lengths_right.Reads as lengths-right-reads
-use Rattle.multiframe.proofs.put_spare.Reads as put-spare-reads
 
--- src/lib.rt:258:9
-lengths-right-requires : tie.Need-lengths-right-requires
-lengths-right-requires c κs = search needs
-
--- src/lib.rt:264:9
 returns : tie.Need-returns
-returns c = ?
+returns c =
+    let a = c .before .before .before .before .before .before .args in
+    let no : lengthsRight (length (a .multiframe .now)) (length (a .channels .now)) (length (a .signalling .now)) (length (a .spare .now)) ≡ false
+    = sym (c .before .lengths-right .ensures) ∙ not-true _ (c .if1 .taken) in
+    rw no (refl, refl)
 
--- src/lib.rt:269:9
 first-silent-requires : tie.Need-first-silent-requires
-first-silent-requires c κs = ?
+first-silent-requires c κs =
+    let a = c .before .before .before .before .before .before .args in
+    right-lengths (a .multiframe .now) (a .channels .now) (a .signalling .now) (a .spare .now) (sym (c .before .lengths-right .ensures) ∙ not-false _ (c .if1 .left)) .2
 
--- src/lib.rt:271:9
 returns-2 : tie.Need-returns-2
-returns-2 c = ?
+returns-2 c =
+    let a = c .before .before .before .before .before .before .before .before .args in
+    let right : lengthsRight (length (a .multiframe .now)) (length (a .channels .now)) (length (a .signalling .now)) (length (a .spare .now)) ≡ true
+    = sym (c .before .before .before .lengths-right .ensures) ∙ not-false _ (c .before .before .if1 .left) in
+    let first = c .before .first-silent .ensures in
+    rw (right, ← first, ne-eqb _ 0 (c .if2 .taken)) (refl, refl)
 
--- src/lib.rt:276:5
 lay-requires : tie.Need-lay-requires
-lay-requires c κs = ?
+lay-requires c κs =
+    let a = c .before .before .before .before .before .before .before .before .before .args in
+    let w = right-lengths (a .multiframe .now) (a .channels .now) (a .signalling .now) (a .spare .now) (sym (c .before .before .before .before .lengths-right .ensures) ∙ not-false _ (c .before .before .before .if1 .left)) in
+    (w .0, w .1, w .2)
 
--- src/lib.rt:277:5
 put-spare-requires : tie.Need-put-spare-requires
-put-spare-requires c κs = ?
+put-spare-requires c κs =
+    let c7 = c .before .before .before .before .before .before .before in
+    let a = c7 .before .before .before .before .before .before .args in
+    let w = right-lengths (a .multiframe .now) (a .channels .now) (a .signalling .now) (a .spare .now) (sym (c7 .before .lengths-right .ensures) ∙ not-false _ (c7 .if1 .left)) in
+    (omega (arith, w .0), w .3)
 
--- src/lib.rt:253:1
-same-length : tie.Need-same-length
-same-length c = search needs
-
--- src/lib.rt:253:1
 returns-3 : tie.Need-returns-3
-returns-3 c = ?
+returns-3 c =
+    let c10 = c .before .before .before .before .before .before .before .before .before .before in
+    let a = c10 .before .before .before .before .before .before .args in
+    let right : lengthsRight (length (a .multiframe .now)) (length (a .channels .now)) (length (a .signalling .now)) (length (a .spare .now)) ≡ true
+    = sym (c10 .before .lengths-right .ensures) ∙ not-false _ (c10 .if1 .left) in
+    let w = right-lengths (a .multiframe .now) (a .channels .now) (a .signalling .now) (a .spare .now) right in
+    let none : firstSilent (a .signalling .now) ≡ 0
+    = sym (c .before .before .before .before .before .before .before .before .before .first-silent .ensures) ∙ c .before .before .before .before .before .before .before .before .if2 .left in
+    let lay = c .before .before .before .before .before .before .lay in
+    let put = c .before .before .put-spare in
+    rw (right, none) (refl, built-is (a .channels .now) (a .signalling .now) (a .spare .now) (lay .last .0) (put .last .0) (lay .ensures) (put .ensures .0) (put .ensures .1) (omega (arith, w .0)))
 
 pub build-spec : {M : Type 1} → statement M
 build-spec =
     tie.close
-    (tie.spec
-    lengths-right-requires
-    returns
-    first-silent-requires
-    returns-2
-    lay-requires
-    put-spare-requires
-    same-length
-    returns-3)
+    (tie.spec (λ c κs. search needs) returns first-silent-requires returns-2 lay-requires put-spare-requires (λ c. search needs) returns-3)

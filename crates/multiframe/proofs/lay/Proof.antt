@@ -1,47 +1,35 @@
+-- The columns are put one after the other (Made).
+use mathlib.Core.Path.{_≡_}
+use native.Mathlib.Omega.{arith}
+use lib.ListN.{length, set, length-set}
+use Rattle.multiframe.specs.Steps.{ColumnPut, firstBytes}
+use Rattle.multiframe.proofs.Made.{all-laid}
 use borrow.Author.Needs.{needs}
 use Rattle.multiframe.proofs.lay.Statement.{statement}
 use Rattle.multiframe.proofs.lay.Tie as tie
-use Rattle.multiframe.proofs.lay.Reads as reads
-use Rattle.multiframe.proofs.lay.Lts as lts
-use Rattle.multiframe.proofs.put_channels.Reads as put-channels-reads
-use Rattle.multiframe.proofs.put_column.Reads as put-column-reads
 
--- src/lib.rt:223:5
-put-channels-requires : tie.Need-put-channels-requires
-put-channels-requires c κs = search needs
-
--- src/lib.rt:224:31
-slice-aggregate-put-column : tie.Need-slice-aggregate-put-column
-slice-aggregate-put-column c = search needs
-
--- src/lib.rt:224:5
-put-column-requires : tie.Need-put-column-requires
-put-column-requires c κs = search needs
-
--- src/lib.rt:225:5
-slice-write-multiframe : tie.Need-slice-write-multiframe
-slice-write-multiframe c = search needs
-
--- src/lib.rt:226:5
 put-column-requires-2 : tie.Need-put-column-requires-2
-put-column-requires-2 c κs = ?
+put-column-requires-2 c κs =
+    let two = c .before .before .before .put-column .last .0 in
+    (omega (arith, length-set two 16 0), omega arith, omega arith)
 
--- src/lib.rt:219:1
 same-length : tie.Need-same-length
-same-length c = ?
+same-length c =
+    let two = c .before .before .before .before .before .before .put-column .last .0 in
+    omega (arith, length-set two 16 0)
 
--- src/lib.rt:219:1
 returns : tie.Need-returns
-returns c = ?
+returns c =
+    let a = c .before .before .before .before .before .before .before .before .before .before .before .before .before .before .before .before .args in
+    let s = a .signalling .now in
+    let first = c .before .before .before .before .before .before .put-column in
+    let put = c .before .before .put-column2 in
+    let l : length s ≡ 15 = omega arith in
+    let done : ColumnPut (set (first .last .0) 16 0) 48 s 15 _ = rw l at (put .ensures) in
+    all-laid (a .channels .now) s _ (first .last .0) _ (omega arith) l
+    (c .before .before .before .before .before .before .before .before .before .before .before .put-channels .ensures) (first .ensures) done
 
 pub lay-spec : {M : Type 1} → statement M
 lay-spec =
     tie.close
-    (tie.spec
-    put-channels-requires
-    slice-aggregate-put-column
-    put-column-requires
-    slice-write-multiframe
-    put-column-requires-2
-    same-length
-    returns)
+    (tie.spec (λ c κs. search needs) (λ c. search needs) (λ c κs. search needs) (λ c. search needs) put-column-requires-2 same-length returns)

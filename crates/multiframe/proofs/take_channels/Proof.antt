@@ -62,8 +62,7 @@ loop-again c =
     let ys = taken .last .1 .1 .0 in
     let n : length mid ≡ 16 = mid-len (16 * l .c) (16 * l .c + 16) (l .channels) (omega arith) ∙ add-sub-cancel-left (16 * l .c) 16 in
     let ly : length ys ≡ 16 = omega (arith, taken .kept, n) in
-    let done : ColumnTaken m (columnOf (l .c)) 16 ys = rw (c .before .before .before .before .column-of .ensures, n) at (taken .ensures) in
-    (
+    let done : ColumnTaken m (columnOf (l .c)) 16 ys = rw (c .before .before .before .before .column-of .ensures, n) at (taken .ensures) in (
       omega arith,
       omega arith,
       omega arith,
