@@ -5,3 +5,5 @@ pub mod Channels
 pub mod Told
 pub mod Made
 pub mod Lengths
+pub mod Places
+pub mod Answers

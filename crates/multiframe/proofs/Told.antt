@@ -85,19 +85,25 @@ rightSignalling (Spare s) i = false
 rightSignalling (Signalling c) i = eqb (signallingFrom c + i % 4) i
 rightSignalling (Channel c) i = false
 
-from-signalling : (p i : ℕ) → i < 120 → p ≡ 256 * (i / 8 + 1) + 128 + i % 8 → (k : Kind) → kindAt p ≡ k → rightSignalling k i ≡ true → Told p
-from-signalling p i h ep (Fixed v) e t = absurd (no-truth t)
-from-signalling p i h ep (Spare s) e t = absurd (no-truth t)
-from-signalling p i h ep (Signalling c) e t =
-    let four : p % 4 ≡ i % 4 = omega arith in
-    let at : p % 8 ≡ i % 8 = omega arith in
-    let sum : i ≡ 8 * (i / 8) + i % 8 = omega arith in
-    signalled c (i / 8) e (omega arith) (omega arith) (rw (four, at) (eqb-true (signallingFrom c + i % 4) i t ∙ sum))
-from-signalling p i h ep (Channel c) e t = absurd (no-truth t)
-
 signalling-right : all 120 (λ (i : ℕ). rightSignalling (kindAt (256 * (i / 8 + 1) + 128 + i % 8)) i) ≡ true
 unfolding all kindAt
 signalling-right = refl
+
+pub record Signalled (i p : ℕ) : Type 0 where
+  pub channel : ℕ
+  pub kind : kindAt p ≡ Signalling channel
+  pub number : signallingFrom channel + p % 4 ≡ i
+
+from-signalling : (p i : ℕ) → p % 4 ≡ i % 4 → (k : Kind) → kindAt p ≡ k → rightSignalling k i ≡ true → Signalled i p
+from-signalling p i f (Fixed v) e t = absurd (no-truth t)
+from-signalling p i f (Spare s) e t = absurd (no-truth t)
+from-signalling p i f (Signalling c) e t = record { channel = c; kind = e; number = rw f (eqb-true (signallingFrom c + i % 4) i t) }
+from-signalling p i f (Channel c) e t = absurd (no-truth t)
+
+pub signalling-there : (i : ℕ) → i < 120 → Signalled i (256 * (i / 8 + 1) + 128 + i % 8)
+signalling-there i h =
+    let p = 256 * (i / 8 + 1) + 128 + i % 8 in
+    from-signalling p i (omega arith) (kindAt p) refl (all-at 120 _ signalling-right i h)
 
 -- every other byte is a channel's
 pub kind-channel : (p : ℕ) → 0 < p / 8 % 16 → kindAt p ≡ Channel (channelOf (p / 8 % 32))
@@ -158,8 +164,10 @@ told p h =
     other p h l m z = let e : p / 8 % 32 ≡ 16 = half (p / 8 % 32) (omega arith) (omega arith) z in omega arith
 
     at-signalling : (256 ≤ p) × (p ≡ 256 * (p / 256) + 128 + p % 8) → Told p
-    at-signalling e =
-        let i = 8 * (p / 256 - 1) + p % 8 in
-        let q : p ≡ 256 * (i / 8 + 1) + 128 + i % 8 = omega (arith, e .0, e .1) in
-        let t = all-at 120 _ signalling-right i (omega (arith, e .0)) in
-        from-signalling p i (omega (arith, e .0)) q (kindAt p) refl (rw (← q) at t)
+    at-signalling e = by-number (8 * (p / 256 - 1) + p % 8) (omega (arith, e .0)) (omega (arith, e .0, e .1))
+      where
+        by-number : (i : ℕ) → i < 120 → 256 * (i / 8 + 1) + 128 + i % 8 ≡ p → Told p
+        by-number i l q =
+            let t : Signalled i p = rw q at (signalling-there i l) in
+            let sum : i ≡ 8 * (i / 8) + p % 8 = omega arith in
+            signalled (t .channel) (i / 8) (t .kind) (omega arith) (omega arith) (t .number ∙ sum)
