@@ -22,6 +22,7 @@
  *             frame to frame without a gap.
  * note        one byte for each frame: which tributaries are stuffed, and the service digits.
  * capture     a file that keeps a line: see spritbobbin_capture_write.
+ * multiframe  sixteen frames of 32 bytes at 2048 kbit/s: see spritbobbin_multiframe_build.
  *
  *                           level 2    level 3    level 4
  *   frame, digits N             848       1536       2928
@@ -55,7 +56,7 @@
  *   0  accepted
  *   1  the level is not 2, 3 or 4
  *   2  the line is not a whole number of frames, or has over 64; for a piece: the slice is over
- *      65,536 bytes
+ *      65,536 bytes; for a multiframe: a slice has not the length that the call asks for
  *   3  the notes are not exactly F bytes
  *   4  the buffer's length is not a multiple of 4, or a quarter has room for fewer than F * n
  *      digits (asked even where frames are stuffed and fewer are needed)
@@ -68,13 +69,16 @@
  *   9  writing a capture: the label is over 32 bytes; reading one: the bytes are no run of a
  *      capture's fields, and the answer names the byte where the field at fault begins or should
  *      begin, counted from 0
+ *  11  building a multiframe: the signalling of one of channels 1 to 15 is 0000; the answer names
+ *      the first such channel
  *
  * For a capture 4 means that the file's buffer is shorter than the file.
  *
  * Where several apply, the first in this order is returned: 1, 2, 3, 4, 5 for the two multiplex
- * calls, 6, 2, 7 for a piece, 1, 2, 9, 4 for writing a capture, 9, 1, 2 for reading one. A refused
- * call writes nothing that it was lent, but the answer: all its numbers are 0, except the named
- * frame under 5 and the named byte under 9. (A fresh state is an answer too.)
+ * calls, 6, 2, 7 for a piece, 1, 2, 9, 4 for writing a capture, 9, 1, 2 for reading one, 2, 11
+ * for building a multiframe. A refused call writes nothing that it was lent, but the answer: all
+ * its numbers are 0, except the named frame under 5, the named byte under 9 and the named channel
+ * under 11. (A fresh state is an answer too.)
  *
  *
  * EXAMPLE
@@ -148,7 +152,8 @@ enum {
     SPRITBOBBIN_REFUSED_NOTE_BITS = 5,
     SPRITBOBBIN_REFUSED_STATE = 6,
     SPRITBOBBIN_REFUSED_DIGITS = 7,
-    SPRITBOBBIN_REFUSED_FIELD = 9
+    SPRITBOBBIN_REFUSED_FIELD = 9,
+    SPRITBOBBIN_REFUSED_SIGNALLING = 11
 };
 
 /* Sizes, by level where they differ. */
@@ -165,7 +170,11 @@ enum {
     SPRITBOBBIN_FRAME_STORE_BYTES = 366, /* the receiver's frame in hand, at every level */
     SPRITBOBBIN_MOST_FRAMES = 64,        /* in a line */
     SPRITBOBBIN_MOST_BYTES = 65536,      /* in a piece, or in a line that is read digit by digit */
-    SPRITBOBBIN_MOST_LABEL_BYTES = 32    /* in a capture */
+    SPRITBOBBIN_MOST_LABEL_BYTES = 32,   /* in a capture */
+    SPRITBOBBIN_MULTIFRAME_BYTES = 512,
+    SPRITBOBBIN_CHANNELS_BYTES = 480,  /* of a multiframe: sixteen for each of thirty channels */
+    SPRITBOBBIN_SIGNALLING_BYTES = 15, /* of a multiframe */
+    SPRITBOBBIN_SPARE_BYTES = 9        /* of a multiframe: 68 digits */
 };
 
 /* The fewest bytes of a quarter for so many frames, tributary_digits being n of the level. The
@@ -205,6 +214,7 @@ enum {
     SPRITBOBBIN_LABELLED = 3,    /* 1 if there is a label */
     SPRITBOBBIN_LABEL_START = 4, /* the label's first byte in the file */
     SPRITBOBBIN_LABEL_BYTES = 5, /* how many it has */
+    SPRITBOBBIN_NAMED_CHANNEL = 0, /* building a multiframe: under 11 */
     SPRITBOBBIN_NAMED_BYTE = 6   /* under 9: where the field at fault begins or should begin */
 };
 
@@ -304,6 +314,31 @@ uint64_t spritbobbin_capture_write(uint64_t level, const uint8_t *line, size_t l
  * label, its bytes (both 0 without one), named byte. Returns 0, 9, 1 or 2.
  */
 uint64_t spritbobbin_capture_read(const uint8_t *file, size_t file_bytes, uint64_t answer[7]);
+
+/*
+ * Builds a multiframe of 2048 kbit/s: sixteen frames of 32 bytes.
+ *
+ * multiframe: 512 bytes, written whole. channels: 480 bytes, sixteen of channel 1, of frame 0
+ * first, then of channels 2 to 30. signalling: 15 bytes, byte 16 of frames 1 to 15, so that byte
+ * k - 1 has channel k's four digits and then channel k + 15's. spare: 9 bytes, the 68 digits that
+ * nothing fixes in the order of their places: the first digit of byte 0 of every frame, the alarm
+ * and the five digits after it in odd frames, and X Y X X; the last four digits are not looked at.
+ *
+ * answer: named channel. Returns 0, 2 or 11.
+ */
+uint64_t spritbobbin_multiframe_build(uint8_t *multiframe, size_t multiframe_bytes,
+                                      const uint8_t *channels, size_t channels_bytes,
+                                      const uint8_t *signalling, size_t signalling_bytes,
+                                      const uint8_t *spare, size_t spare_bytes, uint64_t answer[1]);
+
+/*
+ * Takes a multiframe apart into channels, signalling and spare digits, as above; the last four
+ * digits of the spare bytes are written as zero. Fixed digits are not looked at. Returns 0 or 2.
+ */
+uint64_t spritbobbin_multiframe_apart(const uint8_t *multiframe, size_t multiframe_bytes,
+                                      uint8_t *channels, size_t channels_bytes,
+                                      uint8_t *signalling, size_t signalling_bytes,
+                                      uint8_t *spare, size_t spare_bytes);
 
 #ifdef __cplusplus
 }

@@ -13,10 +13,12 @@ pub mod digits;
 pub mod frame;
 pub mod history;
 pub mod level;
+mod multiframe;
 mod multiplexing;
 pub mod random;
 mod receiver;
 
 pub use captures::{read_capture, write_capture, Read, Written};
+pub use multiframe::{build_multiframe, multiframe_refusal, take_multiframe_apart};
 pub use multiplexing::{demultiplex, length_refusal, multiplex, Demultiplexed, Multiplexed};
 pub use receiver::{feed, feed_refusal, fresh, line_digit, Fed, State};

@@ -10,6 +10,7 @@
 //!   reads the stream too.
 //! - [`digits`] walks over the digits of a line.
 //! - [`write_capture`] keeps a line in a file, [`read_capture`] reads it back.
+//! - [`Multiframe::build`] builds a multiframe of 2048 kbit/s, [`Multiframe::apart`] takes one apart.
 //!
 //! # Digits, quarters, notes
 //!
@@ -61,6 +62,7 @@
 mod capture;
 mod level;
 mod line;
+mod multiframe;
 mod multiplexing;
 mod raw;
 mod receiver;
@@ -70,6 +72,7 @@ mod stream;
 pub use capture::{capture_bytes, read_capture, write_capture, Capture, MOST_LABEL_BYTES};
 pub use level::{Level, MOST_BYTES, MOST_FRAMES};
 pub use line::{digits, line_digit, Digits};
+pub use multiframe::{Multiframe, MULTIFRAME_BYTES};
 pub use multiplexing::{demultiplex, multiplex, Received, Sent};
 pub use receiver::{Frame, Frames, Mode, Receiver, State, Taken};
 pub use refusal::Refusal;

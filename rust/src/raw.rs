@@ -75,6 +75,30 @@ extern "C" {
         file_bytes: usize,
         answer: &mut [u64; 7],
     ) -> u64;
+
+    /// Answer: named channel.
+    pub fn spritbobbin_multiframe_build(
+        multiframe: *mut u8,
+        multiframe_bytes: usize,
+        channels: *const u8,
+        channels_bytes: usize,
+        signalling: *const u8,
+        signalling_bytes: usize,
+        spare: *const u8,
+        spare_bytes: usize,
+        answer: &mut [u64; 1],
+    ) -> u64;
+
+    pub fn spritbobbin_multiframe_apart(
+        multiframe: *const u8,
+        multiframe_bytes: usize,
+        channels: *mut u8,
+        channels_bytes: usize,
+        signalling: *mut u8,
+        signalling_bytes: usize,
+        spare: *mut u8,
+        spare_bytes: usize,
+    ) -> u64;
 }
 
 /// A count that the library answers, as Rust counts. None is over eight times the bytes that were

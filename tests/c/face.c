@@ -1,6 +1,6 @@
 /*
  * Calls every function of the library through its header, from C: worked cases 1, 9, 10 and 11
- * of the specification, each refusal, the digits of a line, captures. Prints "face: ok", or what failed.
+ * of the specification, each refusal, the digits of a line, captures, multiframes. Prints "face: ok", or what failed.
  *
  * All bytes that are lent come from malloc in their exact number, so that valgrind sees a read or
  * a write of the library one byte beside them.
@@ -241,6 +241,53 @@ static void captures(void)
     refused_file("\1\0\1\2\2\0\1\0", 8, SPRITBOBBIN_REFUSED_LINE, 0);
 }
 
+/* Builds a multiframe of slices of these lengths, with signalling of one value, and takes it apart. */
+static void multiframe(size_t whole, size_t channels, size_t signalling, size_t spare, uint8_t signal, uint64_t refusal, uint64_t named)
+{
+    uint8_t *m = lend(whole, 0xA5), *c = lend(channels, 0x3C), *s = lend(signalling, signal), *x = lend(spare, 0xFF);
+    uint64_t answer[1] = {UINT64_C(0xA5A5A5A5A5A5A5A5)};
+
+    check(spritbobbin_multiframe_build(m, whole, c, channels, s, signalling, x, spare, answer) == refusal, "the refusal of a multiframe");
+    check(answer[SPRITBOBBIN_NAMED_CHANNEL] == named, "the channel that it names");
+    if (refusal)
+        check(all(m, whole, 0xA5), "a refused multiframe is not written");
+    else
+        check(m[0] == 0x9B && m[16] == 0x0F && m[32] == 0xFF && m[32 + 16] == signal && m[511] == 0x3C, "bytes of the multiframe");
+    if (c && s && x) {
+        memset(c, 0, channels);
+        memset(s, 0, signalling);
+        memset(x, 0xA5, spare);
+        check(spritbobbin_multiframe_apart(m, whole, c, channels, s, signalling, x, spare) == (refusal == 11 ? 0 : refusal), "the refusal of taking apart");
+    }
+    if (!refusal) {
+        check(all(c, channels, 0x3C) && all(s, signalling, signal), "channels and signalling come back");
+        check(all(x, 8, 0xFF) && x[8] == 0xF0, "spare digits come back, with zeros after them");
+    } else if (refusal == 2 && c && s && x) {
+        check(all(c, channels, 0) && all(s, signalling, 0) && all(x, spare, 0xA5), "nothing is written under a refusal");
+    }
+    free(m);
+    free(c);
+    free(s);
+    free(x);
+}
+
+/* Every length at its border; 2 before 11; silent channels from 16 on. */
+static void multiframes(void)
+{
+    multiframe(512, 480, 15, 9, 0xD5, 0, 0);
+    multiframe(512, 480, 15, 9, 0x10, 0, 0);
+    multiframe(512, 480, 15, 9, 0x0F, SPRITBOBBIN_REFUSED_SIGNALLING, 1);
+    multiframe(511, 480, 15, 9, 0x0F, SPRITBOBBIN_REFUSED_LINE, 0);
+    multiframe(513, 480, 15, 9, 0x0F, SPRITBOBBIN_REFUSED_LINE, 0);
+    multiframe(512, 479, 15, 9, 0x0F, SPRITBOBBIN_REFUSED_LINE, 0);
+    multiframe(512, 481, 15, 9, 0x0F, SPRITBOBBIN_REFUSED_LINE, 0);
+    multiframe(512, 480, 14, 9, 0x0F, SPRITBOBBIN_REFUSED_LINE, 0);
+    multiframe(512, 480, 16, 9, 0x0F, SPRITBOBBIN_REFUSED_LINE, 0);
+    multiframe(512, 480, 15, 8, 0x0F, SPRITBOBBIN_REFUSED_LINE, 0);
+    multiframe(512, 480, 15, 10, 0x0F, SPRITBOBBIN_REFUSED_LINE, 0);
+    multiframe(0, 0, 0, 0, 0, SPRITBOBBIN_REFUSED_LINE, 0);
+}
+
 int main(void)
 {
     both_ways(2, 106, 1, 1, 0, 104, 0, 0);      /* case 1; case 9: a quarter of 26 bytes */
@@ -260,6 +307,7 @@ int main(void)
     receiver();
     line_digits();
     captures();
+    multiframes();
     if (failures)
         return 1;
     puts("face: ok");

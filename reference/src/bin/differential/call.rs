@@ -1,5 +1,6 @@
 //! A call with its inputs, what came of it, and what the reference says of it.
 
+use reference::{build_multiframe, take_multiframe_apart};
 use reference::{demultiplex, feed, fresh, line_digit, multiplex, State};
 use reference::{read_capture, write_capture};
 
@@ -30,6 +31,15 @@ pub struct Writing {
     pub file: Vec<u8>,
 }
 
+/// What a call on a multiframe is lent.
+#[derive(Clone)]
+pub struct Whole {
+    pub multiframe: Vec<u8>,
+    pub channels: Vec<u8>,
+    pub signalling: Vec<u8>,
+    pub spare: Vec<u8>,
+}
+
 pub enum Call {
     Multiplex(Lending),
     Demultiplex(Lending),
@@ -38,10 +48,12 @@ pub enum Call {
     LineDigit(Vec<u8>, u64),
     CaptureWrite(Writing),
     CaptureRead(Vec<u8>),
+    MultiframeBuild(Whole),
+    MultiframeApart(Whole),
 }
 
 /// The names of the calls, in the order of their numbers.
-pub const NAMES: [&str; 7] = [
+pub const NAMES: [&str; 9] = [
     "multiplex",
     "demultiplex",
     "receiver_fresh",
@@ -49,6 +61,8 @@ pub const NAMES: [&str; 7] = [
     "line_digit",
     "capture_write",
     "capture_read",
+    "multiframe_build",
+    "multiframe_apart",
 ];
 
 /// All that a call answers and leaves: two outcomes are equal or there is a disagreement.
@@ -75,6 +89,8 @@ impl Call {
             Call::LineDigit(..) => 4,
             Call::CaptureWrite(_) => 5,
             Call::CaptureRead(_) => 6,
+            Call::MultiframeBuild(_) => 7,
+            Call::MultiframeApart(_) => 8,
         }
     }
 
@@ -90,6 +106,8 @@ impl Call {
             Call::CaptureRead(_) => {
                 "level, line, its bytes, labelled, label, its bytes, named byte"
             }
+            Call::MultiframeBuild(_) => "named channel",
+            Call::MultiframeApart(_) => "none",
         }
     }
 
@@ -121,6 +139,13 @@ impl Call {
                 in_short(&with.file)
             ),
             Call::CaptureRead(file) => format!("file {}", in_short(file)),
+            Call::MultiframeBuild(with) | Call::MultiframeApart(with) => format!(
+                "multiframe {}; channels {}; signalling {}; spare {}",
+                in_short(&with.multiframe),
+                in_short(&with.channels),
+                in_short(&with.signalling),
+                in_short(&with.spare)
+            ),
         }
     }
 
@@ -142,6 +167,8 @@ impl Call {
                 let (refusal, numbers) = read_numbers(file);
                 outcome(refusal, numbers.to_vec(), vec![("file", file.clone())])
             }
+            Call::MultiframeBuild(with) => built(with.clone()),
+            Call::MultiframeApart(with) => taken_apart(with.clone()),
         }
     }
 }
@@ -184,6 +211,31 @@ fn written(mut with: Writing) -> Outcome {
     let answer = write_capture(with.level, &with.line, label, &mut with.file);
     let lent = vec![("line", with.line), ("label", with.label), ("file", with.file)];
     outcome(answer.refusal, vec![answer.bytes, answer.byte], lent)
+}
+
+fn built(mut with: Whole) -> Outcome {
+    let (refusal, channel) =
+        build_multiframe(&mut with.multiframe, &with.channels, &with.signalling, &with.spare);
+    outcome(refusal, vec![channel], parts(with))
+}
+
+fn taken_apart(mut with: Whole) -> Outcome {
+    let refusal = take_multiframe_apart(
+        &with.multiframe,
+        &mut with.channels,
+        &mut with.signalling,
+        &mut with.spare,
+    );
+    outcome(refusal, vec![], parts(with))
+}
+
+fn parts(with: Whole) -> Vec<(&'static str, Vec<u8>)> {
+    vec![
+        ("multiframe", with.multiframe),
+        ("channels", with.channels),
+        ("signalling", with.signalling),
+        ("spare", with.spare),
+    ]
 }
 
 /// What the reference reads, in the face's order.

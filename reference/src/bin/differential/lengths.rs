@@ -5,6 +5,7 @@ use crate::call::read_numbers;
 use crate::face::{self, spritbobbin_capture_read, spritbobbin_capture_write};
 use crate::face::{spritbobbin_demultiplex, spritbobbin_line_digit};
 use crate::face::{spritbobbin_multiplex, spritbobbin_receiver_feed, UNWRITTEN};
+use crate::multiframes;
 use crate::Run;
 use reference::{demultiplex, feed, feed_refusal, fresh, length_refusal, line_digit, multiplex};
 use std::alloc::{alloc_zeroed, dealloc, Layout};
@@ -22,6 +23,7 @@ pub fn part(run: &mut Run) {
         println!("now null pointers and lengths that no memory holds (left out by lent-only)");
         null_pointers(run);
         false_lengths(run);
+        multiframes::false_lengths(run);
     }
 }
 
