@@ -141,7 +141,7 @@ build-after-apart m oc os ox r c s x b right apart rz old a left met z =
   where
     digit : Taken m c s x → (p : ℕ) → p < 4096 → Told p → getD (digitsOf m) p 0 ≡ digitFor c s x p
     digit t p h (fixed v e w) = right p v h e ∙ rw e refl
-    digit t p h (spare k e) = sym (t .each p h (rw e refl))
+    digit t p h (spare k e w) = sym (t .each p h (rw e refl))
     digit t p h (signalled k f e g q n) = sym (t .each p h (rw e refl))
     digit t p h (channelled g e) = sym (t .each p h (rw e refl))
 

@@ -6,7 +6,7 @@ use Prim.Native.Nat.{ℕ, _+_, _*_, _<_}
 use native.Mathlib.Omega.{arith}
 use native.Mathlib.Decide.{decLt, ℕ-discrete}
 use lib.ListN.{length, getD, set}
-use lib.Seq.{getD-set-same, getD-set-other}
+use lib.Seq.{ext-getD, getD-set-same, getD-set-other}
 use Rattle.multiframe.specs.Steps.{ColumnPut, ColumnTaken}
 
 -- below n + 1 and not n is below n
@@ -63,3 +63,24 @@ taken-none multiframe first column f h = absurd (nothing h)
 pub all-taken : (multiframe : List ℕ) (first f n : ℕ) (column : List ℕ) → f ≡ n → ColumnTaken multiframe first f column
     → ColumnTaken multiframe first n column
 all-taken multiframe first f n column e w = rw e at w
+
+-- ---- bytes copied one by one
+
+abbrev pub Copied : List ℕ → ℕ → List ℕ → Type 0
+Copied bytes n new = (j : ℕ) → j < n → getD new j 0 ≡ getD bytes j 0
+
+pub copied-none : (bytes new : List ℕ) → Copied bytes 0 new
+copied-none bytes new j h = absurd (nothing h)
+  where
+    nothing : j < 0 → ⊥
+    nothing h = omega arith
+
+pub copied-more : (bytes mid : List ℕ) (n : ℕ) → n < length mid → Copied bytes n mid → Copied bytes (n + 1) (set mid n (getD bytes n 0))
+copied-more bytes mid n h w j l =
+    elim (ℕ-discrete j n) [
+      | yes e ↦ rw e (getD-set-same mid n (getD bytes n 0) 0 h)
+      | no far ↦ getD-set-other mid n j (getD bytes n 0) 0 far ∙ w j (lt-of-ne j n l far)
+    ]
+
+pub copied-all : (bytes new : List ℕ) (n : ℕ) → n ≡ 9 → length new ≡ 9 → length bytes ≡ 9 → Copied bytes n new → new ≡ bytes
+copied-all bytes new n e l m w = ext-getD 0 new bytes (omega arith) (λ j h. w j (omega arith))

@@ -13,7 +13,6 @@ use Rattle.multiframe.specs.declared.SpareDigit.{SpareDigit}
 use Rattle.multiframe.specs.declared.Kind.{Kind}
 use Rattle.multiframe.specs.declared.Kind.the-variants.{Fixed, Spare, Signalling, Channel}
 use Rattle.multiframe.specs.Multiframe.{kindAt, channelOf, signallingFrom}
-use Rattle.multiframe.specs.Steps.{firstBytes}
 
 -- ---- a test of every number below n
 
@@ -48,33 +47,34 @@ all-at (suc n) t e i h =
 
 -- ---- what a place is, and where its byte comes from
 
+-- byte 0 of a frame, or byte 16 of frame 0
+abbrev pub InFirst : ℕ → Type 0
+InFirst p = (p / 8 ≡ 32 * (p / 256)) ⊎ (p / 8 ≡ 16)
+
 pub data Told (p : ℕ) : Type 0 where
-  fixed : (v : ℕ) → kindAt p ≡ Fixed v
-      → ((p / 8 ≡ 32 * (p / 256)) × (getD firstBytes (p / 256) 0 / 2 ^ (7 - p % 8) % 2 ≡ v)) ⊎ ((p / 8 ≡ 16) × (v ≡ 0))
-      → Told p
-  spare : (s : SpareDigit) → kindAt p ≡ Spare s → Told p
+  fixed : (v : ℕ) → kindAt p ≡ Fixed v → InFirst p → Told p
+  spare : (s : SpareDigit) → kindAt p ≡ Spare s → InFirst p → Told p
   signalled : (c f : ℕ) → kindAt p ≡ Signalling c → f < 15 → p / 8 ≡ 48 + 32 * f → signallingFrom c + p % 4 ≡ 8 * f + p % 8 → Told p
   channelled : 0 < p / 8 % 16 → kindAt p ≡ Channel (channelOf (p / 8 % 32)) → Told p
 
--- bytes 0 and 16 of frame 0: fixed at the digit that stands there, or spare
-abbrev rightFixed : Kind → ℕ → Bool
-rightFixed (Fixed v) x = eqb x v
-rightFixed (Spare s) x = true
-rightFixed (Signalling c) x = false
-rightFixed (Channel c) x = false
+-- bytes 0, and 16 of frame 0: fixed or spare
+abbrev fixedOrSpare : Kind → Bool
+fixedOrSpare (Fixed v) = true
+fixedOrSpare (Spare s) = true
+fixedOrSpare (Signalling c) = false
+fixedOrSpare (Channel c) = false
 
-from-fixed : (p x : ℕ) → ((v : ℕ) → x ≡ v → ((p / 8 ≡ 32 * (p / 256)) × (getD firstBytes (p / 256) 0 / 2 ^ (7 - p % 8) % 2 ≡ v)) ⊎ ((p / 8 ≡ 16) × (v ≡ 0)))
-    → (k : Kind) → kindAt p ≡ k → rightFixed k x ≡ true → Told p
-from-fixed p x h (Fixed v) e t = fixed v e (h v (eqb-true x v t))
-from-fixed p x h (Spare s) e t = spare s e
-from-fixed p x h (Signalling c) e t = absurd (no-truth t)
-from-fixed p x h (Channel c) e t = absurd (no-truth t)
+from-fixed : (p : ℕ) → InFirst p → (k : Kind) → kindAt p ≡ k → fixedOrSpare k ≡ true → Told p
+from-fixed p h (Fixed v) e t = fixed v e h
+from-fixed p h (Spare s) e t = spare s e h
+from-fixed p h (Signalling c) e t = absurd (no-truth t)
+from-fixed p h (Channel c) e t = absurd (no-truth t)
 
-first-right : all 128 (λ (i : ℕ). rightFixed (kindAt (256 * (i / 8) + i % 8)) (getD firstBytes (i / 8) 0 / 2 ^ (7 - i % 8) % 2)) ≡ true
+first-right : all 128 (λ (i : ℕ). fixedOrSpare (kindAt (256 * (i / 8) + i % 8))) ≡ true
 unfolding all kindAt
 first-right = refl
 
-sixteenth-right : all 8 (λ (i : ℕ). rightFixed (kindAt (128 + i)) 0) ≡ true
+sixteenth-right : all 8 (λ (i : ℕ). fixedOrSpare (kindAt (128 + i))) ≡ true
 unfolding all kindAt
 sixteenth-right = refl
 
@@ -153,12 +153,12 @@ told p h =
         let i : (8 * (p / 256) + p % 8) / 8 ≡ p / 256 = omega arith in
         let d : (8 * (p / 256) + p % 8) % 8 ≡ p % 8 = omega arith in
         let t = all-at 128 _ first-right (8 * (p / 256) + p % 8) (omega arith) in
-        from-fixed p (getD firstBytes (p / 256) 0 / 2 ^ (7 - p % 8) % 2) (λ v x. inl (omega arith, x)) (kindAt p) refl (rw (i, d, ← e) at t)
+        from-fixed p (inl (omega arith)) (kindAt p) refl (rw (i, d, ← e) at t)
 
     at-sixteenth : p ≡ 128 + p % 8 → Told p
     at-sixteenth e =
         let t = all-at 8 _ sixteenth-right (p % 8) (omega arith) in
-        from-fixed p 0 (λ v x. inr (omega arith, sym x)) (kindAt p) refl (rw (← e) at t)
+        from-fixed p (inr (omega arith)) (kindAt p) refl (rw (← e) at t)
 
     other : (p : ℕ) → p < 4096 → 256 ≤ p → p / 8 % 16 ≡ 0 → (p / 8 % 32 ≡ 0 → ⊥) → p ≡ 256 * (p / 256) + 128 + p % 8
     other p h l m z = let e : p / 8 % 32 ≡ 16 = half (p / 8 % 32) (omega arith) (omega arith) z in omega arith

@@ -61,7 +61,7 @@ returns-2 c =
     let bs : Bytes si = λ i. omega (arith, c .before .before .before .before .slice-known5 .given i) in
     record {
       answer = rw right refl;
-      taken = λ _. all-taken-apart (a .multiframe .now) ch si (spare .last .1 .0) (channels .ensures) column (spare .ensures) (omega (arith, w .1)) (omega (arith, w .2)) (omega (arith, w .3)) bc bs;
+      taken = λ _. all-taken-apart (a .multiframe .now) ch si (spare .last .1 .0) (channels .ensures) column (spare .ensures) (omega (arith, w .1)) (omega (arith, w .2)) bc bs;
       kept = λ e. absurd (none e);
     }
   where

@@ -4,6 +4,7 @@ use mathlib.Core.Bool.{true, false}
 use native.Mathlib.Omega.{arith}
 use lib.ListN.{length}
 use borrow.Author.Tests.{eq-eqb, ne-eqb, not-true, not-false}
+use Rattle.digits.specs.Digits.{Bytes}
 use Rattle.multiframe.specs.Calls.{lengthsRight, firstSilent}
 use Rattle.multiframe.proofs.Made.{built-is}
 use Rattle.multiframe.proofs.Lengths.{right-lengths}
@@ -35,29 +36,21 @@ lay-requires : tie.Need-lay-requires
 lay-requires c κs =
     let a = c .before .before .before .before .before .before .before .before .before .args in
     let w = right-lengths (a .multiframe .now) (a .channels .now) (a .signalling .now) (a .spare .now) (sym (c .before .before .before .before .lengths-right .ensures) ∙ not-false _ (c .before .before .before .if1 .left)) in
-    (w .0, w .1, w .2)
-
-put-spare-requires : tie.Need-put-spare-requires
-put-spare-requires c κs =
-    let c7 = c .before .before .before .before .before .before .before in
-    let a = c7 .before .before .before .before .before .before .args in
-    let w = right-lengths (a .multiframe .now) (a .channels .now) (a .signalling .now) (a .spare .now) (sym (c7 .before .lengths-right .ensures) ∙ not-false _ (c7 .if1 .left)) in
-    (omega (arith, w .0), w .3)
+    (w .0, w .1, w .2, w .3)
 
 returns-3 : tie.Need-returns-3
 returns-3 c =
-    let c10 = c .before .before .before .before .before .before .before .before .before .before in
-    let a = c10 .before .before .before .before .before .before .args in
+    let c6 = c .before .before .before .before .before .before in
+    let a = c6 .before .before .before .before .before .before .args in
     let right : lengthsRight (length (a .multiframe .now)) (length (a .channels .now)) (length (a .signalling .now)) (length (a .spare .now)) ≡ true
-    = sym (c10 .before .lengths-right .ensures) ∙ not-false _ (c10 .if1 .left) in
+    = sym (c6 .before .lengths-right .ensures) ∙ not-false _ (c6 .if1 .left) in
     let w = right-lengths (a .multiframe .now) (a .channels .now) (a .signalling .now) (a .spare .now) right in
-    let none : firstSilent (a .signalling .now) ≡ 0
-    = sym (c .before .before .before .before .before .before .before .before .before .first-silent .ensures) ∙ c .before .before .before .before .before .before .before .before .if2 .left in
-    let lay = c .before .before .before .before .before .before .lay in
-    let put = c .before .before .put-spare in
-    rw (right, none) (refl, built-is (a .channels .now) (a .signalling .now) (a .spare .now) (lay .last .0) (put .last .0) (lay .ensures) (put .ensures .0) (put .ensures .1) (omega (arith, w .0)))
+    let none : firstSilent (a .signalling .now) ≡ 0 = sym (c .before .before .before .before .before .first-silent .ensures) ∙ c .before .before .before .before .if2 .left in
+    let lay = c .before .before .lay in
+    let bytes : Bytes (lay .last .0) = λ i. omega (arith, c .slice-known2 .given i) in
+    rw (right, none) (refl, built-is (a .channels .now) (a .signalling .now) (a .spare .now) (lay .last .0) (lay .ensures) bytes (omega (arith, w .0)))
 
 pub build-spec : {M : Type 1} → statement M
 build-spec =
     tie.close
-    (tie.spec (λ c κs. search needs) returns first-silent-requires returns-2 lay-requires put-spare-requires (λ c. search needs) returns-3)
+    (tie.spec (λ c κs. search needs) returns first-silent-requires returns-2 lay-requires (λ c. search needs) returns-3)
