@@ -122,7 +122,10 @@ channelling-take multiframe old new c hc w stays is k h g l =
           ap (λ (n : ℕ). getD multiframe n 0) (own-byte c hc k h g e)
           ∙ sym (is (k / 32) (omega arith))
           ∙ ap (λ (n : ℕ). getD new n 0) (sym (own-index c hc k h g e))
-      | no far ↦ w k h g (earlier c hc k h g far l) ∙ sym (stays (channelFrom (channelOf (k % 32)) + k / 32) (before (channelOf (k % 32)) (channel-bounds (k % 32) (byte-bounds k g .0) (byte-bounds k g .1) .0) (earlier c hc k h g far l)))
+      | no far ↦
+          let some = channel-bounds (k % 32) (byte-bounds k g .0) (byte-bounds k g .1) .0 in
+          let gone = earlier c hc k h g far l in
+          w k h g gone ∙ sym (stays (channelFrom (channelOf (k % 32)) + k / 32) (before (channelOf (k % 32)) some gone))
     ]
   where
     before : (n : ℕ) → 1 ≤ n → n ≤ c → channelFrom n + k / 32 < 16 * c

@@ -13,7 +13,8 @@ use Rattle.digits.proofs.Laws.{digits-binary, digits-of-bytes, bytes-length, by
 use Rattle.multiframe.specs.declared.SpareDigit.{SpareDigit}
 use Rattle.multiframe.specs.declared.Kind.{Kind}
 use Rattle.multiframe.specs.declared.Kind.the-variants.{Fixed, Spare, Signalling, Channel}
-use Rattle.multiframe.specs.Multiframe.{kindAt, kindsOf, withWord, withoutWord, multiframeByte, signallingByte, channelOf, channelFrom, isSpare, isFixed, sparesBefore, signallingFrom, meant, digitFor, multiframeOf}
+use Rattle.multiframe.specs.Multiframe.{kindAt, kindsOf, withWord, withoutWord, multiframeByte, signallingByte}
+use Rattle.multiframe.specs.Multiframe.{channelOf, channelFrom, isSpare, isFixed, sparesBefore, signallingFrom, meant, digitFor, multiframeOf}
 use Rattle.multiframe.specs.Steps.{columnOf}
 use Rattle.multiframe.specs.Calls.{Taken}
 use Rattle.multiframe.proofs.Channels.{Column, column-there}

@@ -35,6 +35,9 @@ pub struct Built {
     pub channel: usize,
 }
 
+// The last four digits of the ninth byte of the spare digits, when they are taken.
+const UNUSED: u8 = 0;
+
 fn lengths_right(multiframe: usize, channels: usize, signalling: usize, spare: usize) -> bool
     ensures { λ r. ⌜ r ≡ lengthsRight multiframe channels signalling spare ⌝ }
 {
@@ -262,10 +265,10 @@ fn spare_bytes(multiframe: &[u8]) -> [u8; 9]
             digit_at(multiframe, 3845),
             digit_at(multiframe, 3846),
             digit_at(multiframe, 3847),
-            0,
-            0,
-            0,
-            0,
+            UNUSED,
+            UNUSED,
+            UNUSED,
+            UNUSED,
         ),
     ]
 }

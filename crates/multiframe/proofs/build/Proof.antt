@@ -3,7 +3,7 @@ use mathlib.Core.Path.{_≡_, refl, sym, _∙_}
 use mathlib.Core.Bool.{true, false}
 use native.Mathlib.Omega.{arith}
 use lib.ListN.{length}
-use borrow.Author.Tests.{eq-eqb, ne-eqb, not-true, not-false}
+use borrow.Author.Tests.{ne-eqb, not-true, not-false}
 use Rattle.digits.specs.Digits.{Bytes}
 use Rattle.multiframe.specs.Calls.{lengthsRight, firstSilent}
 use Rattle.multiframe.proofs.Made.{built-is}
@@ -35,7 +35,8 @@ returns-2 c =
 lay-requires : tie.Need-lay-requires
 lay-requires c κs =
     let a = c .before .before .before .before .before .before .before .before .before .args in
-    let w = right-lengths (a .multiframe .now) (a .channels .now) (a .signalling .now) (a .spare .now) (sym (c .before .before .before .before .lengths-right .ensures) ∙ not-false _ (c .before .before .before .if1 .left)) in
+    let c3 = c .before .before .before in
+    let w = right-lengths (a .multiframe .now) (a .channels .now) (a .signalling .now) (a .spare .now) (sym (c3 .before .lengths-right .ensures) ∙ not-false _ (c3 .if1 .left)) in
     (w .0, w .1, w .2, w .3)
 
 returns-3 : tie.Need-returns-3
@@ -51,6 +52,4 @@ returns-3 c =
     rw (right, none) (refl, built-is (a .channels .now) (a .signalling .now) (a .spare .now) (lay .last .0) (lay .ensures) bytes (omega (arith, w .0)))
 
 pub build-spec : {M : Type 1} → statement M
-build-spec =
-    tie.close
-    (tie.spec (λ c κs. search needs) returns first-silent-requires returns-2 lay-requires (λ c. search needs) returns-3)
+build-spec = tie.close (tie.spec (λ c κs. search needs) returns first-silent-requires returns-2 lay-requires (λ c. search needs) returns-3)

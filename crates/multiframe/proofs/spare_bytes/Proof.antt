@@ -41,4 +41,6 @@ returns c =
 pub spare-bytes-spec : {M : Type 1} → statement M
 spare-bytes-spec =
     tie.close
-    (tie.spec (λ c κs. search needs) (λ c κs. search needs) (λ c κs. search needs) (λ c κs. search needs) (λ c κs. search needs) (λ c κs. search needs) (λ c κs. search needs) (λ c κs. search needs) digit-at-requires digit-at-requires-2 digit-at-requires-3 digit-at-requires-4 (λ c κs. search needs) returns)
+    (tie.spec (λ c κs. search needs) (λ c κs. search needs) (λ c κs. search needs) (λ c κs. search needs) (λ c κs. search needs)
+    (λ c κs. search needs) (λ c κs. search needs) (λ c κs. search needs) digit-at-requires digit-at-requires-2 digit-at-requires-3
+    digit-at-requires-4 (λ c κs. search needs) returns)

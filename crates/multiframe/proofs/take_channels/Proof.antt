@@ -1,9 +1,9 @@
 -- After c turns channels 1 to c are taken (Channels).
-use mathlib.Core.Path.{_≡_, refl, _∙_}
-use Prim.Native.Nat.{ℕ, _+_, _*_, _-_, _≤_, _<_}
+use mathlib.Core.Path.{_≡_, _∙_}
+use Prim.Native.Nat.{_+_, _*_, _-_, _≤_}
 use native.Mathlib.Omega.{arith}
 use native.Mathlib.Nat.{add-sub-cancel-left}
-use lib.ListN.{length, getD, take, drop}
+use lib.ListN.{length}
 use borrow.Rule.Slice.PartMut.{putMid, midOf, mid-len, same-len-mid}
 use Rattle.multiframe.specs.Steps.{ColumnTaken, columnOf}
 use Rattle.multiframe.proofs.Channels.{Channelling, channelling-none, channelling-take, channelling-all, column-there, part-stays, part-is}
@@ -67,7 +67,8 @@ loop-again c =
       omega arith,
       omega arith,
       same-len-mid (16 * l .c) (16 * l .c + 16 - 16 * l .c) (l .channels) ys (omega (arith, ly, n)) ∙ l .inv .3,
-      channelling-take m (l .channels) (putMid (16 * l .c) (16 * l .c + 16 - 16 * l .c) (l .channels) ys) (l .c) (omega arith) (l .inv .4) (part-stays (l .c) (omega arith) (l .channels) (l .inv .3) ys ly)
+      channelling-take m (l .channels) (putMid (16 * l .c) (16 * l .c + 16 - 16 * l .c) (l .channels) ys) (l .c) (omega arith) (l .inv .4)
+          (part-stays (l .c) (omega arith) (l .channels) (l .inv .3) ys ly)
           (λ f h. part-is (l .c) (omega arith) (l .channels) (l .inv .3) ys ly f h ∙ done f h),
     )
 

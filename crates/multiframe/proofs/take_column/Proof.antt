@@ -1,6 +1,6 @@
 -- After f turns the first f bytes of the column are taken (Columns).
 use mathlib.Core.Path.{_≡_, refl, _∙_}
-use Prim.Native.Nat.{ℕ, _+_, _*_, _-_, _≤_}
+use Prim.Native.Nat.{_+_, _*_, _-_, _≤_}
 use native.Mathlib.Omega.{arith}
 use lib.ListN.{length, getD, length-set}
 use Rattle.multiframe.specs.Steps.{ColumnTaken}
@@ -40,7 +40,8 @@ loop-again : tie.Need-loop-again Inv-loop μ-loop
 loop-again c =
     let l = c .before .before .loop in
     let a = c .before .before .before .args in
-    (omega arith, length-set (l .column) (l .f) (getD (a .multiframe .now) (a .first + 32 * l .f) 0) ∙ l .inv .1, taken-more (a .multiframe .now) (a .first) (l .f) (l .column) (omega arith) (l .inv .2))
+    let same = length-set (l .column) (l .f) (getD (a .multiframe .now) (a .first + 32 * l .f) 0) ∙ l .inv .1 in
+    (omega arith, same, taken-more (a .multiframe .now) (a .first) (l .f) (l .column) (omega arith) (l .inv .2))
 
 same-length : tie.Need-same-length Inv-loop μ-loop
 same-length c = omega arith

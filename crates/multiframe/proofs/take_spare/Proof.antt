@@ -1,6 +1,6 @@
 -- After i turns the first i bytes are given (Columns).
-use mathlib.Core.Path.{_≡_, refl, _∙_, ap}
-use Prim.Native.Nat.{ℕ, _-_, _≤_, _<_}
+use mathlib.Core.Path.{_≡_, _∙_, ap}
+use Prim.Native.Nat.{_-_, _≤_}
 use native.Mathlib.Omega.{arith}
 use lib.ListN.{length, getD, length-set}
 use Rattle.digits.proofs.Laws.{bytes-length}
@@ -54,4 +54,5 @@ returns c =
 pub take-spare-spec : {M : Type 1} → statement M
 take-spare-spec =
     tie.close
-    (tie.spec Inv-loop μ-loop spare-bytes-requires loop-holds array-read-spare slice-write-spare add-i loop-less loop-again same-length returns)
+    (tie.spec Inv-loop μ-loop spare-bytes-requires loop-holds array-read-spare slice-write-spare add-i loop-less loop-again same-length
+    returns)
