@@ -402,7 +402,7 @@ fn begin(file: &mut [u8], head: &[u8; 11]) {
 }
 
 // Past the end nothing is put.
-pub fn put_byte(file: &mut [u8], i: usize, byte: u8) {
+fn put_byte(file: &mut [u8], i: usize, byte: u8) {
     if i < file.len() {
         file[i] = byte;
     }
@@ -442,7 +442,7 @@ pub fn example() {
     say_bytes(&file);
 }
 
-pub fn say_bytes(file: &[u8]) {
+fn say_bytes(file: &[u8]) {
     let mut i: usize = 0;
     while i < file.len() {
         say::counted(b" ", wide(file[i]));

@@ -1,10 +1,9 @@
-// Runs worked cases 9, 10 and 11 of document 01, the example of request 1, a multiframe and more of the kind: each refusal at its border, and each pair
+// Runs worked cases 9, 10 and 11 of document 01, the example of request 1 and more of the kind: each refusal at its border, and each pair
 // of faults that tells the order. What it must write was worked out by the separate program of reference/, which shares nothing with the crates.
 mod capture;
 mod inputs;
 mod say;
 mod stream;
-mod whole;
 
 use demultiplex::Demultiplexed;
 use multiplex::Multiplexed;
@@ -342,8 +341,6 @@ fn main() {
     capture::example();
     capture::write_all();
     capture::read_all();
-    whole::example();
-    whole::make_all();
 }
 
 fn receive_all() {

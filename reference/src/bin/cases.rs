@@ -13,14 +13,10 @@
 //! - the bytes of a piece, and of the frame store of a given state, are 0;
 //! - byte i of the line and of the label of a capture that is written is i modulo 256, and
 //!   its file holds 165 in every byte beforehand;
-//! - a file that is read has the bytes given and zeros after them;
-//! - byte i of the channels and of the spare digits of a multiframe is i modulo 256, every byte
-//!   of its signalling is `signal` but the one at `at`, and what is built or taken into holds 165
-//!   in every byte beforehand.
+//! - a file that is read has the bytes given and zeros after them.
 //!
 //! A `sum` is taken after the call over all bytes: byte i counts i + 1 times.
 
-use reference::{build_multiframe, take_multiframe_apart};
 use reference::{demultiplex, feed, fresh, multiplex, Fed, State};
 use reference::{read_capture, write_capture};
 
@@ -34,29 +30,8 @@ type Sending = (u64, usize, usize, u8, usize, usize);
 type Receiving = (u64, usize, u8, usize, usize);
 /// level, window, seen, mode, place, slice bytes, first, count
 type Feeding = (u64, u64, u64, u64, u64, usize, u64, u64);
-/// bytes of multiframe, channels, signalling and spare digits; signal, at, other
-type Making = (usize, usize, usize, usize, u8, usize, u8);
 /// level, line bytes, label bytes, labelled, file bytes
 type Writing = (u64, usize, usize, u64, usize);
-
-const MAKINGS: [Making; 16] = [
-    (512, 480, 15, 9, 213, 0, 213),
-    (512, 480, 15, 9, 16, 0, 16),
-    (512, 480, 15, 9, 213, 0, 15),
-    (512, 480, 15, 9, 213, 14, 0),
-    (512, 480, 15, 9, 15, 0, 213),
-    (512, 480, 15, 9, 213, 7, 15),
-    (511, 480, 15, 9, 15, 0, 15),
-    (513, 480, 15, 9, 15, 0, 15),
-    (512, 479, 15, 9, 15, 0, 15),
-    (512, 481, 15, 9, 15, 0, 15),
-    (512, 480, 14, 9, 15, 0, 15),
-    (512, 480, 16, 9, 15, 0, 15),
-    (512, 480, 15, 8, 15, 0, 15),
-    (512, 480, 15, 10, 15, 0, 15),
-    (0, 0, 0, 0, 0, 0, 0),
-    (512, 480, 15, 9, 255, 14, 16),
-];
 
 const SENDINGS: [Sending; 27] = [
     // Case 9, and the other levels at the same borders.
@@ -322,40 +297,6 @@ fn reading(name: &str, file: &[u8]) {
     );
 }
 
-/// All bytes of a multiframe with recognisable content.
-fn recognisable() {
-    let mut bytes = [0; 512];
-    let (refusal, _) = build_multiframe(&mut bytes, &count_up(480), &[213; 15], &count_up(9));
-    let bytes: String = bytes.iter().map(|byte| format!(" {byte}")).collect();
-    println!("multiframe: refusal {refusal}{bytes}");
-}
-
-fn count_up(length: usize) -> Vec<u8> {
-    (0..length).map(|i| (i % 256) as u8).collect()
-}
-
-fn making((m, n, s, x, signal, at, other): Making) {
-    let (mut bytes, mut signalling) = (vec![BEFORE; m], vec![signal; s]);
-    if let Some(byte) = signalling.get_mut(at) {
-        *byte = other;
-    }
-    let (refusal, channel) = build_multiframe(&mut bytes, &count_up(n), &signalling, &count_up(x));
-    println!(
-        "build multiframe {m} channels {n} signalling {s} spare {x} signal {signal} at {at} \
-         other {other}: refusal {refusal} channel {channel} sum {}",
-        sum(&bytes),
-    );
-    let (mut channels, mut signalling, mut spare) =
-        (vec![BEFORE; n], vec![BEFORE; s], vec![BEFORE; x]);
-    let refusal = take_multiframe_apart(&bytes, &mut channels, &mut signalling, &mut spare);
-    println!(
-        "apart: refusal {refusal} sums {} {} {}",
-        sum(&channels),
-        sum(&signalling),
-        sum(&spare),
-    );
-}
-
 fn main() {
     SENDINGS.into_iter().for_each(sending);
     RECEIVINGS.into_iter().for_each(receiving);
@@ -364,6 +305,4 @@ fn main() {
     example();
     WRITINGS.into_iter().for_each(writing);
     FILES.into_iter().for_each(small);
-    recognisable();
-    MAKINGS.into_iter().for_each(making);
 }
