@@ -10,7 +10,8 @@ use native.Mathlib.Numerals.{add-one}
 use lib.ListN.{length, getD, take, drop, length-take}
 use lib.Seq.{length-take-le, take-all, take-nil, take-take, take-add, drop-drop, drop-cons, getD-drop}
 use Rattle.digits.specs.Digits.{digitsOf, Binary}
-use Rattle.digits.specs.Runs.{heard, Run, runOf, stopsAt, untouched, joined, Stop, stopsOf, pieceOf, Piece, digitsIn, Lent, AllLent, digitsInAll, restOf, leftBy, takenBy, saidBy, callsFor, callsForAll}
+use Rattle.digits.specs.Runs.{heard, Run, runOf, stopsAt, untouched, joined, Stop, stopsOf}
+use Rattle.digits.specs.Runs.{pieceOf, Piece, digitsIn, Lent, AllLent, digitsInAll, restOf, leftBy, takenBy, saidBy, callsFor, callsForAll}
 use Rattle.digits.proofs.Laws.{digits-length, digits-binary}
 use Rattle.digits.proofs.Lists.{binary-take}
 use Rattle.digits.proofs.Tests.{cond-told}

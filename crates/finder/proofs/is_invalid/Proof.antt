@@ -20,15 +20,49 @@ returns-3 c = rw (lt-leb _ _ (c .before .before .before .before .if1 .left), le-
 
 returns-4 : tie.Need-returns-4
 unfolding invalid
-returns-4 c = rw (lt-leb _ _ (c .before .before .before .before .before .before .if1 .left), le-ltb _ _ (c .before .before .before .before .if2 .left), ← c .before .before .before .missed-of .ensures, le-ltb _ _ (c .before .before .if3 .left), sym (c .before .is-misplaced .ensures) ∙ c .if4 .taken)
+returns-4 c =
+    let c2 = c .before .before in
+    let c3 = c2 .before in
+    let c4 = c3 .before in
+    let c6 = c4 .before .before in
+    rw (lt-leb _ _ (c6 .if1 .left), le-ltb _ _ (c4 .if2 .left), ← c3 .missed-of .ensures, le-ltb _ _ (c2 .if3 .left), sym (c .before .is-misplaced .ensures) ∙ c .if4 .taken)
 
 returns-5 : tie.Need-returns-5
 unfolding invalid
-returns-5 c = rw (lt-leb _ _ (c .before .before .before .before .before .before .before .before .if1 .left), le-ltb _ _ (c .before .before .before .before .before .before .if2 .left), ← c .before .before .before .before .before .missed-of .ensures, le-ltb _ _ (c .before .before .before .before .if3 .left), sym (c .before .before .before .is-misplaced .ensures) ∙ c .before .before .if4 .left, sym (c .before .is-hunting .ensures) ∙ c .if5 .taken)
+returns-5 c =
+    let c2 = c .before .before in
+    let c3 = c2 .before in
+    let c4 = c3 .before in
+    let c5 = c4 .before in
+    let c6 = c5 .before in
+    let c8 = c6 .before .before in
+    rw (
+      lt-leb _ _ (c8 .if1 .left),
+      le-ltb _ _ (c6 .if2 .left),
+      ← c5 .missed-of .ensures,
+      le-ltb _ _ (c4 .if3 .left),
+      sym (c3 .is-misplaced .ensures) ∙ c2 .if4 .left,
+      sym (c .before .is-hunting .ensures) ∙ c .if5 .taken,
+    )
 
 returns-6 : tie.Need-returns-6
 unfolding invalid
-returns-6 c = rw (lt-leb _ _ (c .before .before .before .before .before .before .before .before .before .if1 .left), le-ltb _ _ (c .before .before .before .before .before .before .before .if2 .left), ← c .before .before .before .before .before .before .missed-of .ensures, le-ltb _ _ (c .before .before .before .before .before .if3 .left), sym (c .before .before .before .before .is-misplaced .ensures) ∙ c .before .before .before .if4 .left, sym (c .before .before .is-hunting .ensures) ∙ c .before .if5 .left)
+returns-6 c =
+    let c2 = c .before .before in
+    let c3 = c2 .before in
+    let c4 = c3 .before in
+    let c5 = c4 .before in
+    let c6 = c5 .before in
+    let c7 = c6 .before in
+    let c9 = c7 .before .before in
+    rw (
+      lt-leb _ _ (c9 .if1 .left),
+      le-ltb _ _ (c7 .if2 .left),
+      ← c6 .missed-of .ensures,
+      le-ltb _ _ (c5 .if3 .left),
+      sym (c4 .is-misplaced .ensures) ∙ c3 .if4 .left,
+      sym (c2 .is-hunting .ensures) ∙ c .before .if5 .left,
+    )
 
 pub is-invalid-spec : {M : Type 1} → statement M
 is-invalid-spec =

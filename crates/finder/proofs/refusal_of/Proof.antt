@@ -18,15 +18,29 @@ returns-2 c = rw (sym (c .before .before .is-invalid .ensures) ∙ c .before .if
 
 returns-3 : tie.Need-returns-3
 unfolding refusalOf
-returns-3 c = rw (sym (c .before .before .before .is-invalid .ensures) ∙ c .before .before .if1 .left, le-ltb _ _ (c .before .if2 .left), lt-ltb (8 * c .before .before .before .before .args .bytes) (c .before .before .before .before .args .first + c .before .before .before .before .args .count) (omega arith))
+returns-3 c =
+    let c2 = c .before .before in
+    let c3 = c2 .before in
+    let c4 = c3 .before in
+    rw (sym (c3 .is-invalid .ensures) ∙ c2 .if1 .left, le-ltb _ _ (c .before .if2 .left), lt-ltb (8 * c4 .args .bytes) (c4 .args .first + c4 .args .count) (omega arith))
 
 returns-4 : tie.Need-returns-4
 unfolding refusalOf
-returns-4 c = rw (sym (c .before .before .before .before .is-invalid .ensures) ∙ c .before .before .before .if1 .left, le-ltb _ _ (c .before .before .if2 .left), lt-ltb (8 * c .before .before .before .before .before .args .bytes) (c .before .before .before .before .before .args .first + c .before .before .before .before .before .args .count) (omega arith))
+returns-4 c =
+    let c2 = c .before .before in
+    let c3 = c2 .before in
+    let c4 = c3 .before in
+    let c5 = c4 .before in
+    rw (sym (c4 .is-invalid .ensures) ∙ c3 .if1 .left, le-ltb _ _ (c2 .if2 .left), lt-ltb (8 * c5 .args .bytes) (c5 .args .first + c5 .args .count) (omega arith))
 
 returns-5 : tie.Need-returns-5
 unfolding refusalOf
-returns-5 c = rw (sym (c .before .before .before .before .is-invalid .ensures) ∙ c .before .before .before .if1 .left, le-ltb _ _ (c .before .before .if2 .left), le-ltb (8 * c .before .before .before .before .before .args .bytes) (c .before .before .before .before .before .args .first + c .before .before .before .before .before .args .count) (omega arith))
+returns-5 c =
+    let c2 = c .before .before in
+    let c3 = c2 .before in
+    let c4 = c3 .before in
+    let c5 = c4 .before in
+    rw (sym (c4 .is-invalid .ensures) ∙ c3 .if1 .left, le-ltb _ _ (c2 .if2 .left), le-ltb (8 * c5 .args .bytes) (c5 .args .first + c5 .args .count) (omega arith))
 
 pub refusal-of-spec : {M : Type 1} → statement M
 refusal-of-spec =

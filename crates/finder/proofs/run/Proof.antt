@@ -38,9 +38,14 @@ sub-accept c = omega (arith, c .before .before .before .before .before .before .
 
 returns : tie.Need-returns Inv-loop μ-loop
 returns c =
-    let g = going-on _ _ _ _ _ _ _ _ _ (c .before .before .before .before .before .before .before .loop .inv) (c .before .before .before .before .before .hurry-on .ensures) in
-    let stops = sym (c .before .before .is-turned .ensures) ∙ c .before .if1 .taken in
-    c .accept .ensures ∙ ap fedBy (run-stop _ _ _ _ _ _ _ g (c .before .before .before .before .before .hurry-on .ensures .before) _ _ (c .before .before .before .before .digit-at .ensures .0) (c .before .before .before .step .ensures) stops)
+    let c2 = c .before .before in
+    let c3 = c2 .before in
+    let c4 = c3 .before in
+    let c5 = c4 .before in
+    let c7 = c5 .before .before in
+    let g = going-on _ _ _ _ _ _ _ _ _ (c7 .loop .inv) (c5 .hurry-on .ensures) in
+    let stops = sym (c2 .is-turned .ensures) ∙ c .before .if1 .taken in
+    c .accept .ensures ∙ ap fedBy (run-stop _ _ _ _ _ _ _ g (c5 .hurry-on .ensures .before) _ _ (c4 .digit-at .ensures .0) (c3 .step .ensures) stops)
 
 loop-less : tie.Need-loop-less Inv-loop μ-loop
 loop-less c = omega (arith, c .before .before .before .before .hurry-on .ensures .from, c .before .before .before .before .hurry-on .ensures .before)

@@ -13,12 +13,16 @@ sub-lesser-2 c = omega (arith, c .before .check-at .ensures, placed-check (c .be
 
 returns : tie.Need-returns
 returns c =
-    let b = c .before .before .before .before .before .before .before in
-    let far = placed-check (c .before .before .before .before .before .before .before .args .s .mode) _ (c .before .before .before .before .before .before .before .pre .1) (c .before .before .before .before .before .before .before .pre .0 .place) in
-    let n = c .before .before .before .lesser .result in
-    let at-most = c .before .before .before .lesser .ensures in
-    hurried-carry _ _ _ _ n _ (b .pre .0) (b .pre .1) (omega (arith, at-most, b .pre .3)) (b .pre .4) (omega (arith, at-most, far, c .before .before .before .before .before .check-at .ensures))
-    (rw (c .before .before .lesser2 .ensures) at (c .before .window-over .ensures))
+    let c2 = c .before .before in
+    let c3 = c2 .before in
+    let c5 = c3 .before .before in
+    let c7 = c5 .before .before in
+    let b = c7 in
+    let far = placed-check (c7 .args .s .mode) _ (c7 .pre .1) (c7 .pre .0 .place) in
+    let n = c3 .lesser .result in
+    let at-most = c3 .lesser .ensures in
+    hurried-carry _ _ _ _ n _ (b .pre .0) (b .pre .1) (omega (arith, at-most, b .pre .3)) (b .pre .4) (omega (arith, at-most, far, c5 .check-at .ensures))
+    (rw (c2 .lesser2 .ensures) at (c .before .window-over .ensures))
 
 pub carry-on-spec : {M : Type 1} → statement M
 carry-on-spec =

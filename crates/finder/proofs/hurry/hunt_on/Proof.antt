@@ -35,7 +35,10 @@ add-still-hunting : tie.Need-add-still-hunting Inv-loop μ-loop
 add-still-hunting c = omega (arith, c .before .before .before .before .before .loop .inv .3 .from)
 
 returns : tie.Need-returns Inv-loop μ-loop
-returns c = let b = c .before .before .before .before .before .before .before .before in hurried-is _ _ _ _ _ _ _ _ (hunting-state _ (b .pre .0) (b .pre .1)) (c .still-hunting .ensures) (c .before .before .before .before .before .before .loop .inv .3)
+returns c =
+    let c6 = c .before .before .before .before .before .before in
+    let c8 = c6 .before .before in
+    let b = c8 in hurried-is _ _ _ _ _ _ _ _ (hunting-state _ (b .pre .0) (b .pre .1)) (c .still-hunting .ensures) (c6 .loop .inv .3)
 
 add-at : tie.Need-add-at Inv-loop μ-loop
 add-at c = omega arith
