@@ -63,7 +63,8 @@
  *      frame, counted from 0
  *   6  the receiver state is not valid: a level that is not 2, 3 or 4, a window of 2 to the L
  *      or more, over L digits seen, a mode over 6, a place of N or more, hunting at a place
- *      other than 0, or not hunting with fewer than L digits seen
+ *      other than 0, or not hunting with fewer than L digits seen; for the finder of 2048 kbit/s
+ *      frames: see spritbobbin_finder_feed
  *   7  first + count is more than the digits of the slice
  *   9  writing a capture: the label is over 32 bytes; reading one: the bytes are no run of a
  *      capture's fields, and the answer names the byte where the field at fault begins or should
@@ -272,6 +273,48 @@ uint64_t spritbobbin_receiver_fresh(uint64_t level, uint64_t state[5], uint8_t f
  */
 uint64_t spritbobbin_receiver_feed(uint64_t state[5], uint8_t frame[366], const uint8_t *piece, size_t piece_bytes,
                                    uint64_t first, uint64_t count, uint64_t answer[3]);
+
+/* What stands where in the answer and the state of the finder of 2048 kbit/s frames, its mode
+   numbers, and its places. */
+enum {
+    SPRITBOBBIN_FINDER_TAKEN = 0,
+    SPRITBOBBIN_FINDER_IS_ALIGNED = 1, /* 1 if aligned at the end of the digits taken */
+    SPRITBOBBIN_FINDER_WINDOW = 0,     /* the last seven digits as a number, the newest worth 1 */
+    SPRITBOBBIN_FINDER_SEEN = 1,       /* digits since the fresh state, stopping at 7 */
+    SPRITBOBBIN_FINDER_MODE = 2,
+    SPRITBOBBIN_FINDER_PLACE = 3,
+    SPRITBOBBIN_FINDER_HUNTING = 0,
+    SPRITBOBBIN_FINDER_WORD_FOUND = 1,
+    SPRITBOBBIN_FINDER_SECOND_SEEN = 2,
+    SPRITBOBBIN_FINDER_ALIGNED = 3,        /* 3 + m: aligned, with the last m words missed, m from 0 to 2 */
+    SPRITBOBBIN_FINDER_SECOND_PLACE = 250, /* the second digit of the next frame's byte 0 */
+    SPRITBOBBIN_FINDER_WORD_PLACE = 512    /* the last digit of the next word */
+};
+
+/*
+ * Makes a fresh finder of the frames of a 2048 kbit/s line: hunting, nothing seen. Writes all of
+ * state (window, digits seen, mode, place). Returns 0.
+ */
+uint64_t spritbobbin_finder_fresh(uint64_t state[4]);
+
+/*
+ * Gives a finder the digits first to first + count - 1 of a piece of a 2048 kbit/s line. Frames are
+ * found after a good word (byte 0 of even frames ends in 0011011), a second digit of 1 in byte 0 of
+ * the next frame, and a good word after that; they are lost after three wrong words in a row. If
+ * one of the two checks fails, the hunt goes on with the next digit and the window kept.
+ *
+ * Stops after the digit at which alignment is found or lost, or at the end of the digits given;
+ * the next call goes on at first plus the digits taken. A place is counted from the word's last
+ * digit, which is 0. No digits of a frame are handed over.
+ *
+ * A state is valid, and else refused with 6, if the window is under 128, at most 7 digits are
+ * seen, the mode is at most 5, hunting is at place 0, and any other mode has 7 digits seen and a
+ * place under 250 (word found), 250 to 511 (second digit seen) or under 512 (aligned).
+ *
+ * answer: digits taken, 1 if aligned at their end. Returns 0, 6, 2 or 7.
+ */
+uint64_t spritbobbin_finder_feed(uint64_t state[4], const uint8_t *piece, size_t piece_bytes,
+                                 uint64_t first, uint64_t count, uint64_t answer[2]);
 
 /* What spritbobbin_line_digit returns where the line has ended. */
 enum { SPRITBOBBIN_LINE_ENDED = 2 };

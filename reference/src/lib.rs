@@ -10,6 +10,7 @@
 
 mod captures;
 pub mod digits;
+mod finder;
 pub mod frame;
 pub mod history;
 pub mod level;
@@ -18,5 +19,7 @@ pub mod random;
 mod receiver;
 
 pub use captures::{read_capture, write_capture, Read, Written};
+pub use finder::{finder_feed, finder_refusal, FinderState, Found};
+pub use finder::{FRAME_DIGITS, SECOND_PLACE, WORD, WORD_PLACE};
 pub use multiplexing::{demultiplex, length_refusal, multiplex, Demultiplexed, Multiplexed};
 pub use receiver::{feed, feed_refusal, fresh, line_digit, Fed, State};

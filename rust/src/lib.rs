@@ -8,6 +8,7 @@
 //!   apart again.
 //! - A [`Receiver`] finds frames in a stream that comes in pieces of any size; a [`FrameStream`]
 //!   reads the stream too.
+//! - A [`Finder`] finds the frames of a 2048 kbit/s line.
 //! - [`digits`] walks over the digits of a line.
 //! - [`write_capture`] keeps a line in a file, [`read_capture`] reads it back.
 //!
@@ -59,6 +60,7 @@
 #![warn(missing_docs)]
 
 mod capture;
+mod finder;
 mod level;
 mod line;
 mod multiplexing;
@@ -68,6 +70,7 @@ mod refusal;
 mod stream;
 
 pub use capture::{capture_bytes, read_capture, write_capture, Capture, MOST_LABEL_BYTES};
+pub use finder::{Finder, FinderMode, FinderState, FinderTaken, Turn, Turns};
 pub use level::{Level, MOST_BYTES, MOST_FRAMES};
 pub use line::{digits, line_digit, Digits};
 pub use multiplexing::{demultiplex, multiplex, Received, Sent};

@@ -55,6 +55,19 @@ extern "C" {
     /// 0 or 1, or 2 where the line has ended.
     pub fn spritbobbin_line_digit(line: *const u8, line_bytes: usize, place: u64) -> u64;
 
+    /// State: window, digits seen, mode, place.
+    pub fn spritbobbin_finder_fresh(state: &mut [u64; 4]) -> u64;
+
+    /// Answer: digits taken, 1 if aligned at their end.
+    pub fn spritbobbin_finder_feed(
+        state: &mut [u64; 4],
+        piece: *const u8,
+        piece_bytes: usize,
+        first: u64,
+        count: u64,
+        answer: &mut [u64; 2],
+    ) -> u64;
+
     /// Answer: bytes of the file, named byte.
     pub fn spritbobbin_capture_write(
         level: u64,

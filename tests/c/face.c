@@ -1,6 +1,6 @@
 /*
  * Calls every function of the library through its header, from C: worked cases 1, 9, 10 and 11
- * of the specification, each refusal, the digits of a line, captures. Prints "face: ok", or what failed.
+ * of the specification, each refusal, the digits of a line, captures, 2048 kbit/s frames. Prints "face: ok", or what failed.
  *
  * All bytes that are lent come from malloc in their exact number, so that valgrind sees a read or
  * a write of the library one byte beside them.
@@ -241,6 +241,48 @@ static void captures(void)
     refused_file("\1\0\1\2\2\0\1\0", 8, SPRITBOBBIN_REFUSED_LINE, 0);
 }
 
+/* A piece that the finder refuses with this number, and leaves as it was. */
+static void refused_hunt(const uint64_t state[4], const uint8_t *piece, size_t piece_bytes, uint64_t first, uint64_t count, uint64_t refusal)
+{
+    uint64_t left[4], answer[2];
+
+    memcpy(left, state, sizeof left);
+    memset(answer, 0xA5, sizeof answer);
+    check(spritbobbin_finder_feed(left, piece, piece_bytes, first, count, answer) == refusal, "the refusal of the finder's piece");
+    check(all_zero(answer, 2) && !memcmp(left, state, sizeof left), "a refused piece takes nothing and changes nothing");
+}
+
+/* Frames of ones with words found after 520 digits, then lost at the third wrong word. */
+static void finder(void)
+{
+    size_t pairs = 5, length = 64 * pairs, i;
+    uint8_t *stream = lend(length, 0xFF), *long_one = lend(SPRITBOBBIN_MOST_BYTES + 1, 0);
+    uint64_t state[4], answer[2], digits = 8 * length;
+
+    for (i = 0; i < 2; i++)
+        stream[64 * i] = 0x9B; /* the other three words are missing */
+    check(spritbobbin_finder_fresh(state) == SPRITBOBBIN_ACCEPTED && all_zero(state, 4), "a fresh finder is all zero");
+    check(spritbobbin_finder_feed(state, stream, length, 0, 8, answer) == 0 && answer[SPRITBOBBIN_FINDER_TAKEN] == 8, "a word is taken");
+    check(state[SPRITBOBBIN_FINDER_MODE] == SPRITBOBBIN_FINDER_WORD_FOUND && state[SPRITBOBBIN_FINDER_PLACE] == 0, "a word is found");
+    check(spritbobbin_finder_feed(state, stream, length, 8, SPRITBOBBIN_FINDER_SECOND_PLACE, answer) == 0, "up to the second digit");
+    check(state[SPRITBOBBIN_FINDER_MODE] == SPRITBOBBIN_FINDER_SECOND_SEEN && state[SPRITBOBBIN_FINDER_PLACE] == 250, "the second digit is seen");
+    check(spritbobbin_finder_feed(state, stream, length, 258, digits - 258, answer) == 0, "up to the second word");
+    check(answer[SPRITBOBBIN_FINDER_TAKEN] == 520 - 258 && answer[SPRITBOBBIN_FINDER_IS_ALIGNED] == 1, "found after 520 digits");
+    check(state[SPRITBOBBIN_FINDER_MODE] == SPRITBOBBIN_FINDER_ALIGNED && state[SPRITBOBBIN_FINDER_PLACE] == 0, "aligned at the word");
+    check(spritbobbin_finder_feed(state, stream, length, 520, digits - 520, answer) == 0, "up to the third wrong word");
+    check(answer[SPRITBOBBIN_FINDER_TAKEN] == 3 * SPRITBOBBIN_FINDER_WORD_PLACE && answer[SPRITBOBBIN_FINDER_IS_ALIGNED] == 0, "lost after 2056 digits");
+    check(state[SPRITBOBBIN_FINDER_MODE] == SPRITBOBBIN_FINDER_HUNTING && state[SPRITBOBBIN_FINDER_WINDOW] == 127, "hunting, the window kept");
+
+    check(spritbobbin_finder_feed(state, NULL, 0, 0, 0, answer) == 0 && all_zero(answer, 2), "an empty piece");
+    refused_hunt(state, stream, length, 1, digits, SPRITBOBBIN_REFUSED_DIGITS);
+    refused_hunt(state, stream, length, UINT64_MAX, 2, SPRITBOBBIN_REFUSED_DIGITS);
+    refused_hunt(state, long_one, SPRITBOBBIN_MOST_BYTES + 1, 0, 1, SPRITBOBBIN_REFUSED_LINE);
+    state[SPRITBOBBIN_FINDER_PLACE] = 1;
+    refused_hunt(state, long_one, SPRITBOBBIN_MOST_BYTES + 1, 0, 1, SPRITBOBBIN_REFUSED_STATE);
+    free(stream);
+    free(long_one);
+}
+
 int main(void)
 {
     both_ways(2, 106, 1, 1, 0, 104, 0, 0);      /* case 1; case 9: a quarter of 26 bytes */
@@ -258,6 +300,7 @@ int main(void)
     both_ways(4, 366, 0, 0, 0, 3, 4, 4);
     names_the_frame();
     receiver();
+    finder();
     line_digits();
     captures();
     if (failures)

@@ -1,6 +1,7 @@
-// Runs worked cases 9, 10 and 11 of document 01, the example of request 1 and more of the kind: each refusal at its border, and each pair
-// of faults that tells the order. What it must write was worked out by the separate program of reference/, which shares nothing with the crates.
+// Runs worked cases 9, 10 and 11 of document 01, the example of request 1, frames of 2048 kbit/s that are found and lost (request 3), and
+// more of the kind: each refusal at its border, and each pair of faults that tells the order. What it must write was worked out by the separate program of reference/, which shares nothing with the crates.
 mod capture;
+mod hunt;
 mod inputs;
 mod say;
 mod stream;
@@ -341,6 +342,11 @@ fn main() {
     capture::example();
     capture::write_all();
     capture::read_all();
+    hunt::hunt_all();
+    hunt::frames(5120);
+    hunt::frames(1);
+    hunt::frames(7);
+    hunt::frames(1000);
 }
 
 fn receive_all() {

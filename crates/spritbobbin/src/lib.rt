@@ -1,5 +1,7 @@
 // The C face: the calls over numbers, slices and fixed arrays, nothing else. A slice passes as a pointer and then a length, a fixed array as
 // a pointer. include/spritbobbin.h declares these functions for C; nothing checks that header against this file but the tests.
+mod finder_face;
+
 use captures::Reading;
 use captures::Written;
 use demultiplex::Demultiplexed;
@@ -118,7 +120,7 @@ fn numbers_of(s: State) -> [u64; 5]
     ]
 }
 
-fn as_number(t: bool) -> u64
+pub fn as_number(t: bool) -> u64
     ensures { λ r. ⌜ r ≡ cond t 1 0 ⌝ }
 {
     if t {

@@ -1,6 +1,7 @@
 //! A call with its inputs, what came of it, and what the reference says of it.
 
 use reference::{demultiplex, feed, fresh, line_digit, multiplex, State};
+use reference::{finder_feed, FinderState};
 use reference::{read_capture, write_capture};
 
 /// What a multiplex or demultiplex call is lent.
@@ -15,6 +16,15 @@ pub struct Lending {
 #[derive(Clone)]
 pub struct Piece {
     pub state: State,
+    pub slice: Vec<u8>,
+    pub first: u64,
+    pub count: u64,
+}
+
+/// A piece for the finder of 2048 kbit/s frames.
+#[derive(Clone)]
+pub struct Hunt {
+    pub state: FinderState,
     pub slice: Vec<u8>,
     pub first: u64,
     pub count: u64,
@@ -38,10 +48,12 @@ pub enum Call {
     LineDigit(Vec<u8>, u64),
     CaptureWrite(Writing),
     CaptureRead(Vec<u8>),
+    FinderFresh,
+    FinderFeed(Hunt),
 }
 
 /// The names of the calls, in the order of their numbers.
-pub const NAMES: [&str; 7] = [
+pub const NAMES: [&str; 9] = [
     "multiplex",
     "demultiplex",
     "receiver_fresh",
@@ -49,6 +61,8 @@ pub const NAMES: [&str; 7] = [
     "line_digit",
     "capture_write",
     "capture_read",
+    "finder_fresh",
+    "finder_feed",
 ];
 
 /// All that a call answers and leaves: two outcomes are equal or there is a disagreement.
@@ -75,6 +89,8 @@ impl Call {
             Call::LineDigit(..) => 4,
             Call::CaptureWrite(_) => 5,
             Call::CaptureRead(_) => 6,
+            Call::FinderFresh => 7,
+            Call::FinderFeed(_) => 8,
         }
     }
 
@@ -90,6 +106,8 @@ impl Call {
             Call::CaptureRead(_) => {
                 "level, line, its bytes, labelled, label, its bytes, named byte"
             }
+            Call::FinderFresh => "window, seen, mode, place",
+            Call::FinderFeed(_) => "taken, aligned; window, seen, mode, place",
         }
     }
 
@@ -121,6 +139,14 @@ impl Call {
                 in_short(&with.file)
             ),
             Call::CaptureRead(file) => format!("file {}", in_short(file)),
+            Call::FinderFresh => String::new(),
+            Call::FinderFeed(hunt) => format!(
+                "state {:?}; slice {}; first {} count {}",
+                finder_numbers(&hunt.state),
+                in_short(&hunt.slice),
+                hunt.first,
+                hunt.count
+            ),
         }
     }
 
@@ -142,6 +168,10 @@ impl Call {
                 let (refusal, numbers) = read_numbers(file);
                 outcome(refusal, numbers.to_vec(), vec![("file", file.clone())])
             }
+            Call::FinderFresh => {
+                outcome(0, finder_numbers(&FinderState::default()).to_vec(), vec![])
+            }
+            Call::FinderFeed(hunt) => hunted(hunt),
         }
     }
 }
@@ -177,6 +207,17 @@ fn fed(piece: &Piece) -> Outcome {
     let numbers = [&numbers[..], &state_numbers(&answer.state)].concat();
     let lent = vec![("frame store", answer.state.frame.to_vec()), ("slice", piece.slice.clone())];
     outcome(answer.refusal, numbers, lent)
+}
+
+pub fn finder_numbers(state: &FinderState) -> [u64; 4] {
+    [state.window, state.seen, state.mode, state.place]
+}
+
+fn hunted(hunt: &Hunt) -> Outcome {
+    let answer = finder_feed(&hunt.state, &hunt.slice, hunt.first, hunt.count);
+    let numbers = [answer.taken, u64::from(answer.aligned)];
+    let numbers = [&numbers[..], &finder_numbers(&answer.state)].concat();
+    outcome(answer.refusal, numbers, vec![("slice", hunt.slice.clone())])
 }
 
 fn written(mut with: Writing) -> Outcome {
