@@ -1,5 +1,6 @@
 // Runs worked cases 9, 10 and 11 of document 01, the example of request 1, frames of 2048 kbit/s that are found and lost (request 3), and
-// more of the kind: each refusal at its border, and each pair of faults that tells the order. What it must write was worked out by the separate program of reference/, which shares nothing with the crates.
+// more of the kind: each refusal at its border, and each pair of faults that tells the order. What it must write was worked out by the
+// separate program of reference/, which shares nothing with the crates.
 mod capture;
 mod hunt;
 mod inputs;
