@@ -1,21 +1,19 @@
 -- One digit, where a rule looks and where it does not; and the digits between two checks.
 use mathlib.Core.Path.{_≡_, refl, sym, ap, _∙_}
-use mathlib.Core.Bool.{Bool, cond, true, false}
+use mathlib.Core.Bool.{Bool, true, false}
 use mathlib.Core.List.{List, [], _∷_, _++_}
-use Prim.Native.Nat.{ℕ, suc, _+_, _≤_, _<_}
+use Prim.Native.Nat.{ℕ, suc, _+_}
 use native.Mathlib.Omega.{arith}
-use borrow.Author.Tests.{eqb-true, eq-eqb, ne-eqb}
+use borrow.Author.Tests.{eqb-true, eq-eqb}
 use lib.Dec.{eqb}
 use lib.ListN.{length}
 use Rattle.digits.specs.Runs.{heard}
 use Rattle.digits.proofs.Runs.{heard-append}
 use Rattle.digits.proofs.Tests.{cond-told}
 use Rattle.finder.specs.declared.Mode.{Mode}
-use Rattle.finder.specs.declared.Mode.the-variants.{Hunting, WordFound, SecondSeen, Aligned}
 use Rattle.finder.specs.declared.State.{State}
 use Rattle.finder.specs.Modes.{hunting, windowOf, seenOf, checkAt, asks, passes, judged, placeThen, placeAfter, afterDigit, stepOf}
 use Rattle.finder.specs.Feed.{Valid}
-use Rattle.finder.proofs.Validity.{step-valid}
 use Rattle.finder.proofs.Hurries.{heard-carried}
 
 -- ---- one digit

@@ -3,16 +3,16 @@
 use mathlib.Core.Path.{_≡_, refl, sym, ap, _∙_}
 use mathlib.Core.Bool.{Bool, cond, true, false, true≢false}
 use mathlib.Core.List.{List, [], _∷_, _++_, append-assoc, append-nil}
-use Prim.Native.Nat.{ℕ, zero, suc, _+_, _-_, _*_, _%_, _^_, _≤_, _<_, min}
+use Prim.Native.Nat.{ℕ, suc, _+_, _-_, _*_, _%_, _≤_, _<_, min}
 use native.Mathlib.Omega.{arith}
 use native.Mathlib.Decide.{decLt, ℕ-discrete}
 use borrow.Author.Tests.{eqb-true, eqb-false, eq-eqb, ne-eqb, le-leb, ltb-true, ltb-false}
-use lib.Dec.{eqb, leb, ltb}
+use lib.Dec.{eqb, ltb}
 use lib.ListN.{length, getD, take, drop, length-append, length-take, length-drop, take-append-drop}
 use lib.Seq.{take-append-seam, take-take, take-all, append-snoc, getD-append-seam, length-take-le, ext-getD, getD-take, getD-drop}
 use Rattle.digits.specs.Digits.{Binary}
 use Rattle.digits.specs.Runs.{heard, Piece, AllLent, digitsInAll, leftBy, callsForAll}
-use Rattle.digits.specs.Windows.{written, lastOf, Came}
+use Rattle.digits.specs.Windows.{written, Came}
 use Rattle.digits.proofs.Lists.{binary-take}
 use Rattle.digits.proofs.Tests.{cond-told}
 use Rattle.digits.proofs.Runs.{heard-append}
@@ -23,7 +23,7 @@ use Rattle.finder.specs.declared.State.{State}
 use Rattle.finder.specs.Modes.{hunting, missed, word, seenOf, good, checkAt, asks, passes, judged, placeThen, placeAfter, stepOf}
 use Rattle.finder.specs.Feed.{freshState, Placed, Valid}
 use Rattle.finder.specs.History.{callOf}
-use Rattle.finder.specs.Line.{inFrames, Line, truePlace, AlignedAt}
+use Rattle.finder.specs.Line.{Line, truePlace, AlignedAt}
 use Rattle.finder.proofs.Validity.{placed-under, fresh-valid, step-valid}
 use Rattle.finder.proofs.Hurries.{recent-one}
 use Rattle.finder.proofs.Pieces.{as-the-stream}

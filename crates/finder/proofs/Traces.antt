@@ -1,27 +1,26 @@
 -- The trace: what a state says of the history of digits since reset. From it what found and lost mean: alignment is found at the last digit of a
 -- word, after a second digit of 1 and a word before that, and lost where three words in a row were wrong.
-use mathlib.Core.Path.{_≡_, refl, sym, ap, ap₂, _∙_}
-use mathlib.Core.Bool.{Bool, cond, true, false, true≢false}
+use mathlib.Core.Path.{_≡_, refl, sym, ap, _∙_}
+use mathlib.Core.Bool.{Bool, true, false, true≢false}
 use mathlib.Core.List.{List, [], _∷_, _++_, append-assoc, append-nil}
 use Prim.Native.Nat.{ℕ, zero, suc, _+_, _*_, _-_, _^_, _≤_, _<_, min}
 use native.Mathlib.Omega.{arith}
-use borrow.Author.Tests.{ltb-true, ltb-false, eqb-true, eqb-false, eq-eqb}
+use borrow.Author.Tests.{ltb-true, ltb-false, eqb-true, eq-eqb}
 use lib.Dec.{eqb, ltb}
 use lib.ListN.{length, take, replicate, length-append, drop-of-length-le}
 use lib.Seq.{take-append-seam, getD-append-seam}
 use Rattle.digits.specs.Digits.{Binary}
-use Rattle.digits.specs.Runs.{heard, runOf, pieceOf}
+use Rattle.digits.specs.Runs.{heard}
 use Rattle.digits.specs.Windows.{written, lastOf, ago, Came}
-use Rattle.digits.proofs.Lists.{binary-append, binary-take}
+use Rattle.digits.proofs.Lists.{binary-take}
 use Rattle.digits.proofs.Tests.{cond-told}
-use Rattle.digits.proofs.Written.{written-zero}
 use Rattle.digits.proofs.Lasts.{ago-none, ago-more, last-more}
 use Rattle.digits.proofs.Windows.{Recent, is-came, came-is, came-append, append-came}
 use Rattle.digits.proofs.Runs.{heard-append}
 use Rattle.finder.specs.declared.Mode.{Mode}
 use Rattle.finder.specs.declared.Mode.the-variants.{Hunting, WordFound, SecondSeen, Aligned}
 use Rattle.finder.specs.declared.State.{State}
-use Rattle.finder.specs.Modes.{hunting, aligned, word, wordNumber, windowOf, seenOf, good, checkAt, asks, passes, judged, placeThen, placeAfter, stepOf}
+use Rattle.finder.specs.Modes.{hunting, aligned, word, wordNumber, seenOf, good, checkAt, asks, passes, judged, placeThen, placeAfter, stepOf}
 use Rattle.finder.specs.Feed.{freshState, Valid}
 use Rattle.finder.specs.History.{since, Found, Lost}
 use Rattle.finder.proofs.Validity.{fresh-valid, step-valid, asked-came}

@@ -8,7 +8,7 @@ use native.Mathlib.Omega.{arith}
 use lib.ListN.{length, getD, take}
 use lib.Seq.{take-suc}
 use Rattle.digits.specs.Digits.{Binary}
-use Rattle.digits.specs.Runs.{heard, pieceOf}
+use Rattle.digits.specs.Runs.{pieceOf}
 use Rattle.digits.proofs.Lists.{binary-append, binary-take}
 use Rattle.digits.proofs.Runs.{heard-append, Ran, ran, piece-binary}
 use Rattle.finder.specs.declared.State.{State}

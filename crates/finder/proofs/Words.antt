@@ -1,6 +1,6 @@
 -- The table row by row, in the history: the hunt finds the next word to come, one half received at a failed check too; a word, a second digit of 1
 -- and a word align; a check that fails leads back to the hunt; one and two missed words keep alignment, the third loses it.
-use mathlib.Core.Path.{_≡_, refl, sym, ap, ap₂, _∙_}
+use mathlib.Core.Path.{_≡_, refl, ap, _∙_}
 use mathlib.Core.Bool.{Bool, cond, true, false}
 use mathlib.Core.List.{List, [], _∷_, _++_, append-assoc}
 use Prim.Native.Nat.{ℕ, suc, _+_, _≤_, _<_}
@@ -14,7 +14,7 @@ use Rattle.digits.specs.Windows.{Came}
 use Rattle.finder.specs.declared.Mode.{Mode}
 use Rattle.finder.specs.declared.Mode.the-variants.{Hunting, WordFound, SecondSeen, Aligned}
 use Rattle.finder.specs.declared.State.{State}
-use Rattle.finder.specs.Modes.{hunting, word, seenOf, good, checkAt, asks, passes, judged, placeThen, stepOf}
+use Rattle.finder.specs.Modes.{word, seenOf, good, asks, passes, judged, placeThen, stepOf}
 use Rattle.finder.specs.Feed.{Valid}
 use Rattle.finder.specs.History.{Missed}
 use Rattle.finder.proofs.Pieces.{heard-valid}
