@@ -308,9 +308,13 @@ int main(int count, char **words)
         make_input(&inputs[level], &ROWS[level]);
         compare(level);
     }
+    compare_multiframes();
     fprintf(stderr, "bench: the three give the same bytes\n");
-    while (repeats--)
+    while (repeats--) {
         time_once();
+        time_multiframes();
+    }
     print_table();
+    print_multiframes();
     return 0;
 }

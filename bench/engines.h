@@ -22,4 +22,19 @@ multiplex_call plain_multiplex, quick_multiplex;
 demultiplex_call plain_demultiplex, quick_demultiplex;
 feed_call plain_receiver_feed, quick_receiver_feed;
 
+/* The multiframe of 2048 kbit/s, in the plain engine only: its channels are whole bytes anyway. */
+typedef uint64_t build_call(uint8_t *multiframe, size_t multiframe_bytes, const uint8_t *channels, size_t channels_bytes,
+                            const uint8_t *signalling, size_t signalling_bytes, const uint8_t *spare, size_t spare_bytes,
+                            uint64_t answer[1]);
+typedef uint64_t apart_call(const uint8_t *multiframe, size_t multiframe_bytes, uint8_t *channels, size_t channels_bytes,
+                            uint8_t *signalling, size_t signalling_bytes, uint8_t *spare, size_t spare_bytes);
+
+build_call plain_multiframe_build;
+apart_call plain_multiframe_apart;
+
+/* multiframes.c: the library's two calls beside these. */
+void compare_multiframes(void);
+void time_multiframes(void);
+void print_multiframes(void);
+
 #endif

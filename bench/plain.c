@@ -199,3 +199,81 @@ uint64_t plain_receiver_feed(uint64_t state[9], uint8_t frame[366], const uint8_
     answer[2] = state[8];
     return 0;
 }
+
+/* ---- the multiframe of 2048 kbit/s */
+
+/* The next of the spare digits. */
+static unsigned next_spare(const uint8_t *spare, unsigned *at)
+{
+    unsigned place = (*at)++;
+
+    return spare[place / 8] >> (7 - place % 8) & 1;
+}
+
+static void put_spare(uint8_t *spare, unsigned *at, unsigned digit)
+{
+    unsigned place = (*at)++, bit = 0x80u >> place % 8;
+
+    spare[place / 8] = (uint8_t)(digit ? spare[place / 8] | bit : spare[place / 8] & ~bit);
+}
+
+uint64_t plain_multiframe_build(uint8_t *multiframe, size_t multiframe_bytes, const uint8_t *channels, size_t channels_bytes,
+                                const uint8_t *signalling, size_t signalling_bytes, const uint8_t *spare, size_t spare_bytes,
+                                uint64_t answer[1])
+{
+    unsigned at = 0;
+
+    (void)multiframe_bytes, (void)channels_bytes, (void)signalling_bytes, (void)spare_bytes;
+    answer[0] = 0;
+    for (unsigned f = 0; f < 16; f++) {
+        uint8_t *frame = multiframe + 32 * f;
+        unsigned first = next_spare(spare, &at) << 7, last = 0;
+
+        if (f % 2 == 0)
+            first |= 0x1B;
+        else {
+            first |= 0x40;
+            for (unsigned d = 2; d < 8; d++)
+                first |= next_spare(spare, &at) << (7 - d);
+        }
+        frame[0] = (uint8_t)first;
+        if (f == 0)
+            for (unsigned d = 4; d < 8; d++)
+                last |= next_spare(spare, &at) << (7 - d);
+        else
+            last = signalling[f - 1];
+        frame[16] = (uint8_t)last;
+        for (unsigned c = 0; c < 15; c++) {
+            frame[1 + c] = channels[16 * c + f];
+            frame[17 + c] = channels[16 * (c + 15) + f];
+        }
+    }
+    return 0;
+}
+
+uint64_t plain_multiframe_apart(const uint8_t *multiframe, size_t multiframe_bytes, uint8_t *channels, size_t channels_bytes,
+                                uint8_t *signalling, size_t signalling_bytes, uint8_t *spare, size_t spare_bytes)
+{
+    unsigned at = 0;
+
+    (void)multiframe_bytes, (void)channels_bytes, (void)signalling_bytes, (void)spare_bytes;
+    spare[8] = 0;
+    for (unsigned f = 0; f < 16; f++) {
+        const uint8_t *frame = multiframe + 32 * f;
+
+        put_spare(spare, &at, frame[0] >> 7);
+        if (f % 2 == 1)
+            for (unsigned d = 2; d < 8; d++)
+                put_spare(spare, &at, frame[0] >> (7 - d) & 1);
+        if (f == 0)
+            for (unsigned d = 4; d < 8; d++)
+                put_spare(spare, &at, frame[16] >> (7 - d) & 1);
+        else
+            signalling[f - 1] = frame[16];
+        for (unsigned c = 0; c < 15; c++) {
+            channels[16 * c + f] = frame[1 + c];
+            channels[16 * (c + 15) + f] = frame[17 + c];
+        }
+    }
+    return 0;
+}

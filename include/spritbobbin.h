@@ -22,6 +22,7 @@
  *             frame to frame without a gap.
  * note        one byte for each frame: which tributaries are stuffed, and the service digits.
  * capture     a file that keeps a line: see spritbobbin_capture_write.
+ * multiframe  sixteen frames of 32 bytes at 2048 kbit/s: see spritbobbin_multiframe_build.
  *
  *                           level 2    level 3    level 4
  *   frame, digits N             848       1536       2928
@@ -55,7 +56,7 @@
  *   0  accepted
  *   1  the level is not 2, 3 or 4
  *   2  the line is not a whole number of frames, or has over 64; for a piece: the slice is over
- *      65,536 bytes
+ *      65,536 bytes; for a multiframe: a slice has not the length that the call asks for
  *   3  the notes are not exactly F bytes
  *   4  the buffer's length is not a multiple of 4, or a quarter has room for fewer than F * n
  *      digits (asked even where frames are stuffed and fewer are needed)
@@ -63,18 +64,22 @@
  *      frame, counted from 0
  *   6  the receiver state is not valid: a level that is not 2, 3 or 4, a window of 2 to the L
  *      or more, over L digits seen, a mode over 6, a place of N or more, hunting at a place
- *      other than 0, or not hunting with fewer than L digits seen
+ *      other than 0, or not hunting with fewer than L digits seen; for the finder of 2048 kbit/s
+ *      frames: see spritbobbin_finder_feed
  *   7  first + count is more than the digits of the slice
  *   9  writing a capture: the label is over 32 bytes; reading one: the bytes are no run of a
  *      capture's fields, and the answer names the byte where the field at fault begins or should
  *      begin, counted from 0
+ *  11  building a multiframe: the signalling of one of channels 1 to 15 is 0000; the answer names
+ *      the first such channel
  *
  * For a capture 4 means that the file's buffer is shorter than the file.
  *
  * Where several apply, the first in this order is returned: 1, 2, 3, 4, 5 for the two multiplex
- * calls, 6, 2, 7 for a piece, 1, 2, 9, 4 for writing a capture, 9, 1, 2 for reading one. A refused
- * call writes nothing that it was lent, but the answer: all its numbers are 0, except the named
- * frame under 5 and the named byte under 9. (A fresh state is an answer too.)
+ * calls, 6, 2, 7 for a piece, 1, 2, 9, 4 for writing a capture, 9, 1, 2 for reading one, 2, 11
+ * for building a multiframe. A refused call writes nothing that it was lent, but the answer: all
+ * its numbers are 0, except the named frame under 5, the named byte under 9 and the named channel
+ * under 11. (A fresh state is an answer too.)
  *
  *
  * EXAMPLE
@@ -148,7 +153,8 @@ enum {
     SPRITBOBBIN_REFUSED_NOTE_BITS = 5,
     SPRITBOBBIN_REFUSED_STATE = 6,
     SPRITBOBBIN_REFUSED_DIGITS = 7,
-    SPRITBOBBIN_REFUSED_FIELD = 9
+    SPRITBOBBIN_REFUSED_FIELD = 9,
+    SPRITBOBBIN_REFUSED_SIGNALLING = 11
 };
 
 /* Sizes, by level where they differ. */
@@ -165,7 +171,11 @@ enum {
     SPRITBOBBIN_FRAME_STORE_BYTES = 366, /* the receiver's frame in hand, at every level */
     SPRITBOBBIN_MOST_FRAMES = 64,        /* in a line */
     SPRITBOBBIN_MOST_BYTES = 65536,      /* in a piece, or in a line that is read digit by digit */
-    SPRITBOBBIN_MOST_LABEL_BYTES = 32    /* in a capture */
+    SPRITBOBBIN_MOST_LABEL_BYTES = 32,   /* in a capture */
+    SPRITBOBBIN_MULTIFRAME_BYTES = 512,
+    SPRITBOBBIN_CHANNELS_BYTES = 480,  /* of a multiframe: sixteen for each of thirty channels */
+    SPRITBOBBIN_SIGNALLING_BYTES = 15, /* of a multiframe */
+    SPRITBOBBIN_SPARE_BYTES = 9        /* of a multiframe: 68 digits */
 };
 
 /* The fewest bytes of a quarter for so many frames, tributary_digits being n of the level. The
@@ -205,6 +215,7 @@ enum {
     SPRITBOBBIN_LABELLED = 3,    /* 1 if there is a label */
     SPRITBOBBIN_LABEL_START = 4, /* the label's first byte in the file */
     SPRITBOBBIN_LABEL_BYTES = 5, /* how many it has */
+    SPRITBOBBIN_NAMED_CHANNEL = 0, /* building a multiframe: under 11 */
     SPRITBOBBIN_NAMED_BYTE = 6   /* under 9: where the field at fault begins or should begin */
 };
 
@@ -284,6 +295,48 @@ uint64_t spritbobbin_receiver_fresh(uint64_t level, uint64_t state[9], uint8_t f
 uint64_t spritbobbin_receiver_feed(uint64_t state[9], uint8_t frame[366], const uint8_t *piece, size_t piece_bytes,
                                    uint64_t first, uint64_t count, uint64_t answer[3]);
 
+/* What stands where in the answer and the state of the finder of 2048 kbit/s frames, its mode
+   numbers, and its places. */
+enum {
+    SPRITBOBBIN_FINDER_TAKEN = 0,
+    SPRITBOBBIN_FINDER_IS_ALIGNED = 1, /* 1 if aligned at the end of the digits taken */
+    SPRITBOBBIN_FINDER_WINDOW = 0,     /* the last seven digits as a number, the newest worth 1 */
+    SPRITBOBBIN_FINDER_SEEN = 1,       /* digits since the fresh state, stopping at 7 */
+    SPRITBOBBIN_FINDER_MODE = 2,
+    SPRITBOBBIN_FINDER_PLACE = 3,
+    SPRITBOBBIN_FINDER_HUNTING = 0,
+    SPRITBOBBIN_FINDER_WORD_FOUND = 1,
+    SPRITBOBBIN_FINDER_SECOND_SEEN = 2,
+    SPRITBOBBIN_FINDER_ALIGNED = 3,        /* 3 + m: aligned, with the last m words missed, m from 0 to 2 */
+    SPRITBOBBIN_FINDER_SECOND_PLACE = 250, /* the second digit of the next frame's byte 0 */
+    SPRITBOBBIN_FINDER_WORD_PLACE = 512    /* the last digit of the next word */
+};
+
+/*
+ * Makes a fresh finder of the frames of a 2048 kbit/s line: hunting, nothing seen. Writes all of
+ * state (window, digits seen, mode, place). Returns 0.
+ */
+uint64_t spritbobbin_finder_fresh(uint64_t state[4]);
+
+/*
+ * Gives a finder the digits first to first + count - 1 of a piece of a 2048 kbit/s line. Frames are
+ * found after a good word (byte 0 of even frames ends in 0011011), a second digit of 1 in byte 0 of
+ * the next frame, and a good word after that; they are lost after three wrong words in a row. If
+ * one of the two checks fails, the hunt goes on with the next digit and the window kept.
+ *
+ * Stops after the digit at which alignment is found or lost, or at the end of the digits given;
+ * the next call goes on at first plus the digits taken. A place is counted from the word's last
+ * digit, which is 0. No digits of a frame are handed over.
+ *
+ * A state is valid, and else refused with 6, if the window is under 128, at most 7 digits are
+ * seen, the mode is at most 5, hunting is at place 0, and any other mode has 7 digits seen and a
+ * place under 250 (word found), 250 to 511 (second digit seen) or under 512 (aligned).
+ *
+ * answer: digits taken, 1 if aligned at their end. Returns 0, 6, 2 or 7.
+ */
+uint64_t spritbobbin_finder_feed(uint64_t state[4], const uint8_t *piece, size_t piece_bytes,
+                                 uint64_t first, uint64_t count, uint64_t answer[2]);
+
 /* What spritbobbin_line_digit returns where the line has ended. */
 enum { SPRITBOBBIN_LINE_ENDED = 2 };
 
@@ -315,6 +368,31 @@ uint64_t spritbobbin_capture_write(uint64_t level, const uint8_t *line, size_t l
  * label, its bytes (both 0 without one), named byte. Returns 0, 9, 1 or 2.
  */
 uint64_t spritbobbin_capture_read(const uint8_t *file, size_t file_bytes, uint64_t answer[7]);
+
+/*
+ * Builds a multiframe of 2048 kbit/s: sixteen frames of 32 bytes.
+ *
+ * multiframe: 512 bytes, written whole. channels: 480 bytes, sixteen of channel 1, of frame 0
+ * first, then of channels 2 to 30. signalling: 15 bytes, byte 16 of frames 1 to 15, so that byte
+ * k - 1 has channel k's four digits and then channel k + 15's. spare: 9 bytes, the 68 digits that
+ * nothing fixes in the order of their places: the first digit of byte 0 of every frame, the alarm
+ * and the five digits after it in odd frames, and X Y X X; the last four digits are not looked at.
+ *
+ * answer: named channel. Returns 0, 2 or 11.
+ */
+uint64_t spritbobbin_multiframe_build(uint8_t *multiframe, size_t multiframe_bytes,
+                                      const uint8_t *channels, size_t channels_bytes,
+                                      const uint8_t *signalling, size_t signalling_bytes,
+                                      const uint8_t *spare, size_t spare_bytes, uint64_t answer[1]);
+
+/*
+ * Takes a multiframe apart into channels, signalling and spare digits, as above; the last four
+ * digits of the spare bytes are written as zero. Fixed digits are not looked at. Returns 0 or 2.
+ */
+uint64_t spritbobbin_multiframe_apart(const uint8_t *multiframe, size_t multiframe_bytes,
+                                      uint8_t *channels, size_t channels_bytes,
+                                      uint8_t *signalling, size_t signalling_bytes,
+                                      uint8_t *spare, size_t spare_bytes);
 
 #ifdef __cplusplus
 }

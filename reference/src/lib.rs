@@ -11,13 +11,18 @@
 pub mod alarm;
 mod captures;
 pub mod digits;
+mod finder;
 pub mod frame;
 pub mod history;
 pub mod level;
+mod multiframe;
 mod multiplexing;
 pub mod random;
 mod receiver;
 
 pub use captures::{read_capture, write_capture, Read, Written};
+pub use finder::{finder_feed, finder_refusal, FinderState, Found};
+pub use finder::{FRAME_DIGITS, SECOND_PLACE, WORD, WORD_PLACE};
+pub use multiframe::{build_multiframe, multiframe_refusal, take_multiframe_apart};
 pub use multiplexing::{demultiplex, length_refusal, multiplex, Demultiplexed, Multiplexed};
 pub use receiver::{feed, feed_refusal, fresh, line_digit, Fed, State};

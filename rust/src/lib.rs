@@ -8,8 +8,10 @@
 //!   apart again.
 //! - A [`Receiver`] finds frames in a stream that comes in pieces of any size; a [`FrameStream`]
 //!   reads the stream too.
+//! - A [`Finder`] finds the frames of a 2048 kbit/s line.
 //! - [`digits`] walks over the digits of a line.
 //! - [`write_capture`] keeps a line in a file, [`read_capture`] reads it back.
+//! - [`Multiframe::build`] builds a multiframe of 2048 kbit/s, [`Multiframe::apart`] takes one apart.
 //!
 //! # Digits, quarters, notes
 //!
@@ -59,8 +61,10 @@
 #![warn(missing_docs)]
 
 mod capture;
+mod finder;
 mod level;
 mod line;
+mod multiframe;
 mod multiplexing;
 mod raw;
 mod receiver;
@@ -68,8 +72,10 @@ mod refusal;
 mod stream;
 
 pub use capture::{capture_bytes, read_capture, write_capture, Capture, MOST_LABEL_BYTES};
+pub use finder::{Finder, FinderMode, FinderState, FinderTaken, Turn, Turns};
 pub use level::{Level, MOST_BYTES, MOST_FRAMES};
 pub use line::{digits, line_digit, Digits};
+pub use multiframe::{Multiframe, MULTIFRAME_BYTES};
 pub use multiplexing::{demultiplex, multiplex, Received, Sent};
 pub use receiver::{Frame, Frames, Mode, Receiver, State, Taken};
 pub use refusal::Refusal;

@@ -57,6 +57,19 @@ extern "C" {
     /// 0 or 1, or 2 where the line has ended.
     pub fn spritbobbin_line_digit(line: *const u8, line_bytes: usize, place: u64) -> u64;
 
+    /// State: window, digits seen, mode, place.
+    pub fn spritbobbin_finder_fresh(state: &mut [u64; 4]) -> u64;
+
+    /// Answer: digits taken, 1 if aligned at their end.
+    pub fn spritbobbin_finder_feed(
+        state: &mut [u64; 4],
+        piece: *const u8,
+        piece_bytes: usize,
+        first: u64,
+        count: u64,
+        answer: &mut [u64; 2],
+    ) -> u64;
+
     /// Answer: bytes of the file, named byte.
     pub fn spritbobbin_capture_write(
         level: u64,
@@ -76,6 +89,30 @@ extern "C" {
         file: *const u8,
         file_bytes: usize,
         answer: &mut [u64; 7],
+    ) -> u64;
+
+    /// Answer: named channel.
+    pub fn spritbobbin_multiframe_build(
+        multiframe: *mut u8,
+        multiframe_bytes: usize,
+        channels: *const u8,
+        channels_bytes: usize,
+        signalling: *const u8,
+        signalling_bytes: usize,
+        spare: *const u8,
+        spare_bytes: usize,
+        answer: &mut [u64; 1],
+    ) -> u64;
+
+    pub fn spritbobbin_multiframe_apart(
+        multiframe: *const u8,
+        multiframe_bytes: usize,
+        channels: *mut u8,
+        channels_bytes: usize,
+        signalling: *mut u8,
+        signalling_bytes: usize,
+        spare: *mut u8,
+        spare_bytes: usize,
     ) -> u64;
 }
 

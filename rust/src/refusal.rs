@@ -93,6 +93,11 @@ pub enum Refusal {
         /// Where the field at fault begins or should begin, counted from 0.
         byte: usize,
     },
+    /// The signalling of one of channels 1 to 15 of a multiframe is 0000.
+    Signalling {
+        /// The first such channel.
+        channel: usize,
+    },
     /// A number that this crate does not know: the library is of another version.
     Unknown {
         /// The number that the library returned.
@@ -112,6 +117,7 @@ impl Refusal {
             Refusal::State => 6,
             Refusal::Digits { .. } => 7,
             Refusal::Label { .. } | Refusal::Field { .. } => 9,
+            Refusal::Signalling { .. } => 11,
             Refusal::Unknown { number } => *number,
         }
     }
@@ -163,6 +169,11 @@ impl fmt::Display for Refusal {
                 out,
                 "this is no capture: a field is wrong, missing or cut off at byte {byte} \
                  (counted from 0), or bytes follow there"
+            ),
+            Refusal::Signalling { channel } => write!(
+                out,
+                "the signalling of channel {channel} is 0000: give channels 1 to 15 another, \
+                 since 0000 marks frame 0"
             ),
             Refusal::Unknown { number } => write!(
                 out,

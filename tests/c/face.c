@@ -1,6 +1,6 @@
 /*
  * Calls every function of the library through its header, from C: worked cases 1, 9, 10 and 11
- * of the specification, each refusal, the digits of a line, captures. Prints "face: ok", or what failed.
+ * of the specification, each refusal, the digits of a line, captures, multiframes and frames of 2048 kbit/s. Prints "face: ok", or what failed.
  *
  * All bytes that are lent come from malloc in their exact number, so that valgrind sees a read or
  * a write of the library one byte beside them.
@@ -281,6 +281,95 @@ static void captures(void)
     refused_file("\1\0\1\2\2\0\1\0", 8, SPRITBOBBIN_REFUSED_LINE, 0);
 }
 
+/* Builds a multiframe of slices of these lengths, with signalling of one value, and takes it apart. */
+static void multiframe(size_t whole, size_t channels, size_t signalling, size_t spare, uint8_t signal, uint64_t refusal, uint64_t named)
+{
+    uint8_t *m = lend(whole, 0xA5), *c = lend(channels, 0x3C), *s = lend(signalling, signal), *x = lend(spare, 0xFF);
+    uint64_t answer[1] = {UINT64_C(0xA5A5A5A5A5A5A5A5)};
+
+    check(spritbobbin_multiframe_build(m, whole, c, channels, s, signalling, x, spare, answer) == refusal, "the refusal of a multiframe");
+    check(answer[SPRITBOBBIN_NAMED_CHANNEL] == named, "the channel that it names");
+    if (refusal)
+        check(all(m, whole, 0xA5), "a refused multiframe is not written");
+    else
+        check(m[0] == 0x9B && m[16] == 0x0F && m[32] == 0xFF && m[32 + 16] == signal && m[511] == 0x3C, "bytes of the multiframe");
+    if (c && s && x) {
+        memset(c, 0, channels);
+        memset(s, 0, signalling);
+        memset(x, 0xA5, spare);
+        check(spritbobbin_multiframe_apart(m, whole, c, channels, s, signalling, x, spare) == (refusal == 11 ? 0 : refusal), "the refusal of taking apart");
+    }
+    if (!refusal) {
+        check(all(c, channels, 0x3C) && all(s, signalling, signal), "channels and signalling come back");
+        check(all(x, 8, 0xFF) && x[8] == 0xF0, "spare digits come back, with zeros after them");
+    } else if (refusal == 2 && c && s && x) {
+        check(all(c, channels, 0) && all(s, signalling, 0) && all(x, spare, 0xA5), "nothing is written under a refusal");
+    }
+    free(m);
+    free(c);
+    free(s);
+    free(x);
+}
+
+/* Every length at its border; 2 before 11; silent channels from 16 on. */
+static void multiframes(void)
+{
+    multiframe(512, 480, 15, 9, 0xD5, 0, 0);
+    multiframe(512, 480, 15, 9, 0x10, 0, 0);
+    multiframe(512, 480, 15, 9, 0x0F, SPRITBOBBIN_REFUSED_SIGNALLING, 1);
+    multiframe(511, 480, 15, 9, 0x0F, SPRITBOBBIN_REFUSED_LINE, 0);
+    multiframe(513, 480, 15, 9, 0x0F, SPRITBOBBIN_REFUSED_LINE, 0);
+    multiframe(512, 479, 15, 9, 0x0F, SPRITBOBBIN_REFUSED_LINE, 0);
+    multiframe(512, 481, 15, 9, 0x0F, SPRITBOBBIN_REFUSED_LINE, 0);
+    multiframe(512, 480, 14, 9, 0x0F, SPRITBOBBIN_REFUSED_LINE, 0);
+    multiframe(512, 480, 16, 9, 0x0F, SPRITBOBBIN_REFUSED_LINE, 0);
+    multiframe(512, 480, 15, 8, 0x0F, SPRITBOBBIN_REFUSED_LINE, 0);
+    multiframe(512, 480, 15, 10, 0x0F, SPRITBOBBIN_REFUSED_LINE, 0);
+    multiframe(0, 0, 0, 0, 0, SPRITBOBBIN_REFUSED_LINE, 0);
+}
+
+/* A piece that the finder refuses with this number, and leaves as it was. */
+static void refused_hunt(const uint64_t state[4], const uint8_t *piece, size_t piece_bytes, uint64_t first, uint64_t count, uint64_t refusal)
+{
+    uint64_t left[4], answer[2];
+
+    memcpy(left, state, sizeof left);
+    memset(answer, 0xA5, sizeof answer);
+    check(spritbobbin_finder_feed(left, piece, piece_bytes, first, count, answer) == refusal, "the refusal of the finder's piece");
+    check(all_zero(answer, 2) && !memcmp(left, state, sizeof left), "a refused piece takes nothing and changes nothing");
+}
+
+/* Frames of ones with words found after 520 digits, then lost at the third wrong word. */
+static void finder(void)
+{
+    size_t pairs = 5, length = 64 * pairs, i;
+    uint8_t *stream = lend(length, 0xFF), *long_one = lend(SPRITBOBBIN_MOST_BYTES + 1, 0);
+    uint64_t state[4], answer[2], digits = 8 * length;
+
+    for (i = 0; i < 2; i++)
+        stream[64 * i] = 0x9B; /* the other three words are missing */
+    check(spritbobbin_finder_fresh(state) == SPRITBOBBIN_ACCEPTED && all_zero(state, 4), "a fresh finder is all zero");
+    check(spritbobbin_finder_feed(state, stream, length, 0, 8, answer) == 0 && answer[SPRITBOBBIN_FINDER_TAKEN] == 8, "a word is taken");
+    check(state[SPRITBOBBIN_FINDER_MODE] == SPRITBOBBIN_FINDER_WORD_FOUND && state[SPRITBOBBIN_FINDER_PLACE] == 0, "a word is found");
+    check(spritbobbin_finder_feed(state, stream, length, 8, SPRITBOBBIN_FINDER_SECOND_PLACE, answer) == 0, "up to the second digit");
+    check(state[SPRITBOBBIN_FINDER_MODE] == SPRITBOBBIN_FINDER_SECOND_SEEN && state[SPRITBOBBIN_FINDER_PLACE] == 250, "the second digit is seen");
+    check(spritbobbin_finder_feed(state, stream, length, 258, digits - 258, answer) == 0, "up to the second word");
+    check(answer[SPRITBOBBIN_FINDER_TAKEN] == 520 - 258 && answer[SPRITBOBBIN_FINDER_IS_ALIGNED] == 1, "found after 520 digits");
+    check(state[SPRITBOBBIN_FINDER_MODE] == SPRITBOBBIN_FINDER_ALIGNED && state[SPRITBOBBIN_FINDER_PLACE] == 0, "aligned at the word");
+    check(spritbobbin_finder_feed(state, stream, length, 520, digits - 520, answer) == 0, "up to the third wrong word");
+    check(answer[SPRITBOBBIN_FINDER_TAKEN] == 3 * SPRITBOBBIN_FINDER_WORD_PLACE && answer[SPRITBOBBIN_FINDER_IS_ALIGNED] == 0, "lost after 2056 digits");
+    check(state[SPRITBOBBIN_FINDER_MODE] == SPRITBOBBIN_FINDER_HUNTING && state[SPRITBOBBIN_FINDER_WINDOW] == 127, "hunting, the window kept");
+
+    check(spritbobbin_finder_feed(state, NULL, 0, 0, 0, answer) == 0 && all_zero(answer, 2), "an empty piece");
+    refused_hunt(state, stream, length, 1, digits, SPRITBOBBIN_REFUSED_DIGITS);
+    refused_hunt(state, stream, length, UINT64_MAX, 2, SPRITBOBBIN_REFUSED_DIGITS);
+    refused_hunt(state, long_one, SPRITBOBBIN_MOST_BYTES + 1, 0, 1, SPRITBOBBIN_REFUSED_LINE);
+    state[SPRITBOBBIN_FINDER_PLACE] = 1;
+    refused_hunt(state, long_one, SPRITBOBBIN_MOST_BYTES + 1, 0, 1, SPRITBOBBIN_REFUSED_STATE);
+    free(stream);
+    free(long_one);
+}
+
 int main(void)
 {
     both_ways(2, 106, 1, 1, 0, 104, 0, 0);      /* case 1; case 9: a quarter of 26 bytes */
@@ -299,8 +388,10 @@ int main(void)
     counts_dissent();
     names_the_frame();
     receiver();
+    finder();
     line_digits();
     captures();
+    multiframes();
     if (failures)
         return 1;
     puts("face: ok");

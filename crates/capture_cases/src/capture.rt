@@ -395,16 +395,9 @@ fn begin(file: &mut [u8], head: &[u8; 11]) {
     say::text(b"read");
     let mut i: usize = 0;
     while i < 11 {
-        put_byte(file, i, head[i]);
+        inputs::put_byte(file, i, head[i]);
         say::counted(b" ", wide(head[i]));
         i += 1;
-    }
-}
-
-// Past the end nothing is put.
-fn put_byte(file: &mut [u8], i: usize, byte: u8) {
-    if i < file.len() {
-        file[i] = byte;
     }
 }
 
@@ -439,14 +432,5 @@ pub fn example() {
     let no = spritbobbin::spritbobbin_capture_write(2, &line, &none, 0, &mut file, &mut answer);
     say::counted(b"case 1 kept: refusal ", no);
     say::counted(b" bytes ", answer[0]);
-    say_bytes(&file);
-}
-
-fn say_bytes(file: &[u8]) {
-    let mut i: usize = 0;
-    while i < file.len() {
-        say::counted(b" ", wide(file[i]));
-        i += 1;
-    }
-    say::text(b"\n");
+    say::bytes(&file);
 }

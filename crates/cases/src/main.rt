@@ -1,7 +1,10 @@
-// Runs worked cases 9, 10 and 11 of document 01, the example of request 1, stretches of the alarm and more of the kind: each refusal at its border, and each pair
-// of faults that tells the order. What it must write was worked out by the separate program of reference/, which shares nothing with the crates.
+// Runs worked cases 9, 10 and 11 of document 01, the example of request 1, a multiframe and frames of 2048 kbit/s that are found and lost,
+// stretches of the alarm, and more of the kind: each refusal at its border, and each pair of faults that tells the order. What it must write
+// was worked out by the separate program of reference/, which shares nothing with the crates.
 use capture_cases::capture;
 use demultiplex::Demultiplexed;
+use multiframe_cases::hunt;
+use multiframe_cases::whole;
 use multiplex::Multiplexed;
 use stream_cases::alarm;
 use stream_cases::stream;
@@ -342,6 +345,13 @@ fn main() {
     capture::example();
     capture::write_all();
     capture::read_all();
+    whole::example();
+    whole::make_all();
+    hunt::hunt_all();
+    hunt::frames(5120);
+    hunt::frames(1);
+    hunt::frames(7);
+    hunt::frames(1000);
 }
 
 fn receive_all() {

@@ -2,5 +2,9 @@ pub mod Bits
 pub mod Laws
 pub mod Lists
 pub mod Sums
+pub mod Tests
 pub mod Written
+pub mod Lasts
+pub mod Histories
+pub mod Runs
 pub mod ZeroLaws

@@ -2,12 +2,13 @@
 use mathlib.Core.Path.{_≡_, refl, ap}
 use mathlib.Core.Bool.{cond}
 use mathlib.Core.List.{List, [], _∷_, _++_}
-use Prim.Native.Nat.{ℕ, zero, suc, _+_, _*_, _/_, _%_, _<_}
+use Prim.Native.Nat.{ℕ, zero, suc, _+_, _-_, _*_, _/_, _%_, _<_}
 use native.Mathlib.Omega.{arith}
+use native.Mathlib.Decide.{decLt}
 use native.Mathlib.Nat.{add-zero}
 use lib.Dec.{eqb, lit<}
-use lib.ListN.{length, take, drop}
-use lib.Seq.{take-at, drop-at}
+use lib.ListN.{length, take, drop, replicate, length-take, length-replicate, getD-replicate, List·getD-append, List·getD-eq-default}
+use lib.Seq.{take-at, drop-at, getD-append-add, getD-take, getD-drop}
 use borrow.Author.Tests.{eq-eqb}
 use Rattle.digits.specs.Digits.{eight, tab, Binary, differing}
 use Rattle.digits.proofs.Bits.{eight-at, byte-is}
@@ -73,3 +74,31 @@ byte-of-bits b h = omega (arith, byte-is (eight b) small b h (eight-at b))
 -- a part in the middle of a list
 pub part-at : (front mid back : List ℕ) (m q : ℕ) → length front ≡ m → length mid ≡ q → take q (drop m (front ++ (mid ++ back))) ≡ mid
 part-at front mid back m q f e = rw (drop-at front (mid ++ back) m f) (take-at mid back q e)
+
+-- ---- lists of digits: zeros, one after another, a part
+
+pub binary-zeros : (n : ℕ) → Binary (replicate n 0)
+binary-zeros n i =
+    elim (decLt i n) [
+      | yes h ↦ rw (getD-replicate {A = ℕ} n i 0 0 h) (omega arith)
+      | no h ↦ rw (List·getD-eq-default (replicate {A = ℕ} n 0) 0 {n = i} (omega (arith, length-replicate {A = ℕ} n 0))) (omega arith)
+    ]
+
+pub binary-append : (xs ys : List ℕ) → Binary xs → Binary ys → Binary (xs ++ ys)
+binary-append xs ys bx by i =
+    elim (decLt i (length xs)) [
+      | yes h ↦ rw (List·getD-append xs ys 0 i h) (bx i)
+      | no h ↦
+          let e : i ≡ length xs + (i - length xs) = omega arith in
+          rw (e, getD-append-add xs ys (i - length xs) 0) (by (i - length xs))
+    ]
+
+pub binary-take : (n : ℕ) (xs : List ℕ) → Binary xs → Binary (take n xs)
+binary-take n xs bx i =
+    elim (decLt i n) [
+      | yes h ↦ rw (getD-take n xs i 0 h) (bx i)
+      | no h ↦ rw (List·getD-eq-default (take n xs) 0 {n = i} (omega (arith, length-take n xs))) (omega arith)
+    ]
+
+pub binary-drop : (n : ℕ) (xs : List ℕ) → Binary xs → Binary (drop n xs)
+binary-drop n xs bx i = rw (getD-drop n xs i 0) (bx (n + i))

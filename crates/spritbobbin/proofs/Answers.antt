@@ -8,7 +8,7 @@ use contract.Lifetimes.{Lfts}
 use denote.Ref.{now}
 use denote.Triple.Clauses.{AtExit}
 use borrow.Fn.World.{ArgsD, ResD}
-use Rattle.spritbobbin.specs.Face.{MultiplexMet, DemultiplexMet, FreshMet, FeedMet, LineDigitMet, CaptureWriteMet, CaptureReadMet}
+use Rattle.spritbobbin.specs.Face.{MultiplexMet, DemultiplexMet, FreshMet, FeedMet, LineDigitMet, CaptureWriteMet, CaptureReadMet, MultiframeBuildMet, MultiframeApartMet}
 use Rattle.spritbobbin.proofs.spritbobbin_multiplex as multiplex
 use Rattle.spritbobbin.proofs.spritbobbin_multiplex.Reads as multiplex-reads
 use Rattle.spritbobbin.proofs.spritbobbin_demultiplex as demultiplex
@@ -23,6 +23,11 @@ use Rattle.spritbobbin.proofs.spritbobbin_capture_write as capture-writ
 use Rattle.spritbobbin.proofs.spritbobbin_capture_write.Reads as capture-write-reads
 use Rattle.spritbobbin.proofs.spritbobbin_capture_read as capture-read
 use Rattle.spritbobbin.proofs.spritbobbin_capture_read.Reads as capture-read-reads
+use Rattle.multiframe.proofs.Answers.{apart-one-answer}
+use Rattle.spritbobbin.proofs.spritbobbin_multiframe_build as multiframe-build
+use Rattle.spritbobbin.proofs.spritbobbin_multiframe_build.Reads as multiframe-build-reads
+use Rattle.spritbobbin.proofs.spritbobbin_multiframe_apart as multiframe-apart
+use Rattle.spritbobbin.proofs.spritbobbin_multiframe_apart.Reads as multiframe-apart-reads
 
 -- ---- no second answer
 
@@ -50,6 +55,16 @@ capture-write-one-answer level line label labelled file r s f g a b x y = (cc, c
 
 pub capture-read-one-answer : (file : List ℕ) (r s : ℕ) (a b : List ℕ) → CaptureReadMet file r a → CaptureReadMet file s b → (r ≡ s) × (a ≡ b)
 capture-read-one-answer file r s a b x y = (cc, cc)
+
+pub multiframe-build-one-answer : (multiframe channels signalling spare : List ℕ) (r s : ℕ) (l m a b : List ℕ)
+    → MultiframeBuildMet multiframe channels signalling spare r l a → MultiframeBuildMet multiframe channels signalling spare s m b → (r ≡ s) × (l ≡ m) × (a ≡ b)
+multiframe-build-one-answer multiframe channels signalling spare r s l m a b x y = (cc, cc, cc)
+
+pub multiframe-apart-one-answer : (multiframe channels signalling spare : List ℕ) (r r′ : ℕ) (c s x c′ s′ x′ : List ℕ)
+    → MultiframeApartMet multiframe channels signalling spare r c s x → MultiframeApartMet multiframe channels signalling spare r′ c′ s′ x′
+    → (r ≡ r′) × (c ≡ c′) × (s ≡ s′) × (x ≡ x′)
+multiframe-apart-one-answer multiframe channels signalling spare r r′ c s x c′ s′ x′ one other =
+    apart-one-answer multiframe channels signalling spare r r′ c s x c′ s′ x′ one other
 
 -- ---- what each call ensures is its statement; a : what it is given, r : what it returns, e : what it leaves
 
@@ -84,6 +99,16 @@ pub capture-read-met : (κs : Lfts 2) (a : ArgsD capture-read.signature κs) (r 
     → capture-read-reads.Learnt κs a r e → CaptureReadMet (now (a .0)) r (now (e .1 .0))
 capture-read-met κs a r e met = met
 
+pub multiframe-build-met : (κs : Lfts 5) (a : ArgsD multiframe-build.signature κs) (r : ResD multiframe-build.signature κs) (e : AtExit multiframe-build.ended κs)
+    → multiframe-build-reads.Learnt κs a r e
+    → MultiframeBuildMet (now (a .0)) (now (a .1 .0)) (now (a .1 .1 .0)) (now (a .1 .1 .1 .0)) r (now (e .0)) (now (e .1 .1 .1 .1 .0))
+multiframe-build-met κs a r e met = met
+
+pub multiframe-apart-met : (κs : Lfts 4) (a : ArgsD multiframe-apart.signature κs) (r : ResD multiframe-apart.signature κs) (e : AtExit multiframe-apart.ended κs)
+    → multiframe-apart-reads.Learnt κs a r e
+    → MultiframeApartMet (now (a .0)) (now (a .1 .0)) (now (a .1 .1 .0)) (now (a .1 .1 .1 .0)) r (now (e .1 .0)) (now (e .1 .1 .0)) (now (e .1 .1 .1 .0))
+multiframe-apart-met κs a r e met = met
+
 -- ---- no call asks anything of its caller
 
 pub multiplex-asks-nothing : (κs : Lfts 4) (a : ArgsD multiplex.signature κs) → multiplex-reads.Asked κs a
@@ -106,3 +131,9 @@ capture-write-asks-nothing κs a = tt
 
 pub capture-read-asks-nothing : (κs : Lfts 2) (a : ArgsD capture-read.signature κs) → capture-read-reads.Asked κs a
 capture-read-asks-nothing κs a = tt
+
+pub multiframe-build-asks-nothing : (κs : Lfts 5) (a : ArgsD multiframe-build.signature κs) → multiframe-build-reads.Asked κs a
+multiframe-build-asks-nothing κs a = tt
+
+pub multiframe-apart-asks-nothing : (κs : Lfts 4) (a : ArgsD multiframe-apart.signature κs) → multiframe-apart-reads.Asked κs a
+multiframe-apart-asks-nothing κs a = tt

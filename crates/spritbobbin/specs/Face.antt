@@ -14,12 +14,15 @@ use Rattle.receiver.specs.declared.State.{State}
 use Rattle.receiver.specs.declared.Fed.{Fed}
 use Rattle.captures.specs.declared.Written.{Written}
 use Rattle.captures.specs.declared.Reading.{Reading}
+use Rattle.multiframe.specs.declared.Built.{Built}
 use Rattle.multiplex.specs.Multiplex.{multiplexed, lineAfter}
 use Rattle.demultiplex.specs.Demultiplex.{demultiplexed, notesAfter, bufferAfter}
 use Rattle.receiver.specs.declared.alarm.Stretch.{Stretch}
 use Rattle.receiver.specs.Feed.{refused, freshOf, feedOf}
 use Rattle.line_reader.specs.Step.{stepAt, digitOrEnd}
 use Rattle.captures.specs.Captures.{writtenOf, leftOf, readOf}
+use Rattle.multiframe.specs.Multiframe.{multiframeOf}
+use Rattle.multiframe.specs.Calls.{builtOf, ApartMet}
 
 -- answer: four digit counts, named frame
 abbrev pub sentAnswer : Multiplexed → List ℕ
@@ -100,6 +103,10 @@ abbrev pub readAnswer : Reading → List ℕ
 readAnswer r =
     r .level ∷ r .line .start ∷ r .line .bytes ∷ cond (r .labelled) 1 0 ∷ r .label .start ∷ r .label .bytes ∷ r .byte ∷ []
 
+-- answer: named channel
+abbrev pub builtAnswer : Built → List ℕ
+builtAnswer b = b .channel ∷ []
+
 -- ---- the whole statement of each call: what it is given, the number that it returns, and what it leaves in everything lent for writing
 
 -- spritbobbin_multiplex returns the refusal number, and leaves the line and the answer
@@ -139,3 +146,15 @@ CaptureWriteMet level line label labelled file returned fileLeft answerLeft =
 -- spritbobbin_capture_read returns the refusal number, and leaves the answer
 abbrev pub CaptureReadMet : List ℕ → ℕ → List ℕ → Type 0
 CaptureReadMet file returned answerLeft = (returned ≡ readOf file .refusal) × (answerLeft ≡ readAnswer (readOf file))
+
+-- spritbobbin_multiframe_build returns the refusal number, and leaves the multiframe and the answer
+abbrev pub MultiframeBuildMet : List ℕ → List ℕ → List ℕ → List ℕ → ℕ → List ℕ → List ℕ → Type 0
+MultiframeBuildMet multiframe channels signalling spare returned multiframeLeft answerLeft =
+    let b = builtOf (length multiframe) (length channels) signalling (length spare) in
+    (returned ≡ b .refusal) × (multiframeLeft ≡ cond (eqb (b .refusal) 0) (multiframeOf channels signalling spare) multiframe)
+    × (answerLeft ≡ builtAnswer b)
+
+-- spritbobbin_multiframe_apart returns the refusal number, and leaves channels, signalling and spare digits: the call behind it
+abbrev pub MultiframeApartMet : List ℕ → List ℕ → List ℕ → List ℕ → ℕ → List ℕ → List ℕ → List ℕ → Type 0
+MultiframeApartMet multiframe channels signalling spare returned channelsLeft signallingLeft spareLeft =
+    ApartMet multiframe channels signalling spare returned channelsLeft signallingLeft spareLeft

@@ -1,8 +1,11 @@
 // The C face: the calls over numbers, slices and fixed arrays, nothing else. A slice passes as a pointer and then a length, a fixed array as
 // a pointer. include/spritbobbin.h declares these functions for C; nothing checks that header against this file but the tests.
+mod finder_face;
+
 use captures::Reading;
 use captures::Written;
 use demultiplex::Demultiplexed;
+use multiframe::Built;
 use multiplex::Multiplexed;
 use receiver::Fed;
 use receiver::Mode;
@@ -12,6 +15,7 @@ ghost use mathlib.Core.Path.{_≡_};
 ghost use mathlib.Core.Bool.{cond};
 ghost use Rattle.spritbobbin.specs.Face.{sentAnswer, receivedAnswer, modeNumber, modeOf, stateNumbers, fedBy, fedAnswer};
 ghost use Rattle.spritbobbin.specs.Face.{writtenAnswer, readAnswer, CaptureWriteMet, CaptureReadMet};
+ghost use Rattle.spritbobbin.specs.Face.{builtAnswer, MultiframeBuildMet, MultiframeApartMet};
 ghost use Rattle.spritbobbin.specs.Face.{MultiplexMet, DemultiplexMet, FreshMet, FeedMet, LineDigitMet};
 
 // An answer as the numbers of the array that C lends for it.
@@ -128,7 +132,7 @@ fn numbers_of(s: State) -> [u64; 9]
     ]
 }
 
-fn as_number(t: bool) -> u64
+pub fn as_number(t: bool) -> u64
     ensures { λ r. ⌜ r ≡ cond t 1 0 ⌝ }
 {
     if t {
@@ -272,4 +276,45 @@ pub extern "C" fn spritbobbin_capture_read(file: &[u8], answer: &mut [u64; 7]) -
     let reading = captures::read(file);
     *answer = read_numbers(reading);
     reading.refusal
+}
+
+fn built_numbers(b: Built) -> [u64; 1]
+    ensures { λ r. ⌜ r ≡ builtAnswer b ⌝ }
+{
+    [b.channel as u64]
+}
+
+// Builds a multiframe of 2048 kbit/s from channels, signalling and spare digits; answer: named channel.
+#[no_mangle]
+pub extern "C" fn spritbobbin_multiframe_build(
+    multiframe: &mut [u8],
+    channels: &[u8],
+    signalling: &[u8],
+    spare: &[u8],
+    answer: &mut [u64; 1],
+) -> u64
+    ensures { λ r. ⌜
+        MultiframeBuildMet (now (multiframe .entry)) (now (channels .entry)) (now (signalling .entry)) (now (spare .entry)) r
+        (now (multiframe .exit)) (now (answer .exit))
+        ⌝ }
+{
+    let built = multiframe::build(multiframe, channels, signalling, spare);
+    *answer = built_numbers(built);
+    built.refusal
+}
+
+// Takes a multiframe apart into channels, signalling and spare digits.
+#[no_mangle]
+pub extern "C" fn spritbobbin_multiframe_apart(
+    multiframe: &[u8],
+    channels: &mut [u8],
+    signalling: &mut [u8],
+    spare: &mut [u8],
+) -> u64
+    ensures { λ r. ⌜
+        MultiframeApartMet (now (multiframe .entry)) (now (channels .entry)) (now (signalling .entry)) (now (spare .entry)) r
+        (now (channels .exit)) (now (signalling .exit)) (now (spare .exit))
+        ⌝ }
+{
+    multiframe::apart(multiframe, channels, signalling, spare)
 }

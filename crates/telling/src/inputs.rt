@@ -18,6 +18,13 @@ pub fn count_up(s: &mut [u8]) {
     }
 }
 
+// Past the end nothing is put.
+pub fn put_byte(s: &mut [u8], i: usize, byte: u8) {
+    if i < s.len() {
+        s[i] = byte;
+    }
+}
+
 // 0 before frame `from`, and `note` from that frame on.
 pub fn notes_from(notes: &mut [u8], note: u8, from: usize) {
     let mut f: usize = 0;

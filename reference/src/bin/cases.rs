@@ -1,6 +1,6 @@
 //! Prints what a program on the cases below must write, a line to a case: worked cases 9,
-//! 10 and 11, a capture of case 1, each refusal at its border, and each pair of faults that
-//! tells the order.
+//! 10 and 11, a capture of case 1, frames of 2048 kbit/s that are found and lost, each refusal
+//! at its border, and each pair of faults that tells the order.
 //!
 //! The text is made so that a program in any language can write it: fixed words, single
 //! spaces, and numbers in the decimal system. How the inputs are made:
@@ -14,11 +14,18 @@
 //!   a given stretch is one byte, `fill`, and its state hunts with no digits seen;
 //! - byte i of the line and of the label of a capture that is written is i modulo 256, and
 //!   its file holds 165 in every byte beforehand;
-//! - a file that is read has the bytes given and zeros after them.
+//! - a file that is read has the bytes given and zeros after them;
+//! - byte i of the channels and of the spare digits of a multiframe is i modulo 256, every byte
+//!   of its signalling is `signal` but the one at `at`, and what is built or taken into holds 165
+//!   in every byte beforehand;
+//! - the 2048 kbit/s line has ten pairs of frames of ones; byte 0 of a pair is 155, the word, but
+//!   not in pairs 3, 4 and 5.
 //!
 //! A `sum` is taken after the call over all bytes: byte i counts i + 1 times.
 
+use reference::{build_multiframe, take_multiframe_apart};
 use reference::{demultiplex, feed, fresh, multiplex, Fed, State};
+use reference::{finder_feed, FinderState, Found};
 use reference::{read_capture, write_capture};
 
 /// What a byte that will be written holds before.
@@ -33,8 +40,31 @@ type Receiving = (u64, usize, u8, usize, usize);
 type Feeding = (u64, u64, u64, u64, u64, usize, u64, u64);
 /// level, digits, zeros, few before, alarm, fill, first, count
 type Stretched = (u64, u64, u64, u64, u64, u8, u64, u64);
+/// bytes of multiframe, channels, signalling and spare digits; signal, at, other
+type Making = (usize, usize, usize, usize, u8, usize, u8);
+/// window, seen, mode, place, slice bytes, first, count
+type Hunting = (u64, u64, u64, u64, usize, u64, u64);
 /// level, line bytes, label bytes, labelled, file bytes
 type Writing = (u64, usize, usize, u64, usize);
+
+const MAKINGS: [Making; 16] = [
+    (512, 480, 15, 9, 213, 0, 213),
+    (512, 480, 15, 9, 16, 0, 16),
+    (512, 480, 15, 9, 213, 0, 15),
+    (512, 480, 15, 9, 213, 14, 0),
+    (512, 480, 15, 9, 15, 0, 213),
+    (512, 480, 15, 9, 213, 7, 15),
+    (511, 480, 15, 9, 15, 0, 15),
+    (513, 480, 15, 9, 15, 0, 15),
+    (512, 479, 15, 9, 15, 0, 15),
+    (512, 481, 15, 9, 15, 0, 15),
+    (512, 480, 14, 9, 15, 0, 15),
+    (512, 480, 16, 9, 15, 0, 15),
+    (512, 480, 15, 8, 15, 0, 15),
+    (512, 480, 15, 10, 15, 0, 15),
+    (0, 0, 0, 0, 0, 0, 0),
+    (512, 480, 15, 9, 255, 14, 16),
+];
 
 const SENDINGS: [Sending; 27] = [
     // Case 9, and the other levels at the same borders.
@@ -168,6 +198,27 @@ const WRITINGS: [Writing; 24] = [
     (2, 106, 32, 1, 0),
 ];
 
+const HUNTINGS: [Hunting; 18] = [
+    (127, 7, 5, 511, 1, 0, 8),
+    (128, 7, 5, 511, 1, 0, 8),
+    (127, 8, 5, 511, 1, 0, 8),
+    (127, 7, 6, 511, 1, 0, 8),
+    (127, 7, 5, 512, 1, 0, 8),
+    (127, 6, 5, 511, 1, 0, 8),
+    (127, 7, 0, 1, 1, 0, 8),
+    (127, 3, 0, 0, 1, 0, 8),
+    (27, 7, 1, 249, 1, 0, 8),
+    (27, 7, 1, 250, 1, 0, 8),
+    (27, 7, 2, 249, 1, 0, 8),
+    (27, 7, 2, 250, 1, 0, 8),
+    (27, 7, 2, 512, 1, 0, 8),
+    (0, 0, 0, 0, 65536, 0, 524_288),
+    (0, 0, 0, 0, 65537, 0, 0),
+    (0, 0, 0, 0, 1, 1, 8),
+    (0, 0, 0, 0, 1, MAX, 2),
+    (128, 0, 0, 0, 65537, MAX, 1),
+];
+
 const FILES: [(usize, &[u8]); 24] = [
     // Cut off, or not there at all.
     (0, &[]),
@@ -236,6 +287,49 @@ fn receiving((level, line, fill, notes, buffer): Receiving) {
         sum(&list),
         sum(&quarters),
     );
+}
+
+/// The part of a line that every call of the finder has.
+fn hunted(answer: &Found) -> String {
+    let state = &answer.state;
+    format!(
+        "refusal {} taken {} aligned {} state {} {} {} {}",
+        answer.refusal,
+        answer.taken,
+        u64::from(answer.aligned),
+        state.window,
+        state.seen,
+        state.mode,
+        state.place,
+    )
+}
+
+fn hunting((window, seen, mode, place, slice, first, count): Hunting) {
+    let state = FinderState { window, seen, mode, place };
+    let answer = finder_feed(&state, &vec![0; slice], first, count);
+    println!(
+        "hunt window {window} seen {seen} mode {mode} place {place} \
+         slice {slice} first {first} count {count}: {}",
+        hunted(&answer)
+    );
+}
+
+/// Frames found, lost and found again, in pieces of at most `size` digits: a line to each.
+fn frames(size: u64) {
+    let mut line = [255; 640];
+    for pair in [0, 1, 2, 6, 7, 8, 9] {
+        line[64 * pair] = 155;
+    }
+    let (mut state, mut first, mut aligned) = (FinderState::default(), 0, false);
+    while first < 5120 {
+        let answer = finder_feed(&state, &line, first, size.min(5120 - first));
+        first += answer.taken;
+        if answer.aligned != aligned {
+            aligned = answer.aligned;
+            println!("frames pieces {size} digits {first}: {}", hunted(&answer));
+        }
+        state = answer.state;
+    }
 }
 
 /// The part of a line that every feed call has: the answer, then the state's numbers.
@@ -352,6 +446,40 @@ fn reading(name: &str, file: &[u8]) {
     );
 }
 
+/// All bytes of a multiframe with recognisable content.
+fn recognisable() {
+    let mut bytes = [0; 512];
+    let (refusal, _) = build_multiframe(&mut bytes, &count_up(480), &[213; 15], &count_up(9));
+    let bytes: String = bytes.iter().map(|byte| format!(" {byte}")).collect();
+    println!("multiframe: refusal {refusal}{bytes}");
+}
+
+fn count_up(length: usize) -> Vec<u8> {
+    (0..length).map(|i| (i % 256) as u8).collect()
+}
+
+fn making((m, n, s, x, signal, at, other): Making) {
+    let (mut bytes, mut signalling) = (vec![BEFORE; m], vec![signal; s]);
+    if let Some(byte) = signalling.get_mut(at) {
+        *byte = other;
+    }
+    let (refusal, channel) = build_multiframe(&mut bytes, &count_up(n), &signalling, &count_up(x));
+    println!(
+        "build multiframe {m} channels {n} signalling {s} spare {x} signal {signal} at {at} \
+         other {other}: refusal {refusal} channel {channel} sum {}",
+        sum(&bytes),
+    );
+    let (mut channels, mut signalling, mut spare) =
+        (vec![BEFORE; n], vec![BEFORE; s], vec![BEFORE; x]);
+    let refusal = take_multiframe_apart(&bytes, &mut channels, &mut signalling, &mut spare);
+    println!(
+        "apart: refusal {refusal} sums {} {} {}",
+        sum(&channels),
+        sum(&signalling),
+        sum(&spare),
+    );
+}
+
 fn main() {
     SENDINGS.into_iter().for_each(sending);
     RECEIVINGS.into_iter().for_each(receiving);
@@ -361,4 +489,8 @@ fn main() {
     example();
     WRITINGS.into_iter().for_each(writing);
     FILES.into_iter().for_each(small);
+    recognisable();
+    MAKINGS.into_iter().for_each(making);
+    HUNTINGS.into_iter().for_each(hunting);
+    [5120, 1, 7, 1000].into_iter().for_each(frames);
 }

@@ -1,6 +1,8 @@
 //! A call with its inputs, what came of it, and what the reference says of it.
 
+use reference::{build_multiframe, take_multiframe_apart};
 use reference::{demultiplex, feed, fresh, line_digit, multiplex, State};
+use reference::{finder_feed, FinderState};
 use reference::{read_capture, write_capture};
 
 /// What a multiplex or demultiplex call is lent.
@@ -20,6 +22,15 @@ pub struct Piece {
     pub count: u64,
 }
 
+/// A piece for the finder of 2048 kbit/s frames.
+#[derive(Clone)]
+pub struct Hunt {
+    pub state: FinderState,
+    pub slice: Vec<u8>,
+    pub first: u64,
+    pub count: u64,
+}
+
 /// What a writer of captures is lent. The number says whether there is a label.
 #[derive(Clone)]
 pub struct Writing {
@@ -30,6 +41,15 @@ pub struct Writing {
     pub file: Vec<u8>,
 }
 
+/// What a call on a multiframe is lent.
+#[derive(Clone)]
+pub struct Whole {
+    pub multiframe: Vec<u8>,
+    pub channels: Vec<u8>,
+    pub signalling: Vec<u8>,
+    pub spare: Vec<u8>,
+}
+
 pub enum Call {
     Multiplex(Lending),
     Demultiplex(Lending),
@@ -38,10 +58,14 @@ pub enum Call {
     LineDigit(Vec<u8>, u64),
     CaptureWrite(Writing),
     CaptureRead(Vec<u8>),
+    MultiframeBuild(Whole),
+    MultiframeApart(Whole),
+    FinderFresh,
+    FinderFeed(Hunt),
 }
 
 /// The names of the calls, in the order of their numbers.
-pub const NAMES: [&str; 7] = [
+pub const NAMES: [&str; 9] = [
     "multiplex",
     "demultiplex",
     "receiver_fresh",
@@ -49,6 +73,10 @@ pub const NAMES: [&str; 7] = [
     "line_digit",
     "capture_write",
     "capture_read",
+    "multiframe_build",
+    "multiframe_apart",
+    "finder_fresh",
+    "finder_feed",
 ];
 
 /// All that a call answers and leaves: two outcomes are equal or there is a disagreement.
@@ -75,6 +103,10 @@ impl Call {
             Call::LineDigit(..) => 4,
             Call::CaptureWrite(_) => 5,
             Call::CaptureRead(_) => 6,
+            Call::MultiframeBuild(_) => 7,
+            Call::MultiframeApart(_) => 8,
+            Call::FinderFresh => 9,
+            Call::FinderFeed(_) => 10,
         }
     }
 
@@ -92,6 +124,10 @@ impl Call {
             Call::CaptureRead(_) => {
                 "level, line, its bytes, labelled, label, its bytes, named byte"
             }
+            Call::MultiframeBuild(_) => "named channel",
+            Call::MultiframeApart(_) => "none",
+            Call::FinderFresh => "window, seen, mode, place",
+            Call::FinderFeed(_) => "taken, aligned; window, seen, mode, place",
         }
     }
 
@@ -123,6 +159,21 @@ impl Call {
                 in_short(&with.file)
             ),
             Call::CaptureRead(file) => format!("file {}", in_short(file)),
+            Call::MultiframeBuild(with) | Call::MultiframeApart(with) => format!(
+                "multiframe {}; channels {}; signalling {}; spare {}",
+                in_short(&with.multiframe),
+                in_short(&with.channels),
+                in_short(&with.signalling),
+                in_short(&with.spare)
+            ),
+            Call::FinderFresh => String::new(),
+            Call::FinderFeed(hunt) => format!(
+                "state {:?}; slice {}; first {} count {}",
+                finder_numbers(&hunt.state),
+                in_short(&hunt.slice),
+                hunt.first,
+                hunt.count
+            ),
         }
     }
 
@@ -144,6 +195,12 @@ impl Call {
                 let (refusal, numbers) = read_numbers(file);
                 outcome(refusal, numbers.to_vec(), vec![("file", file.clone())])
             }
+            Call::MultiframeBuild(with) => built(with.clone()),
+            Call::MultiframeApart(with) => taken_apart(with.clone()),
+            Call::FinderFresh => {
+                outcome(0, finder_numbers(&FinderState::default()).to_vec(), vec![])
+            }
+            Call::FinderFeed(hunt) => hunted(hunt),
         }
     }
 }
@@ -183,11 +240,47 @@ fn fed(piece: &Piece) -> Outcome {
     outcome(answer.refusal, numbers, lent)
 }
 
+pub fn finder_numbers(state: &FinderState) -> [u64; 4] {
+    [state.window, state.seen, state.mode, state.place]
+}
+
+fn hunted(hunt: &Hunt) -> Outcome {
+    let answer = finder_feed(&hunt.state, &hunt.slice, hunt.first, hunt.count);
+    let numbers = [answer.taken, u64::from(answer.aligned)];
+    let numbers = [&numbers[..], &finder_numbers(&answer.state)].concat();
+    outcome(answer.refusal, numbers, vec![("slice", hunt.slice.clone())])
+}
+
 fn written(mut with: Writing) -> Outcome {
     let label = (with.labelled != 0).then_some(&with.label[..]);
     let answer = write_capture(with.level, &with.line, label, &mut with.file);
     let lent = vec![("line", with.line), ("label", with.label), ("file", with.file)];
     outcome(answer.refusal, vec![answer.bytes, answer.byte], lent)
+}
+
+fn built(mut with: Whole) -> Outcome {
+    let (refusal, channel) =
+        build_multiframe(&mut with.multiframe, &with.channels, &with.signalling, &with.spare);
+    outcome(refusal, vec![channel], parts(with))
+}
+
+fn taken_apart(mut with: Whole) -> Outcome {
+    let refusal = take_multiframe_apart(
+        &with.multiframe,
+        &mut with.channels,
+        &mut with.signalling,
+        &mut with.spare,
+    );
+    outcome(refusal, vec![], parts(with))
+}
+
+fn parts(with: Whole) -> Vec<(&'static str, Vec<u8>)> {
+    vec![
+        ("multiframe", with.multiframe),
+        ("channels", with.channels),
+        ("signalling", with.signalling),
+        ("spare", with.spare),
+    ]
 }
 
 /// What the reference reads, in the face's order.

@@ -1,6 +1,6 @@
 //! The product's C face, and the calls made through it with guards around all that is lent.
 
-use crate::call::{state_numbers, Call, Lending, Outcome, Piece, Writing};
+use crate::call::{finder_numbers, state_numbers, Call, Hunt, Lending, Outcome, Piece, Whole, Writing};
 
 #[rustfmt::skip]
 extern "C" {
@@ -23,6 +23,20 @@ extern "C" {
         labelled: u64, file: *mut u8, file_bytes: usize, answer: *mut u64,
     ) -> u64;
     pub fn spritbobbin_capture_read(file: *const u8, file_bytes: usize, answer: *mut u64) -> u64;
+    pub fn spritbobbin_multiframe_build(
+        multiframe: *mut u8, multiframe_bytes: usize, channels: *const u8, channels_bytes: usize,
+        signalling: *const u8, signalling_bytes: usize, spare: *const u8, spare_bytes: usize,
+        answer: *mut u64,
+    ) -> u64;
+    pub fn spritbobbin_multiframe_apart(
+        multiframe: *const u8, multiframe_bytes: usize, channels: *mut u8, channels_bytes: usize,
+        signalling: *mut u8, signalling_bytes: usize, spare: *mut u8, spare_bytes: usize,
+    ) -> u64;
+    pub fn spritbobbin_finder_fresh(state: *mut u64) -> u64;
+    pub fn spritbobbin_finder_feed(
+        state: *mut u64, piece: *const u8, piece_bytes: usize, first: u64, count: u64,
+        answer: *mut u64,
+    ) -> u64;
 }
 
 /// What stands in an array of numbers before the call, so that one left unwritten is seen.
@@ -83,6 +97,10 @@ pub fn by_face(call: &Call) -> Outcome {
         Call::LineDigit(line, place) => line_digit(line, *place),
         Call::CaptureWrite(with) => capture_write(with),
         Call::CaptureRead(file) => capture_read(file),
+        Call::MultiframeBuild(with) => multiframe_build(with),
+        Call::MultiframeApart(with) => multiframe_apart(with),
+        Call::FinderFresh => finder_fresh(),
+        Call::FinderFeed(hunt) => finder_feed(hunt),
     }
 }
 
@@ -172,4 +190,56 @@ fn capture_read(file: &[u8]) -> Outcome {
     let refusal =
         unsafe { spritbobbin_capture_read(file.pointer(), file.count(), answer.pointer()) };
     outcome(refusal, &[answer], &[file])
+}
+
+fn multiframe_build(with: &Whole) -> Outcome {
+    let mut multiframe = bytes("multiframe", &with.multiframe);
+    let mut channels = bytes("channels", &with.channels);
+    let mut signalling = bytes("signalling", &with.signalling);
+    let mut spare = bytes("spare", &with.spare);
+    let mut answer = numbers("answer", &[UNWRITTEN; 1]);
+    // Sound as above.
+    let refusal = unsafe {
+        let (m, c) = (multiframe.pointer(), channels.pointer());
+        let (s, x) = (signalling.pointer(), spare.pointer());
+        let (mc, cc, sc, xc) =
+            (multiframe.count(), channels.count(), signalling.count(), spare.count());
+        spritbobbin_multiframe_build(m, mc, c, cc, s, sc, x, xc, answer.pointer())
+    };
+    outcome(refusal, &[answer], &[multiframe, channels, signalling, spare])
+}
+
+fn multiframe_apart(with: &Whole) -> Outcome {
+    let mut multiframe = bytes("multiframe", &with.multiframe);
+    let mut channels = bytes("channels", &with.channels);
+    let mut signalling = bytes("signalling", &with.signalling);
+    let mut spare = bytes("spare", &with.spare);
+    // Sound as above.
+    let refusal = unsafe {
+        let (m, c) = (multiframe.pointer(), channels.pointer());
+        let (s, x) = (signalling.pointer(), spare.pointer());
+        let (mc, cc, sc, xc) =
+            (multiframe.count(), channels.count(), signalling.count(), spare.count());
+        spritbobbin_multiframe_apart(m, mc, c, cc, s, sc, x, xc)
+    };
+    outcome(refusal, &[], &[multiframe, channels, signalling, spare])
+}
+
+fn finder_fresh() -> Outcome {
+    let mut state = numbers("state", &[UNWRITTEN; 4]);
+    // Sound as above.
+    let refusal = unsafe { spritbobbin_finder_fresh(state.pointer()) };
+    outcome(refusal, &[state], &[])
+}
+
+fn finder_feed(hunt: &Hunt) -> Outcome {
+    let mut state = numbers("state", &finder_numbers(&hunt.state));
+    let mut slice = bytes("slice", &hunt.slice);
+    let mut answer = numbers("answer", &[UNWRITTEN; 2]);
+    // Sound as above.
+    let refusal = unsafe {
+        let (s, p, a) = (state.pointer(), slice.pointer(), answer.pointer());
+        spritbobbin_finder_feed(s, p, slice.count(), hunt.first, hunt.count, a)
+    };
+    outcome(refusal, &[answer, state], &[slice])
 }

@@ -3,10 +3,12 @@
 
 use crate::call::read_numbers;
 use crate::face::{self, spritbobbin_capture_read, spritbobbin_capture_write};
-use crate::face::{spritbobbin_demultiplex, spritbobbin_line_digit};
+use crate::face::{spritbobbin_demultiplex, spritbobbin_finder_feed, spritbobbin_line_digit};
 use crate::face::{spritbobbin_multiplex, spritbobbin_receiver_feed, UNWRITTEN};
+use crate::multiframes;
 use crate::Run;
 use reference::{demultiplex, feed, feed_refusal, fresh, length_refusal, line_digit, multiplex};
+use reference::{finder_feed, finder_refusal, FinderState};
 use std::alloc::{alloc_zeroed, dealloc, Layout};
 
 /// 2 to the 32.
@@ -25,6 +27,7 @@ pub fn part(run: &mut Run) {
         println!("now null pointers and lengths that no memory holds (left out by lent-only)");
         null_pointers(run);
         false_lengths(run);
+        multiframes::false_lengths(run);
     }
 }
 
@@ -228,6 +231,9 @@ fn long_piece(run: &mut Run, slice: &[u8]) {
         let expected = feed(&state, slice, first, count);
         let received = raw_feed(slice.as_ptr(), slice.len(), first, count);
         run.expect(3, &inputs, &[expected.refusal, 0, 0, 0], &received);
+        let expected = finder_feed(&FinderState::default(), slice, first, count);
+        let received = raw_hunt(slice.as_ptr(), slice.len(), first, count);
+        run.expect(8, &inputs, &[expected.refusal, 0, 0], &received);
     }
     for place in [0, 1 << 32, 1 << 35, u64::MAX] {
         // Sound as above.
@@ -248,6 +254,19 @@ fn raw_feed(piece: *const u8, piece_bytes: usize, first: u64, count: u64) -> Vec
     };
     let kept = state.inner() == FRESH && frame.inner() == [0; 366];
     let written = if kept { &[][..] } else { &[UNWRITTEN] };
+    [&[refusal], answer.inner(), written].concat()
+}
+
+/// The same for the finder.
+fn raw_hunt(piece: *const u8, piece_bytes: usize, first: u64, count: u64) -> Vec<u64> {
+    let mut state = face::numbers("state", &[0; 4]);
+    let mut answer = face::numbers("answer", &[UNWRITTEN; 2]);
+    // Sound as above.
+    let refusal = unsafe {
+        let (s, a) = (state.pointer(), answer.pointer());
+        spritbobbin_finder_feed(s, piece, piece_bytes, first, count, a)
+    };
+    let written = if state.inner() == [0; 4] { &[][..] } else { &[UNWRITTEN] };
     [&[refusal], answer.inner(), written].concat()
 }
 
@@ -279,6 +298,8 @@ fn null_pointers(run: &mut Run) {
     for (first, count) in [(0, 0), (0, 1), (1, 0), (u64::MAX, 1)] {
         let expected = [feed_refusal(&fresh(2).1, 0, first, count), 0, 0, 0];
         run.expect(3, "null piece", &expected, &raw_feed(null, 0, first, count));
+        let expected = [finder_refusal(&FinderState::default(), 0, first, count), 0, 0];
+        run.expect(8, "null piece", &expected, &raw_hunt(null, 0, first, count));
         // Sound as above.
         let digit = unsafe { spritbobbin_line_digit(null, 0, first) };
         run.expect(4, "null line", &[2], &[digit]);
@@ -303,6 +324,9 @@ fn false_lengths(run: &mut Run) {
         let expected = [feed_refusal(&fresh(2).1, long, 0, 8), 0, 0, 0];
         let fed = raw_feed(memory.as_ptr(), long as usize, 0, 8);
         run.expect(3, &format!("slice of {long} bytes"), &expected, &fed);
+        let expected = [finder_refusal(&FinderState::default(), long, 0, 8), 0, 0];
+        let hunted = raw_hunt(memory.as_ptr(), long as usize, 0, 8);
+        run.expect(8, &format!("slice of {long} bytes"), &expected, &hunted);
         // Sound as there.
         let digit = unsafe { spritbobbin_line_digit(memory.as_ptr(), long as usize, 0) };
         run.expect(4, &format!("line of {long} bytes"), &[2], &[digit]);

@@ -12,7 +12,9 @@
 mod call;
 mod captures;
 mod face;
+mod finder;
 mod lengths;
+mod multiframes;
 mod multiplexing;
 mod receiver;
 
@@ -27,7 +29,7 @@ pub struct Run {
     lent_only: bool,
     trace: bool,
     random: Random,
-    calls: [u64; 7],
+    calls: [u64; 9],
 }
 
 impl Run {
@@ -96,7 +98,7 @@ fn print_difference(name: &str, ours: &[u8], theirs: &[u8]) {
 }
 
 fn arguments() -> Run {
-    let (seed, calls) = (1, [0; 7]);
+    let (seed, calls) = (1, [0; 9]);
     let random = Random::new(seed);
     let mut run = Run { seed, times: 1, lent_only: false, trace: false, random, calls };
     for argument in std::env::args().skip(1) {
@@ -125,6 +127,8 @@ fn main() {
         multiplexing::part(&mut run);
         receiver::part(&mut run);
         captures::part(&mut run);
+        multiframes::part(&mut run);
+        finder::part(&mut run);
     }
     lengths::part(&mut run);
     println!("{}; no disagreement", run.summary());

@@ -1,0 +1,5 @@
+pub mod Modes
+pub mod Feed
+pub mod Hurry
+pub mod History
+pub mod Line

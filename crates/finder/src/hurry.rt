@@ -1,0 +1,111 @@
+// Digits in a hurry: those that do no more than move the window and the place. The digit at which a rule looks and finds something, or the last
+// one, is left to `step`.
+use crate::Mode;
+use crate::State;
+use crate::modes;
+ghost use mathlib.Core.Path.{_≡_};
+ghost use mathlib.Core.Bool.{true, false};
+ghost use Prim.Native.Nat.{_+_, _*_, _-_, _^_, _<_, _≤_, min};
+ghost use lib.ListN.{length};
+ghost use Rattle.digits.specs.Runs.{pieceOf};
+ghost use Rattle.finder.specs.Modes.{hunting};
+ghost use Rattle.finder.specs.Feed.{Valid};
+ghost use Rattle.finder.specs.Hurry.{stillHunting, windowOver, Hurried};
+
+// The state, and the place of the next digit in the piece.
+pub struct Hurry {
+    pub state: State,
+    pub at: usize,
+}
+
+// A state that hunts after so many digits, of which all but seven are forgotten.
+fn still_hunting(window: usize, came: usize) -> State
+    ensures { λ r. ⌜ r ≡ stillHunting window came ⌝ }
+{
+    State {
+        window,
+        seen: lesser(came, 7),
+        mode: Mode::Hunting,
+        place: 0,
+    }
+}
+
+fn lesser(a: usize, b: usize) -> usize
+    ensures { λ r. ⌜ r ≡ min a b ⌝ }
+{
+    if a <= b {
+        return a;
+    }
+    b
+}
+
+// The hunt: takes digits while the window is not the word.
+fn hunt_on(s: State, piece: &[u8], first: usize, end: usize) -> Hurry
+    requires { ⌜ Valid s × (hunting (s .mode) ≡ true) × (length (now piece) ≤ 65536) × (first < end) × (end ≤ 8 * length (now piece)) ⌝ }
+    ensures { λ r. ⌜ Hurried (now (piece .entry)) end first s (r .at) (r .state) ⌝ }
+{
+    let seen = s.seen;
+    let last = end - 1;
+    let mut window = s.window;
+    let mut at = first;
+    while at < last {
+        let next = modes::window_of(window, digits::digit_at(piece, at));
+        if modes::is_good(next) {
+            return Hurry {
+                state: still_hunting(window, seen + (at - first)),
+                at,
+            };
+        }
+        window = next;
+        at += 1;
+    }
+    Hurry {
+        state: still_hunting(window, seen + (at - first)),
+        at,
+    }
+}
+
+// The window after the digits from one place to another.
+fn window_over(window: usize, piece: &[u8], from: usize, to: usize) -> usize
+    requires { ⌜ (window < 2 ^ 7) × (length (now piece) ≤ 65536) × (from ≤ to) × (to ≤ 8 * length (now piece)) ⌝ }
+    ensures { λ r. ⌜ r ≡ windowOver window (pieceOf (now (piece .entry)) from (to - from)) ⌝ }
+{
+    let mut w = window;
+    let mut at = from;
+    while at < to {
+        w = modes::window_of(w, digits::digit_at(piece, at));
+        at += 1;
+    }
+    w
+}
+
+// Outside hunting: goes to the digit before the check at once. Of the digits on the way the window keeps the last seven.
+fn carry_on(s: State, piece: &[u8], first: usize, end: usize) -> Hurry
+    requires { ⌜ Valid s × (hunting (s .mode) ≡ false) × (length (now piece) ≤ 65536) × (first < end) × (end ≤ 8 * length (now piece)) ⌝ }
+    ensures { λ r. ⌜ Hurried (now (piece .entry)) end first s (r .at) (r .state) ⌝ }
+{
+    let mode = s.mode;
+    let n = lesser(modes::check_at(mode) - 1 - s.place, end - 1 - first);
+    let at = first + n;
+    let window = window_over(s.window, piece, at - lesser(n, 7), at);
+    Hurry {
+        state: State {
+            window,
+            seen: s.seen,
+            mode,
+            place: s.place + n,
+        },
+        at,
+    }
+}
+
+pub fn hurry_on(s: State, piece: &[u8], first: usize, end: usize) -> Hurry
+    requires { ⌜ Valid s × (length (now piece) ≤ 65536) × (first < end) × (end ≤ 8 * length (now piece)) ⌝ }
+    ensures { λ r. ⌜ Hurried (now (piece .entry)) end first s (r .at) (r .state) ⌝ }
+{
+    let mode = s.mode;
+    if crate::is_hunting(mode) {
+        return hunt_on(s, piece, first, end);
+    }
+    carry_on(s, piece, first, end)
+}

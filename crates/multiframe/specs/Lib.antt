@@ -1,0 +1,4 @@
+pub mod Multiframe
+pub mod Calls
+pub mod Steps
+pub mod Trips
