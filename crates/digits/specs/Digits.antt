@@ -54,3 +54,13 @@ unfoldable pub differing : List ℕ → List ℕ → ℕ
 differing [] es = 0
 differing (d ∷ ds) [] = 0
 differing (d ∷ ds) (e ∷ es) = cond (eqb d e) 0 1 + differing ds es
+
+-- the k digits from place p on as a number, the newest digit worth 1
+unfoldable pub windowAt : List ℕ → ℕ → ℕ → ℕ
+windowAt ds p zero = 0
+windowAt ds p (suc k) = windowAt ds p k * 2 + getD ds (p + k) 0
+
+-- the number w written with k digits, first digit first
+unfoldable pub written : ℕ → ℕ → List ℕ
+written zero w = []
+written (suc k) w = w / 2 ^ k % 2 ∷ written k w

@@ -1,0 +1,29 @@
+use Prim.Native.Nat.{_+_}
+use Rattle.digits.specs.Digits.{Bytes}
+use Rattle.words.proofs.Loads.{load-four}
+use native.Mathlib.Omega.{arith}
+use borrow.Author.Needs.{needs}
+use Rattle.words.proofs.load4.Statement.{statement}
+use Rattle.words.proofs.load4.Tie as tie
+
+-- src/lib.rt:35:10
+join-requires-2 : tie.Need-join-requires-2
+join-requires-2 c κs = omega (arith, c .before .join .ensures, c .before .before .before .wide .ensures, c .before .before .shared-slice-known3 .given (c .before .before .before .before .before .before .args .at + 1))
+
+-- src/lib.rt:35:5
+join-requires-3 : tie.Need-join-requires-3
+join-requires-3 c κs =
+    omega (arith, c .before .join2 .ensures, c .before .before .before .join .ensures, c .before .before .before .before .before .wide .ensures, c .before .before .shared-slice-known4 .given (c .before .before .before .before .before .before .before .before .args .at + 1), c .before .before .shared-slice-known4 .given (c .before .before .before .before .before .before .before .before .args .at + 2))
+
+-- src/lib.rt:31:1
+returns : tie.Need-returns
+returns c =
+    let b = c .before .before .before .before .before .before .before .before .before in
+    let bytes : Bytes (b .args .s .now) = λ i. omega (arith, c .before .shared-slice-known5 .given i) in
+    load-four (b .args .s .now) (b .args .at) _ _ _ _ bytes (c .before .before .before .before .before .before .wide .ensures .0) (c .before .before .before .before .join .ensures) (c .before .before .join2 .ensures) (c .join3 .ensures)
+
+pub load4-spec : {M : Type 1} → statement M
+load4-spec =
+    tie.close
+    (tie.spec (λ c. search needs) (λ c κs. search needs) (λ c. search needs) (λ c. search needs) (λ c κs. search needs) (λ c. search needs)
+    (λ c. search needs) join-requires-2 (λ c. search needs) (λ c. search needs) join-requires-3 returns)
