@@ -3,7 +3,7 @@ use mathlib.Core.Path.{_≡_, refl, sym, ap, ap₂, _∙_}
 use mathlib.Core.List.{List, [], _∷_, _++_, append-assoc, append-nil}
 use Prim.Native.Nat.{ℕ, zero, suc, _+_, _-_, _*_, _/_, _%_, _^_, _≤_, _<_}
 use native.Mathlib.Omega.{arith}
-use native.Mathlib.Nat.{zero-add, suc-add, div-one, mod-lt}
+use native.Mathlib.Nat.{add-zero, zero-add, suc-add}
 use lib.ListN.{length, getD, set, take, drop, length-append}
 use lib.Seq.{sets, sets-eq, length-take-le, take-at, drop-at, take-take, take-nil, drop-drop, drop-append-le}
 use lib.Arith.{digits-lt}
@@ -11,9 +11,9 @@ use lib.Bits.{bitOr, bitAnd, or-shifted, and-mask, mask-lt}
 use lib.Pow.{shr-shr, field, mod-mod-pow, pow-pos, pow-add, high, low, shl-exact}
 use Rattle.digits.specs.Digits.{digitsOf, written}
 use Rattle.digits.proofs.Laws.{digits-append}
-use Rattle.digits.proofs.Written.{written-mod, written-split, written-cat, byte-written}
+use Rattle.digits.proofs.Written.{written-zero, written-mod, written-split, written-cat, byte-written}
 use Rattle.words.specs.declared.Writer.{Writer}
-use Rattle.words.specs.Words.{four, Ready, outFrom, Appended}
+use Rattle.words.specs.Words.{four, Ready, outFrom, Appended, zerosAfter, Finished}
 
 pub four-written : (w : ℕ) → digitsOf (four w) ≡ written 32 w
 unfolding digitsOf
@@ -31,6 +31,47 @@ stored-four l at out b₀ b₁ b₂ b₃ e₀ e₁ e₂ e₃ =
     let i₃ : at + 3 ≡ suc (suc (suc at)) = omega arith in
     rw (e₀, e₁, e₂, e₃, i₁, i₂, i₃)
 
+-- all that a writer does: it stores bytes, and holds what is left. The digits stored and held are those held before, then the new ones
+module _ (old : List ℕ) (w r : Writer) (bs : List ℕ) (n : ℕ) (ds : List ℕ) (room : w .at + length bs ≤ length old) where
+  abbrev front : List ℕ
+  front = take (w .at) old
+
+  abbrev pub new : List ℕ
+  new = sets old (w .at) bs
+
+  new-is : new ≡ front ++ bs ++ drop (w .at + length bs) old
+  new-is = sets-eq bs old (w .at) room
+
+  front-length : length front ≡ w .at
+  front-length = length-take-le (w .at) old (omega arith)
+
+  through-length : length (front ++ bs) ≡ w .at + length bs
+  through-length = length-append front bs ∙ rw front-length
+
+  through : take (w .at + length bs) new ≡ front ++ bs
+  through = rw new-is (take-at (front ++ bs) (drop (w .at + length bs) old) (w .at + length bs) through-length)
+
+  pub stored : r .at ≡ w .at + length bs → Ready (r .fill) (r .held) → 8 * length bs + r .fill ≡ w .fill + n
+      → digitsOf bs ++ written (r .fill) (r .held) ≡ written (w .fill) (w .held) ++ ds
+      → Appended old new w r n ds
+  unfolding outFrom
+  stored at ready place same =
+      record {
+        ready = ready;
+        forward = omega arith;
+        place = omega arith;
+        out = λ start l.
+            let before = digitsOf (drop start front) in
+            rw (at, through, drop-append-le start front bs (omega (arith, front-length)), digits-append (drop start front) bs)
+            (append-assoc before (digitsOf bs) (written (r .fill) (r .held))
+            ∙ ap (λ (es : List ℕ). before ++ es) same
+            ∙ sym (append-assoc before (written (w .fill) (w .held)) ds));
+        front =
+            sym (take-take (w .at) (w .at + length bs) new (omega arith)) ∙ rw through (take-at front bs (w .at) front-length);
+        back = rw (at, new-is) (drop-at (front ++ bs) (drop (w .at + length bs) old) (w .at + length bs) through-length);
+      }
+
+-- n digits more come to those held
 module _ (old : List ℕ) (w : Writer) (n word : ℕ) (ready : Ready (w .fill) (w .held)) (few : n ≤ 32) (fits : word < 2 ^ n) where
   abbrev pub all : ℕ
   all = w .held * 2 ^ n + word
@@ -45,63 +86,58 @@ module _ (old : List ℕ) (w : Writer) (n word : ℕ) (ready : Ready (w .fill) (
   all-fits : all < 2 ^ (w .fill + n)
   all-fits = rw (pow-add 2 (w .fill) n) (digits-lt (ready .fits) fits)
 
-  -- the digits stay held
-  pub put-held : w .fill + n < 32 → Appended old old w (record { at = w .at; held = bitOr (w .held * 2 ^ n % 2 ^ 64) word; fill = w .fill + n }) n (written n word)
-  unfolding outFrom
-  put-held h =
+  -- they stay held
+  pub put-held : w .fill + n < 32 → w .at ≤ length old
+      → Appended old old w (record { at = w .at; held = bitOr (w .held * 2 ^ n % 2 ^ 64) word; fill = w .fill + n }) n (written n word)
+  unfolding digitsOf
+  put-held h room =
       rw all-is
-      (record {
-        ready = record { few = h; fits = all-fits };
-        forward = omega arith;
-        place = refl;
-        out = λ start l. rw all-written (sym (append-assoc (digitsOf (drop start (take (w .at) old))) (written (w .fill) (w .held)) (written n word)));
-        front = refl;
-        back = refl;
-      })
+      (stored old w (record { at = w .at; held = all; fill = w .fill + n }) [] n (written n word) (omega arith) (omega arith)
+      (record { few = h; fits = all-fits }) (omega arith) all-written)
 
-  -- four bytes are stored
+  -- or four bytes are stored
   module _ (h : 32 ≤ w .fill + n) (room : w .at + 4 ≤ length old) where
-    abbrev pub rest : ℕ
+    abbrev rest : ℕ
     rest = w .fill + n - 32
 
-    abbrev pub new : List ℕ
-    new = sets old (w .at) (four (all / 2 ^ rest))
-
-    new-is : new ≡ take (w .at) old ++ four (all / 2 ^ rest) ++ drop (w .at + 4) old
-    new-is = sets-eq (four (all / 2 ^ rest)) old (w .at) room
-
-    front-length : length (take (w .at) old) ≡ w .at
-    front-length = length-take-le (w .at) old (omega arith)
-
-    through : take (w .at + 4) new ≡ take (w .at) old ++ four (all / 2 ^ rest)
-    through =
-        rw new-is
-        (take-at (take (w .at) old ++ four (all / 2 ^ rest)) (drop (w .at + 4) old) (w .at + 4)
-        (length-append (take (w .at) old) (four (all / 2 ^ rest)) ∙ rw front-length))
-
-    pub put-stored : Appended old new w (record { at = w .at + 4; held = bitAnd all (2 ^ rest - 1); fill = rest }) n (written n word)
-    unfolding outFrom
-    put-stored =
-        let last : written rest (bitAnd all (2 ^ rest - 1)) ≡ written rest all = rw (and-mask all rest) (written-mod rest rest all (omega arith)) in
+    both : digitsOf (four (all / 2 ^ rest)) ++ written rest (bitAnd all (2 ^ rest - 1)) ≡ written (w .fill) (w .held) ++ written n word
+    both =
         let whole : 32 + rest ≡ w .fill + n = omega arith in
-        let both : written 32 (all / 2 ^ rest) ++ written rest all ≡ written (w .fill) (w .held) ++ written n word =
-        sym (written-split 32 rest all) ∙ rw whole all-written in
-        record {
-          ready = record { few = omega (arith, ready .few); fits = mask-lt all rest };
-          forward = omega arith;
-          place = omega arith;
-          out = λ start l.
-              let front = digitsOf (drop start (take (w .at) old)) in
-              rw (last, through, drop-append-le start (take (w .at) old) (four (all / 2 ^ rest)) (omega (arith, front-length)), digits-append (drop start (take (w .at) old)) (four (all / 2 ^ rest)), four-written (all / 2 ^ rest))
-              (append-assoc front (written 32 (all / 2 ^ rest)) (written rest all) ∙ ap (λ (ds : List ℕ). front ++ ds) both ∙ sym (append-assoc front (written (w .fill) (w .held)) (written n word)));
-          front = sym (take-take (w .at) (w .at + 4) new (omega arith)) ∙ rw through (take-at (take (w .at) old) (four (all / 2 ^ rest)) (w .at) front-length);
-          back = rw new-is (drop-at (take (w .at) old ++ four (all / 2 ^ rest)) (drop (w .at + 4) old) (w .at + 4) (length-append (take (w .at) old) (four (all / 2 ^ rest)) ∙ rw front-length));
-        }
+        rw (four-written (all / 2 ^ rest), and-mask all rest, written-mod rest rest all (omega arith))
+        (sym (written-split 32 rest all) ∙ rw whole all-written)
 
-    -- the same of what the program has
-    pub put-more : (raw mask : ℕ) (new′ : List ℕ) → raw ≡ all → mask ≡ 2 ^ rest - 1 → new′ ≡ sets old (w .at) (four (raw / 2 ^ rest))
-        → Appended old new′ w (record { at = w .at + 4; held = bitAnd raw mask; fill = rest }) n (written n word)
-    put-more raw mask new′ e m s = rw (s, e, m) put-stored
+    -- in what the program has
+    pub put-stored : (raw mask : ℕ) (new : List ℕ) → raw ≡ all → mask ≡ 2 ^ rest - 1 → new ≡ sets old (w .at) (four (raw / 2 ^ rest))
+        → Appended old new w (record { at = w .at + 4; held = bitAnd raw mask; fill = rest }) n (written n word)
+    put-stored raw mask new e m s =
+        rw (s, e, m)
+        (stored old w (record { at = w .at + 4; held = bitAnd all (2 ^ rest - 1); fill = rest }) (four (all / 2 ^ rest)) n (written n word)
+        room refl (record { few = omega (arith, ready .few); fits = mask-lt all rest }) (omega arith) both)
+
+one-written : (w : ℕ) → digitsOf (w % 256 ∷ []) ≡ written 8 w
+unfolding digitsOf
+one-written w = sym (byte-written w)
+
+-- the first eight digits held are stored as a byte
+pub byte-stored : (old : List ℕ) (w : Writer) (byte mask : ℕ) (new : List ℕ) → Ready (w .fill) (w .held) → 8 ≤ w .fill → w .at < length old
+    → byte ≡ w .held / 2 ^ (w .fill - 8) % 256 → mask ≡ 2 ^ (w .fill - 8) - 1 → new ≡ set old (w .at) byte
+    → Appended old new w (record { at = w .at + 1; held = bitAnd (w .held) mask; fill = w .fill - 8 }) 0 []
+byte-stored old w byte mask new ready some room b m s =
+    rw (s, b, m)
+    (stored old w (record { at = w .at + 1; held = bitAnd (w .held) (2 ^ rest - 1); fill = rest }) (first ∷ []) 0 [] (omega arith) refl
+    (record { few = omega (arith, ready .few); fits = mask-lt (w .held) rest }) (omega arith) same)
+  where
+    rest : ℕ
+    rest = w .fill - 8
+
+    first : ℕ
+    first = w .held / 2 ^ rest % 256
+
+    same : digitsOf (first ∷ []) ++ written rest (bitAnd (w .held) (2 ^ rest - 1)) ≡ written (w .fill) (w .held) ++ []
+    same =
+        let whole : 8 + rest ≡ w .fill = omega arith in
+        rw (one-written (w .held / 2 ^ rest), and-mask (w .held) rest, written-mod rest rest (w .held) (omega arith), append-nil (written (w .fill) (w .held)))
+        (sym (written-split 8 rest (w .held)) ∙ rw whole)
 
 -- nothing is n = 0 digits more; and more after more
 pub appended-none : (s : List ℕ) (w : Writer) → Ready (w .fill) (w .held) → Appended s s w w 0 []
@@ -157,3 +193,11 @@ after-stays {old} {new} {w} {r} {n} {ds} a l start v h k = rw (part new, part ol
 
     later : (s : List ℕ) → drop start s ≡ drop (start - r .at) (drop (r .at) s)
     later s = let e : start ≡ r .at + (start - r .at) = omega arith in ap (λ (m : ℕ). drop m s) e ∙ sym (drop-drop (start - r .at) (r .at) s)
+
+-- zeros up to the byte's end, then whole bytes out of what is held
+pub finished : (old mid new : List ℕ) (w r q : Writer) → Appended old mid w r (zerosAfter (w .fill)) (written (zerosAfter (w .fill)) 0) → Appended mid new r q 0 []
+    → q .fill ≡ 0 → Finished old new w q
+finished old mid new w r q one two e =
+    let n = zerosAfter (w .fill) in
+    let all : Appended old new w q (n + 0) (written n 0 ++ []) = appended-more one two in
+    record { appended = rw (add-zero n, append-nil (written n 0), written-zero n) at all; none-held = e }

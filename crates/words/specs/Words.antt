@@ -2,7 +2,7 @@
 use mathlib.Core.Path.{_≡_}
 use mathlib.Core.List.{List, [], _∷_, _++_}
 use Prim.Native.Nat.{ℕ, zero, suc, _+_, _*_, _-_, _/_, _%_, _^_, _<_, _≤_}
-use lib.ListN.{length, getD, take, drop}
+use lib.ListN.{take, drop, replicate}
 use Rattle.digits.specs.Digits.{digitsOf, written}
 use Rattle.words.specs.declared.Writer.{Writer}
 
@@ -27,3 +27,12 @@ pub record Appended (old new : List ℕ) (w r : Writer) (n : ℕ) (ds : List ℕ
   pub out : (start : ℕ) → start ≤ w .at → outFrom start new r ≡ outFrom start old w ++ ds
   pub front : take (w .at) new ≡ take (w .at) old
   pub back : drop (r .at) new ≡ drop (r .at) old
+
+-- the zeros up to the end of the byte in which so many digits end
+abbrev pub zerosAfter : ℕ → ℕ
+zerosAfter fill = (8 - fill % 8) % 8
+
+-- zeros up to the end of the byte, and nothing is held any more
+pub record Finished (old new : List ℕ) (w r : Writer) : Type 0 where
+  pub appended : Appended old new w r (zerosAfter (w .fill)) (replicate (zerosAfter (w .fill)) 0)
+  pub none-held : r .fill ≡ 0

@@ -6,7 +6,6 @@ use borrow.Author.Needs.{needs}
 use Rattle.words.proofs.join.Statement.{statement}
 use Rattle.words.proofs.join.Tie as tie
 
--- src/lib.rt:23:1
 returns : tie.Need-returns
 returns c =
     let hi = c .before .args .hi in

@@ -6,16 +6,13 @@ use borrow.Author.Needs.{needs}
 use Rattle.words.proofs.load4.Statement.{statement}
 use Rattle.words.proofs.load4.Tie as tie
 
--- src/lib.rt:35:10
 join-requires-2 : tie.Need-join-requires-2
 join-requires-2 c κs = omega (arith, c .before .join .ensures, c .before .before .before .wide .ensures, c .before .before .shared-slice-known3 .given (c .before .before .before .before .before .before .args .at + 1))
 
--- src/lib.rt:35:5
 join-requires-3 : tie.Need-join-requires-3
 join-requires-3 c κs =
     omega (arith, c .before .join2 .ensures, c .before .before .before .join .ensures, c .before .before .before .before .before .wide .ensures, c .before .before .shared-slice-known4 .given (c .before .before .before .before .before .before .before .before .args .at + 1), c .before .before .shared-slice-known4 .given (c .before .before .before .before .before .before .before .before .args .at + 2))
 
--- src/lib.rt:31:1
 returns : tie.Need-returns
 returns c =
     let b = c .before .before .before .before .before .before .before .before .before in

@@ -3,7 +3,6 @@ use borrow.Author.Needs.{needs}
 use Rattle.words.proofs.load8.Statement.{statement}
 use Rattle.words.proofs.load8.Tie as tie
 
--- src/lib.rt:38:1
 returns : tie.Need-returns
 returns c =
     let b = c .before .before .before in

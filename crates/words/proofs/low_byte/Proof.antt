@@ -6,11 +6,9 @@ use mir.ValLaws.{fits-wrap}
 use Rattle.words.proofs.low_byte.Statement.{statement}
 use Rattle.words.proofs.low_byte.Tie as tie
 
--- src/lib.rt:74:5
 cast-result : tie.Need-cast-result
 cast-result c = subst (Fits w8) (sym (and-mask (c .args .x) 8)) (fits-wrap w8 (c .args .x))
 
--- src/lib.rt:71:1
 returns : tie.Need-returns
 returns c = and-mask (c .args .x) 8
 

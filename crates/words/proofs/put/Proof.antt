@@ -1,20 +1,18 @@
 use native.Mathlib.Omega.{arith}
-use Rattle.words.proofs.Writing.{put-held, put-more, all-is}
+use Rattle.words.proofs.Writing.{put-held, put-stored, all-is}
 use borrow.Author.Needs.{needs}
 use Rattle.words.proofs.put.Statement.{statement}
 use Rattle.words.proofs.put.Tie as tie
 
--- src/lib.rt:105:9
 returns : tie.Need-returns
 returns c =
     let b = c .before .before .before .before in
-    put-held (b .args .s .now) (b .args .w) (b .args .n) (b .args .word) (b .pre .0) (b .pre .1) (b .pre .2) (c .if1 .taken)
+    put-held (b .args .s .now) (b .args .w) (b .args .n) (b .args .word) (b .pre .0) (b .pre .1) (b .pre .2) (c .if1 .taken) (omega arith)
 
--- src/lib.rt:97:1
 returns-2 : tie.Need-returns-2
 returns-2 c =
     let b = c .before .before .before .before .before .before .before .before .before in
-    put-more (b .args .s .now) (b .args .w) (b .args .n) (b .args .word) (b .pre .0) (b .pre .1) (b .pre .2) (c .before .before .before .before .before .if1 .left) (omega arith) _ (c .ones .result) (c .before .before .before .store4 .last .0)
+    put-stored (b .args .s .now) (b .args .w) (b .args .n) (b .args .word) (b .pre .0) (b .pre .1) (b .pre .2) (c .before .before .before .before .before .if1 .left) (omega arith) _ (c .ones .result) (c .before .before .before .store4 .last .0)
     (all-is (b .args .s .now) (b .args .w) (b .args .n) (b .args .word) (b .pre .0) (b .pre .1) (b .pre .2)) (c .ones .ensures) (c .before .before .before .store4 .ensures)
 
 pub put-spec : {M : Type 1} → statement M

@@ -7,11 +7,9 @@ use borrow.Author.Needs.{needs}
 use Rattle.words.proofs.read_digits.Statement.{statement}
 use Rattle.words.proofs.read_digits.Tie as tie
 
--- src/lib.rt:66:17
 shr-result : tie.Need-shr-result
 shr-result c = omega arith
 
--- src/lib.rt:66:9
 returns : tie.Need-returns
 returns c =
     let b = c .before .before .before .before in

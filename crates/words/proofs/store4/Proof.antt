@@ -5,19 +5,15 @@ use borrow.Author.Needs.{needs}
 use Rattle.words.proofs.store4.Statement.{statement}
 use Rattle.words.proofs.store4.Tie as tie
 
--- src/lib.rt:83:5
 slice-write-s-2 : tie.Need-slice-write-s-2
 slice-write-s-2 c = rw length-set (omega arith)
 
--- src/lib.rt:84:5
 slice-write-s-3 : tie.Need-slice-write-s-3
 slice-write-s-3 c = rw (length-set, length-set) (omega arith)
 
--- src/lib.rt:85:5
 slice-write-s-4 : tie.Need-slice-write-s-4
 slice-write-s-4 c = rw (length-set, length-set, length-set) (omega arith)
 
--- src/lib.rt:78:1
 returns : tie.Need-returns
 returns c =
     let b = c .before .before .before .before .before in
