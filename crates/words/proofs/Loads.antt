@@ -11,16 +11,17 @@ use Rattle.digits.proofs.Laws.{digits-binary}
 use Rattle.digits.proofs.Windows.{window-lt, window-cat, window-first, window-last, byte-window, next-byte}
 
 -- n digits out of 64 that begin at a byte: shifted down, and cut off above
-pub window-part : (bs : List ℕ) (p n : ℕ) → n ≤ 32
-    → bitAnd (windowAt (digitsOf bs) (8 * (p / 8)) 64 / 2 ^ (64 - (p % 8 + n))) (2 ^ n - 1) ≡ windowAt (digitsOf bs) p n
-window-part bs p n h =
+pub window-part : (bs : List ℕ) (at p n : ℕ) → 8 * at ≤ p → p + n ≤ 8 * at + 64
+    → bitAnd (windowAt (digitsOf bs) (8 * at) 64 / 2 ^ (64 - (p - 8 * at + n))) (2 ^ n - 1) ≡ windowAt (digitsOf bs) p n
+window-part bs at p n lo hi =
     let ds = digitsOf bs in
-    let rest = 64 - (p % 8 + n) in
-    let whole : 64 ≡ p % 8 + n + rest = omega arith in
-    let first : windowAt ds (8 * (p / 8)) 64 / 2 ^ rest ≡ windowAt ds (8 * (p / 8)) (p % 8 + n) =
-    ap (λ (k : ℕ). windowAt ds (8 * (p / 8)) k / 2 ^ rest) whole ∙ window-first ds (digits-binary bs) (8 * (p / 8)) (p % 8 + n) rest in
-    let here : 8 * (p / 8) + p % 8 ≡ p = omega arith in
-    rw (and-mask (windowAt ds (8 * (p / 8)) 64 / 2 ^ rest) n, first, window-last ds (digits-binary bs) (8 * (p / 8)) (p % 8) n, here)
+    let k = p - 8 * at in
+    let rest = 64 - (k + n) in
+    let whole : 64 ≡ k + n + rest = omega arith in
+    let first : windowAt ds (8 * at) 64 / 2 ^ rest ≡ windowAt ds (8 * at) (k + n) =
+    ap (λ (m : ℕ). windowAt ds (8 * at) m / 2 ^ rest) whole ∙ window-first ds (digits-binary bs) (8 * at) (k + n) rest in
+    let here : 8 * at + k ≡ p = omega arith in
+    rw (and-mask (windowAt ds (8 * at) 64 / 2 ^ rest) n, first, window-last ds (digits-binary bs) (8 * at) k n, here)
 
 -- four bytes, joined one after the other
 pub load-four : (bs : List ℕ) (at r₀ r₁ r₂ r₃ : ℕ) → Bytes bs → r₀ ≡ getD bs at 0 → r₁ ≡ r₀ * 256 + getD bs (at + 1) 0

@@ -181,7 +181,8 @@ before-stays {old} {new} {w} {r} {n} {ds} a start v h =
     sym (take-take (v .at) (w .at) new h) ∙ ap (take (v .at)) (a .front) ∙ take-take (v .at) (w .at) old h in
     rw same
 
-pub after-stays : {old new : List ℕ} {w r : Writer} {n : ℕ} {ds : List ℕ} → Appended old new w r n ds → length new ≡ length old → (start : ℕ) (v : Writer) → r .at ≤ start → start ≤ v .at
+pub after-stays : {old new : List ℕ} {w r : Writer} {n : ℕ} {ds : List ℕ} → Appended old new w r n ds → length new ≡ length old
+    → (start : ℕ) (v : Writer) → r .at ≤ start → start ≤ v .at
     → outFrom start new v ≡ outFrom start old v
 unfolding outFrom
 after-stays {old} {new} {w} {r} {n} {ds} a l start v h k = rw (part new, part old, later new, later old, a .back)

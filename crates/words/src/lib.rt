@@ -46,9 +46,9 @@ fn load8(s: &[u8], at: usize) -> u64
     (load4(s, at) << 32) | load4(s, at + 4)
 }
 
-// n digits from place p on, digit by digit: for the end of a slice, where there are no eight bytes to load.
-fn read_last(s: &[u8], p: usize, n: usize) -> u64
-    requires { ⌜ (p + n ≤ 8 * length (now s)) × (n ≤ 32) × (p < 2 ^ 32) ⌝ }
+// n digits from place p on, digit by digit: for a slice of fewer than eight bytes.
+fn read_short(s: &[u8], p: usize, n: usize) -> u64
+    requires { ⌜ (p + n ≤ 8 * length (now s)) × (n ≤ 32) × (length (now s) < 8) ⌝ }
     ensures { λ r. ⌜ (r ≡ windowAt (digitsOf (now (s .entry))) p n) × (r < 2 ^ n) ⌝ }
 {
     let mut r: u64 = 0;
@@ -60,16 +60,28 @@ fn read_last(s: &[u8], p: usize, n: usize) -> u64
     r
 }
 
+// From which byte on to load eight, in a slice of so many, so that up to 32 digits from place p on are among them: at the slice's end
+// the last eight.
+fn load_from(bytes: usize, p: usize) -> usize
+    requires { ⌜ 8 ≤ bytes ⌝ }
+    ensures { λ at. ⌜ (at + 8 ≤ bytes) × (8 * at ≤ p) × ((n : ℕ) → n ≤ 32 → p + n ≤ 8 * bytes → p + n ≤ 8 * at + 64) ⌝ }
+{
+    if p / 8 + 8 <= bytes {
+        return p / 8;
+    }
+    bytes - 8
+}
+
 // n digits from place p on, at most 32, as a number: the last of them is worth 1. The slice may have any length.
 pub fn read_digits(s: &[u8], p: usize, n: usize) -> u64
-    requires { ⌜ (p + n ≤ 8 * length (now s)) × (0 < n) × (n ≤ 32) × (p < 2 ^ 32) ⌝ }
+    requires { ⌜ (p + n ≤ 8 * length (now s)) × (0 < n) × (n ≤ 32) ⌝ }
     ensures { λ r. ⌜ (r ≡ windowAt (digitsOf (now (s .entry))) p n) × (r < 2 ^ n) ⌝ }
 {
-    let at = p / 8;
-    if at + 8 <= s.len() {
-        return (load8(s, at) >> (64 - (p % 8 + n))) & ones(n);
+    if s.len() < 8 {
+        return read_short(s, p, n);
     }
-    read_last(s, p, n)
+    let at = load_from(s.len(), p);
+    (load8(s, at) >> (64 - (p - 8 * at + n))) & ones(n)
 }
 
 // The last eight digits.

@@ -1,3 +1,4 @@
+-- `join` puts eight digits after those of a number: the shift leaves room for them.
 use native.Mathlib.Omega.{arith}
 use lib.Dec.{lit≤}
 use lib.Bits.{or-shifted}

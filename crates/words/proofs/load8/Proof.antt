@@ -1,3 +1,4 @@
+-- `load8` joins two windows of 32 digits.
 use Rattle.words.proofs.Loads.{load-eight}
 use borrow.Author.Needs.{needs}
 use Rattle.words.proofs.load8.Statement.{statement}

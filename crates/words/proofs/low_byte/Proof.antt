@@ -1,3 +1,4 @@
+-- `low_byte`: the mask is the remainder by 256.
 use mathlib.Core.Path.{sym, subst}
 use lib.Bits.{and-mask}
 use mir.Syntax.{w8}

@@ -1,3 +1,4 @@
+-- `ones`: one digit less than the power of two, which has no more than 32 digits.
 use mathlib.Core.Path.{_≡_, _∙_}
 use native.Mathlib.Omega.{arith}
 use borrow.Author.Needs.{needs}

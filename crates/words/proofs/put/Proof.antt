@@ -1,3 +1,4 @@
+-- `put` holds the new digits, or stores the first four bytes of those held and the new ones.
 use native.Mathlib.Omega.{arith}
 use Rattle.words.proofs.Writing.{put-held, put-stored, all-is}
 use borrow.Author.Needs.{needs}
@@ -12,8 +13,11 @@ returns c =
 returns-2 : tie.Need-returns-2
 returns-2 c =
     let b = c .before .before .before .before .before .before .before .before .before in
-    put-stored (b .args .s .now) (b .args .w) (b .args .n) (b .args .word) (b .pre .0) (b .pre .1) (b .pre .2) (c .before .before .before .before .before .if1 .left) (omega arith) _ (c .ones .result) (c .before .before .before .store4 .last .0)
-    (all-is (b .args .s .now) (b .args .w) (b .args .n) (b .args .word) (b .pre .0) (b .pre .1) (b .pre .2)) (c .ones .ensures) (c .before .before .before .store4 .ensures)
+    let full = c .before .before .before .before .before .if1 .left in
+    let four = c .before .before .before .store4 in
+    let whole = all-is (b .args .s .now) (b .args .w) (b .args .n) (b .args .word) (b .pre .0) (b .pre .1) (b .pre .2) in
+    put-stored (b .args .s .now) (b .args .w) (b .args .n) (b .args .word) (b .pre .0) (b .pre .1) (b .pre .2) full (omega arith) _ (c .ones .result) (four .last .0)
+    whole (c .ones .ensures) (four .ensures)
 
 pub put-spec : {M : Type 1} → statement M
 put-spec =

@@ -1,3 +1,4 @@
+-- `store4` makes four stores in a row.
 use Rattle.words.proofs.Writing.{stored-four}
 use native.Mathlib.Omega.{arith}
 use lib.ListN.{length-set}
@@ -17,7 +18,8 @@ slice-write-s-4 c = rw (length-set, length-set, length-set) (omega arith)
 returns : tie.Need-returns
 returns c =
     let b = c .before .before .before .before .before in
-    stored-four (b .args .s .now) (b .args .at) (b .args .out) _ _ _ _ (c .before .before .before .low-byte .ensures) (c .before .before .low-byte2 .ensures) (c .before .low-byte3 .ensures) (c .low-byte4 .ensures)
+    stored-four (b .args .s .now) (b .args .at) (b .args .out) _ _ _ _ (c .before .before .before .low-byte .ensures)
+    (c .before .before .low-byte2 .ensures) (c .before .low-byte3 .ensures) (c .low-byte4 .ensures)
 
 pub store4-spec : {M : Type 1} → statement M
 store4-spec =

@@ -1,3 +1,4 @@
+-- `store_first` stores a byte and keeps the digits after it.
 use mathlib.Core.Path.{refl}
 use native.Mathlib.Omega.{arith}
 use Rattle.words.proofs.Writing.{byte-stored}
@@ -7,7 +8,10 @@ use Rattle.words.proofs.store_first.Tie as tie
 
 returns : tie.Need-returns
 returns c =
-    (byte-stored (c .before .before .before .before .before .before .args .s .now) (c .before .before .before .before .before .before .args .w) (c .before .before .low-byte .result) (c .before .ones .result) _ (c .before .before .before .before .before .before .pre .0) (c .before .before .before .before .before .before .pre .1) (c .before .before .before .before .before .before .pre .2) (c .before .before .low-byte .ensures) (c .before .ones .ensures) refl, omega (arith, c .before .before .before .before .before .before .pre .1))
+    let b = c .before .before .before .before .before .before in
+    let byte = c .before .before .low-byte in
+    let mask = c .before .ones in
+    (byte-stored (b .args .s .now) (b .args .w) (byte .result) (mask .result) _ (b .pre .0) (b .pre .1) (b .pre .2) (byte .ensures) (mask .ensures) refl, omega (arith, b .pre .1))
 
 pub store-first-spec : {M : Type 1} → statement M
 store-first-spec =

@@ -1,3 +1,4 @@
+-- `read_short` reads digit after digit. The invariant: the window so far, and that it has no more digits.
 use mathlib.Core.Path.{_≡_, refl}
 use Prim.Native.Nat.{_≤_, _<_, _-_, _^_}
 use native.Mathlib.Omega.{arith}
@@ -6,8 +7,8 @@ use native.Mathlib.Numerals.{add-one}
 use lib.Pow.{pow-mono}
 use Rattle.digits.specs.Digits.{digitsOf, windowAt}
 use Rattle.digits.proofs.Windows.{window-more}
-use Rattle.words.proofs.read_last.Statement.{statement}
-use Rattle.words.proofs.read_last.Tie as tie
+use Rattle.words.proofs.read_short.Statement.{statement}
+use Rattle.words.proofs.read_short.Tie as tie
 
 abbrev Inv-loop : tie.InvT-loop
 Inv-loop s p n r₀ k₀ r k = (k ≤ n) × (r ≡ windowAt (digitsOf s) p k) × (r < 2 ^ k)
@@ -50,8 +51,8 @@ returns c =
     let end : l .k ≡ c .before .before .before .args .n = omega arith in
     rw (← end) (l .inv .1, l .inv .2)
 
-pub read-last-spec : {M : Type 1} → statement M
-read-last-spec =
+pub read-short-spec : {M : Type 1} → statement M
+read-short-spec =
     tie.close
     (tie.spec Inv-loop μ-loop loop-holds mul-r add-digit-at digit-at-requires (λ c κs. search needs) add-r add-k loop-less loop-again
     returns)
