@@ -18,12 +18,16 @@ abbrev μ-loop : tie.MeasureT-loop
 μ-loop s₀ w₀ s w = w .fill
 
 put-requires : tie.Need-put-requires Inv-loop μ-loop
-put-requires c κs = (c .before .before .before .pre .0, omega arith, pow-pos _, omega (arith, c .before .before .before .pre .1))
+put-requires c κs =
+    let pre = c .before .before .before .pre in
+    (pre .0, omega arith, pow-pos _, omega (arith, pre .1))
 
 loop-holds : tie.Need-loop-holds Inv-loop μ-loop
 loop-holds c =
-    let p = c .before .before .put .ensures in
-    (omega (arith, p .place), omega (arith, p .place, c .before .before .put .kept .0, c .before .before .before .before .before .before .pre .1), refl, appended-none _ _ (p .ready))
+    let put = c .before .before .put in
+    let pre = c .before .before .before .before .before .before .pre in
+    let p = put .ensures in
+    (omega (arith, p .place), omega (arith, p .place, put .kept .0, pre .1), refl, appended-none _ _ (p .ready))
 
 store-first-requires : tie.Need-store-first-requires Inv-loop μ-loop
 store-first-requires c κs =

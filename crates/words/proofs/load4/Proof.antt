@@ -21,10 +21,13 @@ join-requires-3 c κs =
 
 returns : tie.Need-returns
 returns c =
+    let wide = c .before .before .before .before .before .before .wide in
+    let join = c .before .before .before .before .join in
+    let join2 = c .before .before .join2 in
     let b = c .before .before .before .before .before .before .before .before .before in
     let bytes : Bytes (b .args .s .now) = λ i. omega (arith, c .before .shared-slice-known5 .given i) in
-    let first = c .before .before .before .before .before .before .wide .ensures .0 in
-    load-four (b .args .s .now) (b .args .at) _ _ _ _ bytes first (c .before .before .before .before .join .ensures) (c .before .before .join2 .ensures) (c .join3 .ensures)
+    let first = wide .ensures .0 in
+    load-four (b .args .s .now) (b .args .at) _ _ _ _ bytes first (join .ensures) (join2 .ensures) (c .join3 .ensures)
 
 pub load4-spec : {M : Type 1} → statement M
 load4-spec =

@@ -12,8 +12,9 @@ returns c =
 
 returns-2 : tie.Need-returns-2
 returns-2 c =
+    let if1 = c .before .before .before .before .before .if1 in
     let b = c .before .before .before .before .before .before .before .before .before in
-    let full = c .before .before .before .before .before .if1 .left in
+    let full = if1 .left in
     let four = c .before .before .before .store4 in
     let whole = all-is (b .args .s .now) (b .args .w) (b .args .n) (b .args .word) (b .pre .0) (b .pre .1) (b .pre .2) in
     put-stored (b .args .s .now) (b .args .w) (b .args .n) (b .args .word) (b .pre .0) (b .pre .1) (b .pre .2) full (omega arith) _ (c .ones .result) (four .last .0)

@@ -20,10 +20,11 @@ sub-result-2 c =
 
 returns-2 : tie.Need-returns-2
 returns-2 c =
+    let load-from = c .before .before .load-from in
     let b = c .before .before .before .before .before .args in
     let pre = c .before .before .before .before .before .pre in
-    let from = c .before .before .load-from .ensures in
-    rw (c .before .load8 .ensures, c .ones .ensures, window-part (b .s .now) (c .before .before .load-from .result) (b .p) (b .n) (from .1) (from .2 (b .n) (pre .2) (pre .0)))
+    let from = load-from .ensures in
+    rw (c .before .load8 .ensures, c .ones .ensures, window-part (b .s .now) (load-from .result) (b .p) (b .n) (from .1) (from .2 (b .n) (pre .2) (pre .0)))
     (refl, window-lt _ (digits-binary (b .s .now)) (b .p) (b .n))
 
 pub read-digits-spec : {M : Type 1} → statement M
