@@ -178,6 +178,9 @@ fn send_run(
     ensures { λ r. ⌜ Ran (now (buffer .entry)) (now (next .entry)) columns (now (line .entry)) (now (line .exit)) w r (now (next .exit)) ⌝ }
 {
     let q = buffer.len() / 4;
+    let half = 2 * q;
+    let three = 3 * q;
+    let end = 4 * q;
     let i = Next {
         a: next[0],
         b: next[1],
@@ -189,9 +192,9 @@ fn send_run(
         table,
         line,
         &buffer[0..q],
-        &buffer[q..2 * q],
-        &buffer[2 * q..3 * q],
-        &buffer[3 * q..4 * q],
+        &buffer[q..half],
+        &buffer[half..three],
+        &buffer[three..end],
         w,
         i,
         columns,
