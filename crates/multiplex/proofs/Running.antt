@@ -76,7 +76,8 @@ module _ (row : Row) (notes buffer : List ℕ) where
         let more : 4 * suc k ≡ 4 * k + 4 = omega arith in
         let digit : (j : ℕ) → j < 4 → line (4 * x + 4 * k + j) ≡ getD (tributaryOf buffer j) (index j + k) 0 =
         λ j jh. let e : 4 * x + 4 * k + j ≡ 4 * (x + k) + j = omega arith in rw e (run-digit (suc k) body k (omega arith) j jh) in
-        rw (more, tab-cat (4 * k) 4 (4 * x) line, tab-four (4 * x + 4 * k) line, digit 0 (omega arith), digit 1 (omega arith), digit 2 (omega arith), digit 3 (omega arith), run-woven k (λ c h. body c (omega arith)))
+        let rest = run-woven k (λ c h. body c (omega arith)) in
+        rw (more, tab-cat (4 * k) 4 (4 * x) line, tab-four (4 * x + 4 * k) line, digit 0 (omega arith), digit 1 (omega arith), digit 2 (omega arith), digit 3 (omega arith), rest)
 
     pub sent-run : (k p : ℕ) → Body row x k → p ≡ 4 * x + 4 * k → (next′ : List ℕ)
         → next′ ≡ (index 0 + k) ∷ (index 1 + k) ∷ (index 2 + k) ∷ (index 3 + k) ∷ []

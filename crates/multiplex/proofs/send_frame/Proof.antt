@@ -9,7 +9,8 @@ use Rattle.multiplex.proofs.send_frame.Statement.{statement}
 use Rattle.multiplex.proofs.send_frame.Tie as tie
 
 abbrev Inv-loop : tie.InvT-loop
-Inv-loop table row line₀ notes buffer next₀ f w₀ set₀ line next w set = (set ≤ row .sets) × (length line ≡ length line₀) × Sending row notes buffer (f * row .digits + set * row .set) line w next
+Inv-loop table row line₀ notes buffer next₀ f w₀ set₀ line next w set =
+    (set ≤ row .sets) × (length line ≡ length line₀) × Sending row notes buffer (f * row .digits + set * row .set) line w next
 
 abbrev μ-loop : tie.MeasureT-loop
 μ-loop table row line₀ notes buffer next₀ f w₀ set₀ line next w set = row .sets - set

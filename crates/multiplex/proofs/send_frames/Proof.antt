@@ -12,7 +12,8 @@ use Rattle.multiplex.proofs.send_frames.Statement.{statement}
 use Rattle.multiplex.proofs.send_frames.Tie as tie
 
 abbrev Inv-loop : tie.InvT-loop
-Inv-loop row line₀ notes buffer table next₀ w₀ f₀ line next w f = (f ≤ length notes) × (table ≡ tab 256 0 (spreadOf 8)) × (length line ≡ length line₀) × Sending row notes buffer (f * row .digits) line w next
+Inv-loop row line₀ notes buffer table next₀ w₀ f₀ line next w f =
+    (f ≤ length notes) × (table ≡ tab 256 0 (spreadOf 8)) × (length line ≡ length line₀) × Sending row notes buffer (f * row .digits) line w next
 
 abbrev μ-loop : tie.MeasureT-loop
 μ-loop row line₀ notes buffer table next₀ w₀ f₀ line next w f = length notes - f

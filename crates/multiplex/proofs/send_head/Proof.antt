@@ -14,7 +14,8 @@ use Rattle.multiplex.proofs.send_head.Statement.{statement}
 use Rattle.multiplex.proofs.send_head.Tie as tie
 
 abbrev Inv-loop : tie.InvT-loop
-Inv-loop row line notes buffer next₀ w f set note end word₀ r₀ next word r = (r ≤ end) × (end ≡ headEnd row set) × (note ≡ getD notes f 0) × Headed row notes buffer (f * row .digits + set * row .set) (outFrom 0 line w) r word next
+Inv-loop row line notes buffer next₀ w f set note end word₀ r₀ next word r =
+    (r ≤ end) × (end ≡ headEnd row set) × (note ≡ getD notes f 0) × Headed row notes buffer (f * row .digits + set * row .set) (outFrom 0 line w) r word next
 
 abbrev μ-loop : tie.MeasureT-loop
 μ-loop row line notes buffer next₀ w f set note end word₀ r₀ next word r = end - r
@@ -55,7 +56,8 @@ add-word c =
     let pre = c .before .before .before .before .before .before .before .before .before .before .pre in
     let b = c .before .before .before .before .before .before .before .before .before .before .args in
     let l = c .before .before .before .before .loop in
-    omega (arith, l .inv .3 .few, c .wide .ensures, c .before .place-digit .ensures .binary, pow-mono {i = l .r} {j = 16} (omega (arith, l .inv .0, l .inv .1, head-end-short _ (pre .3 .fits .shared) (b .set))))
+    let short = head-end-short _ (pre .3 .fits .shared) (b .set) in
+    omega (arith, l .inv .3 .few, c .wide .ensures, c .before .place-digit .ensures .binary, pow-mono {i = l .r} {j = 16} (omega (arith, l .inv .0, l .inv .1, short)))
 
 add-r : tie.Need-add-r Inv-loop μ-loop
 add-r c =

@@ -25,17 +25,18 @@ fn every_frame_count(run: &mut Run) {
     }
 }
 
-/// Every stuffing of the four over nine frames, from every place in a byte on: each frame
-/// ahead of the nine is stuffed for all, and so moves all that follows by one digit. The
-/// quarters have no byte to spare, one, or eight. Sent, and read back.
+/// Every stuffing of the four over nine frames, from every place in a byte on: of eight
+/// frames ahead of the nine so many are stuffed for all, and each moves all that follows by
+/// one digit. The quarters have no byte to spare, one, or eight. Sent, and read back.
 fn every_way_of_a_run(run: &mut Run) {
     for level in 2..=4 {
         let row = row(level).expect("a level");
         for pattern in 0..16 {
             let mut met = [[false; 8]; 4];
-            for ahead in 0..8 {
-                let mut notes = vec![0x0F; ahead];
-                notes.resize(ahead + 9, pattern);
+            for stuffed in 0..8 {
+                let mut notes = vec![0x0F; stuffed];
+                notes.resize(8, 0);
+                notes.resize(8 + 9, pattern);
                 places_in_a_byte(row, &notes, &mut met);
                 for spare in [0, 1, 8] {
                     there_and_back_by(run, level, row, &notes, spare);
