@@ -1,0 +1,13 @@
+use Prim.Native.Nat.{_-_, _^_}
+use lib.Bits.{and-mask, mask-lt}
+use Prim.Native.Nat.{_/_}
+use borrow.Author.Needs.{needs}
+use Rattle.unweave.proofs.sorting.eight_at.Statement.{statement}
+use Rattle.unweave.proofs.sorting.eight_at.Tie as tie
+
+-- src/lib.rt:49:1
+returns : tie.Need-returns
+returns c = let n = c .args .x / 2 ^ c .args .k in (and-mask n 8, mask-lt n 8)
+
+pub eight-at-spec : {M : Type 1} → statement M
+eight-at-spec = tie.close (tie.spec (λ c. search needs) returns)

@@ -1,0 +1,271 @@
+// A line taken apart, whole bytes at a time: the columns between two heads, up to 32 a turn, and the justification column. Each tributary has
+// a writer of its own, to which its quarter of the buffer is lent.
+pub mod sorting;
+
+use levels::lent;
+use levels::order;
+use levels::places::FramePlace;
+use words::Writer;
+ghost use mathlib.Core.Path.{_≡_};
+ghost use mathlib.Core.Bool.{cond};
+ghost use mathlib.Core.List.{[], _∷_};
+ghost use Prim.Native.Nat.{_+_, _*_, _%_, _^_, _<_, _≤_};
+ghost use lib.ListN.{length, getD};
+ghost use Rattle.digits.specs.Digits.{digitsOf, tab, written};
+ghost use Rattle.unweave.specs.Lanes.{lanesOf, runDigits, justificationDigits};
+ghost use Rattle.unweave.specs.Quarters.{Within, Roomy, Put, Grown};
+
+// The tributaries' writers, in order.
+pub struct Writers {
+    pub a: Writer,
+    pub b: Writer,
+    pub c: Writer,
+    pub d: Writer,
+}
+
+// Appends the n digits of a word to those of tributary j (from 0), whose quarter of q bytes is lent to its writer.
+fn put_quarter(buffer: &mut [u8], q: usize, j: usize, w: Writer, word: u64, n: usize) -> Writer
+    requires { ⌜ (4 * q ≤ length (now buffer)) × (j < 4) × (n ≤ 32) × (word < 2 ^ n) × Within q n w ⌝ }
+    ensures { λ r. ⌜ Put q j (now (buffer .entry)) (now (buffer .exit)) w r n (written n word) ⌝ }
+{
+    let a = j * q;
+    let e = a + q;
+    words::put(&mut buffer[a..e], w, word, n)
+}
+
+// Up to eight columns from place p of the line on.
+fn receive_few(
+    table: &[u64; 256],
+    line: &[u8],
+    p: usize,
+    buffer: &mut [u8],
+    q: usize,
+    w: Writers,
+    n: usize,
+) -> Writers
+    requires { ⌜
+        (now table ≡ tab 256 0 (lanesOf 2))
+        × (p + 4 * n ≤ 8 * length (now line))
+        × (p < 2 ^ 32)
+        × (0 < n)
+        × (n ≤ 8)
+        × (4 * q ≤ length (now buffer))
+        × Roomy q n w
+        ⌝ }
+    ensures { λ r. ⌜ Grown q (now (buffer .entry)) (now (buffer .exit)) w r n (runDigits (digitsOf (now (line .entry))) p n) ⌝ }
+{
+    let g = sorting::gather(table, words::read_digits(line, p, 4 * n));
+    let a0 = w.a;
+    let b0 = w.b;
+    let c0 = w.c;
+    let d0 = w.d;
+    let a = put_quarter(buffer, q, 0, a0, sorting::lane(g, 0), n);
+    let b = put_quarter(buffer, q, 1, b0, sorting::lane(g, 1), n);
+    let c = put_quarter(buffer, q, 2, c0, sorting::lane(g, 2), n);
+    let d = put_quarter(buffer, q, 3, d0, sorting::lane(g, 3), n);
+    Writers { a, b, c, d }
+}
+
+// 32 columns from place p of the line on.
+fn receive_many(
+    table: &[u64; 256],
+    line: &[u8],
+    p: usize,
+    buffer: &mut [u8],
+    q: usize,
+    w: Writers,
+) -> Writers
+    requires { ⌜
+        (now table ≡ tab 256 0 (lanesOf 2))
+        × (p + 128 ≤ 8 * length (now line))
+        × (p < 2 ^ 31)
+        × (4 * q ≤ length (now buffer))
+        × Roomy q 32 w
+        ⌝ }
+    ensures { λ r. ⌜ Grown q (now (buffer .entry)) (now (buffer .exit)) w r 32 (runDigits (digitsOf (now (line .entry))) p 32) ⌝ }
+{
+    let p2 = p + 64;
+    let hi = sorting::gather(table, words::read_digits(line, p, 32)) * 256
+        + sorting::gather(table, words::read_digits(line, p + 32, 32));
+    let lo = sorting::gather(table, words::read_digits(line, p2, 32)) * 256
+        + sorting::gather(table, words::read_digits(line, p2 + 32, 32));
+    let a0 = w.a;
+    let b0 = w.b;
+    let c0 = w.c;
+    let d0 = w.d;
+    let a = put_quarter(buffer, q, 0, a0, sorting::both(hi, lo, 0), 32);
+    let b = put_quarter(buffer, q, 1, b0, sorting::both(hi, lo, 1), 32);
+    let c = put_quarter(buffer, q, 2, c0, sorting::both(hi, lo, 2), 32);
+    let d = put_quarter(buffer, q, 3, d0, sorting::both(hi, lo, 3), 32);
+    Writers { a, b, c, d }
+}
+
+fn at_most(n: usize, most: usize) -> usize
+    requires { ⌜ (0 < n) × (0 < most) ⌝ }
+    ensures { λ r. ⌜ (r ≤ n) × (r ≤ most) × (0 < r) ⌝ }
+{
+    if n < most {
+        return n;
+    }
+    most
+}
+
+// So many times 32 columns from place p of the line on.
+fn receive_wide(
+    table: &[u64; 256],
+    line: &[u8],
+    p: usize,
+    buffer: &mut [u8],
+    q: usize,
+    w0: Writers,
+    columns: usize,
+) -> Writers
+    requires { ⌜
+        (now table ≡ tab 256 0 (lanesOf 2))
+        × (p + 4 * columns ≤ 8 * length (now line))
+        × (p + 4 * columns < 2 ^ 31)
+        × (4 * q ≤ length (now buffer))
+        × (columns % 32 ≡ 0)
+        × Roomy q columns w0
+        ⌝ }
+    ensures { λ r. ⌜ Grown q (now (buffer .entry)) (now (buffer .exit)) w0 r columns (runDigits (digitsOf (now (line .entry))) p columns) ⌝ }
+{
+    let mut w = w0;
+    let mut k: usize = 0;
+    while k < columns {
+        w = receive_many(table, line, p + 4 * k, buffer, q, w);
+        k += 32;
+    }
+    w
+}
+
+// Any number of columns from place p of the line on, eight at a time.
+fn receive_narrow(
+    table: &[u64; 256],
+    line: &[u8],
+    p: usize,
+    buffer: &mut [u8],
+    q: usize,
+    w0: Writers,
+    columns: usize,
+) -> Writers
+    requires { ⌜
+        (now table ≡ tab 256 0 (lanesOf 2))
+        × (p + 4 * columns ≤ 8 * length (now line))
+        × (p + 4 * columns < 2 ^ 31)
+        × (4 * q ≤ length (now buffer))
+        × Roomy q columns w0
+        ⌝ }
+    ensures { λ r. ⌜ Grown q (now (buffer .entry)) (now (buffer .exit)) w0 r columns (runDigits (digitsOf (now (line .entry))) p columns) ⌝ }
+{
+    let mut w = w0;
+    let mut k: usize = 0;
+    while k < columns {
+        let n = at_most(columns - k, 8);
+        w = receive_few(table, line, p + 4 * k, buffer, q, w, n);
+        k += n;
+    }
+    w
+}
+
+// The columns between two heads, from place p of the line on: each tributary is handed every fourth digit.
+pub fn receive_columns(
+    table: &[u64; 256],
+    line: &[u8],
+    p: usize,
+    buffer: &mut [u8],
+    q: usize,
+    w: Writers,
+    columns: usize,
+) -> Writers
+    requires { ⌜
+        (now table ≡ tab 256 0 (lanesOf 2))
+        × (p + 4 * columns ≤ 8 * length (now line))
+        × (p + 4 * columns < 2 ^ 31)
+        × (4 * q ≤ length (now buffer))
+        × Roomy q columns w
+        ⌝ }
+    ensures { λ r. ⌜ Grown q (now (buffer .entry)) (now (buffer .exit)) w r columns (runDigits (digitsOf (now (line .entry))) p columns) ⌝ }
+{
+    let rest = columns % 32;
+    let many = columns - rest;
+    let v = receive_wide(table, line, p, buffer, q, w, many);
+    receive_narrow(table, line, p + 4 * many, buffer, q, v, rest)
+}
+
+// The justification place p of tributary j (from 0): its digit, or none where the frame is stuffed.
+fn receive_unstuffed(
+    line: &[u8],
+    p: FramePlace,
+    buffer: &mut [u8],
+    q: usize,
+    j: usize,
+    w: Writer,
+    st: bool,
+) -> Writer
+    requires { ⌜ (p .0 < 8 * length (now line)) × (4 * q ≤ length (now buffer)) × (j < 4) × Within q 1 w ⌝ }
+    ensures { λ r. ⌜
+        Put q j (now (buffer .entry)) (now (buffer .exit)) w r 1 (cond st [] (getD (digitsOf (now (line .entry))) (p .0) 0 ∷ []))
+        ⌝ }
+{
+    if st {
+        return w;
+    }
+    let d = lent::line_digit(line, p);
+    put_quarter(buffer, q, j, w, d as u64, 1)
+}
+
+// The justification column of a frame with this note, from place p of the line on.
+pub fn receive_justification(
+    line: &[u8],
+    p: usize,
+    buffer: &mut [u8],
+    q: usize,
+    w: Writers,
+    note: u8,
+) -> Writers
+    requires { ⌜ (p + 4 ≤ 8 * length (now line)) × (p < 2 ^ 31) × (4 * q ≤ length (now buffer)) × Roomy q 1 w ⌝ }
+    ensures { λ r. ⌜ Grown q (now (buffer .entry)) (now (buffer .exit)) w r 1 (justificationDigits (digitsOf (now (line .entry))) p note) ⌝ }
+{
+    let a0 = w.a;
+    let b0 = w.b;
+    let c0 = w.c;
+    let d0 = w.d;
+    let a = receive_unstuffed(
+        line,
+        FramePlace(p),
+        buffer,
+        q,
+        0,
+        a0,
+        order::is_stuffed(note, 0),
+    );
+    let b = receive_unstuffed(
+        line,
+        FramePlace(p + 1),
+        buffer,
+        q,
+        1,
+        b0,
+        order::is_stuffed(note, 1),
+    );
+    let c = receive_unstuffed(
+        line,
+        FramePlace(p + 2),
+        buffer,
+        q,
+        2,
+        c0,
+        order::is_stuffed(note, 2),
+    );
+    let d = receive_unstuffed(
+        line,
+        FramePlace(p + 3),
+        buffer,
+        q,
+        3,
+        d0,
+        order::is_stuffed(note, 3),
+    );
+    Writers { a, b, c, d }
+}
