@@ -2,20 +2,19 @@
 -- out four lists; and digits more after digits more.
 use mathlib.Core.Path.{_≡_, refl, sym, ap, _∙_}
 use mathlib.Core.Logic.{_≢_}
-use mathlib.Core.Bool.{Bool, cond, true, false}
 use mathlib.Core.List.{List, [], _∷_, _++_, append-assoc, append-nil}
 use Prim.Native.Nat.{ℕ, zero, suc, _+_, _-_, _*_, _≤_, _<_}
 use native.Mathlib.Omega.{arith}
 use native.Mathlib.Decide.{decLt}
-use native.Mathlib.Nat.{zero-add, suc-add, suc-mul, add-assoc, mul-le-mul-right, add-sub-cancel-left}
-use lib.ListN.{length, take, drop}
+use native.Mathlib.Nat.{zero-add, suc-add, suc-mul, mul-le-mul-right, add-sub-cancel-left}
+use lib.ListN.{length, take, drop, length-append}
 use lib.Seq.{take-take, take-nil, drop-drop, length-take-le}
 use borrow.Rule.Slice.PartMut.{midOf, postOf, putMid, mid-len, take-put, drop-put}
 use Rattle.digits.proofs.Lists.{of-four, part-at}
 use Rattle.words.specs.declared.Writer.{Writer}
 use Rattle.words.specs.Words.{Ready, outFrom, Appended}
 use Rattle.unweave.specs.declared.Writers.{Writers}
-use Rattle.unweave.specs.Quarters.{partOf, writerOf, Within, Roomy, Put, Grown}
+use Rattle.unweave.specs.Quarters.{partOf, writerOf, Roomy, Moved, Put, Grown}
 
 drop-take : (n m : ℕ) (s : List ℕ) → drop n (take (n + m) s) ≡ take m (drop n s)
 drop-take zero m s = rw (zero-add m)
@@ -72,75 +71,98 @@ module _ (q j : ℕ) (old : List ℕ) (jh : j < 4) (room : 4 * q ≤ length old)
         more h = omega (arith, other)
 
     -- a writer put digits into what was lent
-    module _ (w r : Writer) (n : ℕ) (ds : List ℕ) (a : Appended (midOf (j * q) (j * q + q - j * q) old) ys w r n ds) where
-      pub part-put : Put q j old new w r n ds
+    module _ (w r : Writer) (n : ℕ) (ds : List ℕ) (many : length ds ≡ n) (a : Appended (midOf (j * q) (j * q + q - j * q) old) ys w r n ds) where
+      pub part-put : Put q j old new w r ds
       part-put =
           record {
-            room = λ m h. record { ready = a .ready; room = omega (arith, h .room, a .place) };
+            moved = record { ready = a .ready; place = omega (arith, a .place) };
             out = ap (λ (s : List ℕ). outFrom 0 s r) part-back ∙ a .out 0 (omega arith) ∙ ap (λ (s : List ℕ). outFrom 0 s w ++ ds) part-lent;
             others = λ k _ other. part-others k other;
           }
 
 -- none
-pub put-none : (q j : ℕ) (s : List ℕ) (w : Writer) (n : ℕ) → Put q j s s w w n []
-put-none q j s w n =
+pub put-none : (q j : ℕ) (s : List ℕ) (w : Writer) → Ready (w .fill) (w .held) → Put q j s s w w []
+put-none q j s w ready =
     record {
-      room = λ m h. record { ready = h .ready; room = omega (arith, h .room) };
+      moved = record { ready = ready; place = omega arith };
       out = sym (append-nil (outFrom 0 (partOf q s j) w));
       others = λ k _ _. refl;
     }
 
-pub put-as : {q j : ℕ} {old new : List ℕ} {w r : Writer} {n : ℕ} {ds es : List ℕ} → Put q j old new w r n ds → ds ≡ es → Put q j old new w r n es
-put-as p e = record { room = p .room; out = rw (← e) (p .out); others = p .others }
+pub put-as : {q j : ℕ} {old new : List ℕ} {w r : Writer} {ds es : List ℕ} → Put q j old new w r ds → ds ≡ es → Put q j old new w r es
+put-as p e = rw (← e) p
 
 -- four in turn
-module _ {q n : ℕ} {l₀ l₁ l₂ l₃ l₄ : List ℕ} {w r : Writers} {xs ys zs ts : List ℕ} (more : ℕ → List ℕ) (A : Put q 0 l₀ l₁ (w .a) (r .a) n xs)
-    (B : Put q 1 l₁ l₂ (w .b) (r .b) n ys) (C : Put q 2 l₂ l₃ (w .c) (r .c) n zs) (D : Put q 3 l₃ l₄ (w .d) (r .d) n ts) where
-  abbrev Out : ℕ → Type 0
-  Out j = outFrom 0 (partOf q l₄ j) (writerOf r j) ≡ outFrom 0 (partOf q l₀ j) (writerOf w j) ++ more j
+module _ {q : ℕ} {l₀ l₁ l₂ l₃ l₄ : List ℕ} {w r : Writers} (more : ℕ → List ℕ) (A : Put q 0 l₀ l₁ (w .a) (r .a) (more 0))
+    (B : Put q 1 l₁ l₂ (w .b) (r .b) (more 1)) (C : Put q 2 l₂ l₃ (w .c) (r .c) (more 2)) (D : Put q 3 l₃ l₄ (w .d) (r .d) (more 3)) where
+  -- a quarter stays in the turn of another
+  apart : (k j : ℕ) {l l′ : List ℕ} {v v′ : Writer} {ds : List ℕ} → Put q j l l′ v v′ ds → k < 4 → k ≢ j → partOf q l′ k ≡ partOf q l k
+  apart k j p h other = p .others k h other
 
-  -- the quarter of one of them, before its turn and after it
-  stays : (k : ℕ) (v : Writer) (l l′ : List ℕ) → partOf q l′ k ≡ partOf q l k → outFrom 0 (partOf q l′ k) v ≡ outFrom 0 (partOf q l k) v
-  stays k v l l′ e = ap (λ (s : List ℕ). outFrom 0 s v) e
+  stays : (v : Writer) {s t : List ℕ} → s ≡ t → outFrom 0 s v ≡ outFrom 0 t v
+  stays v e = ap (λ (s : List ℕ). outFrom 0 s v) e
 
-  then : (k : ℕ) (v : Writer) (l l′ : List ℕ) (ds : List ℕ) → partOf q l′ k ≡ partOf q l k → ds ≡ more k
-      → outFrom 0 (partOf q l′ k) v ++ ds ≡ outFrom 0 (partOf q l k) v ++ more k
-  then k v l l′ ds e m = rw m (ap (λ (s : List ℕ). outFrom 0 s v ++ more k) e)
+  then : (v : Writer) (ds : List ℕ) {s t : List ℕ} → s ≡ t → outFrom 0 s v ++ ds ≡ outFrom 0 t v ++ ds
+  then v ds e = ap (λ (s : List ℕ). outFrom 0 s v ++ ds) e
 
-  pub grown : xs ≡ more 0 → ys ≡ more 1 → zs ≡ more 2 → ts ≡ more 3 → Grown q l₀ l₄ w r n more
-  grown ea eb ec ed =
-      let after-a = stays 0 (r .a) l₁ l₄ (D .others 0 (omega arith) (λ e. omega arith) ∙ C .others 0 (omega arith) (λ e. omega arith) ∙ B .others 0 (omega arith) (λ e. omega arith)) in
-      let after-b = stays 1 (r .b) l₂ l₄ (D .others 1 (omega arith) (λ e. omega arith) ∙ C .others 1 (omega arith) (λ e. omega arith)) in
-      let after-c = stays 2 (r .c) l₃ l₄ (D .others 2 (omega arith) (λ e. omega arith)) in
-      let from-b = then 1 (w .b) l₀ l₁ ys (A .others 1 (omega arith) (λ e. omega arith)) eb in
-      let from-c = then 2 (w .c) l₀ l₂ zs (B .others 2 (omega arith) (λ e. omega arith) ∙ A .others 2 (omega arith) (λ e. omega arith)) ec in
-      let from-d = then 3 (w .d) l₀ l₃ ts (C .others 3 (omega arith) (λ e. omega arith) ∙ B .others 3 (omega arith) (λ e. omega arith) ∙ A .others 3 (omega arith) (λ e. omega arith)) ed in
+  out-a : outFrom 0 (partOf q l₄ 0) (r .a) ≡ outFrom 0 (partOf q l₀ 0) (w .a) ++ more 0
+  out-a =
+      stays (r .a) (apart 0 3 D (omega arith) (λ e. omega arith) ∙ apart 0 2 C (omega arith) (λ e. omega arith) ∙ apart 0 1 B (omega arith) (λ e. omega arith))
+      ∙ A .out
+
+  out-b : outFrom 0 (partOf q l₄ 1) (r .b) ≡ outFrom 0 (partOf q l₀ 1) (w .b) ++ more 1
+  out-b =
+      stays (r .b) (apart 1 3 D (omega arith) (λ e. omega arith) ∙ apart 1 2 C (omega arith) (λ e. omega arith))
+      ∙ B .out
+      ∙ then (w .b) (more 1) (apart 1 0 A (omega arith) (λ e. omega arith))
+
+  out-c : outFrom 0 (partOf q l₄ 2) (r .c) ≡ outFrom 0 (partOf q l₀ 2) (w .c) ++ more 2
+  out-c =
+      stays (r .c) (apart 2 3 D (omega arith) (λ e. omega arith))
+      ∙ C .out
+      ∙ then (w .c) (more 2) (apart 2 1 B (omega arith) (λ e. omega arith) ∙ apart 2 0 A (omega arith) (λ e. omega arith))
+
+  out-d : outFrom 0 (partOf q l₄ 3) (r .d) ≡ outFrom 0 (partOf q l₀ 3) (w .d) ++ more 3
+  out-d =
+      D .out
+      ∙ then (w .d) (more 3) (apart 3 2 C (omega arith) (λ e. omega arith) ∙ apart 3 1 B (omega arith) (λ e. omega arith) ∙ apart 3 0 A (omega arith) (λ e. omega arith))
+
+  pub grown : Grown q l₀ l₄ w r more
+  grown =
       record {
-        room = λ m h. of-four (λ (j : ℕ). Within q m (writerOf r j)) (A .room m (h 0 (omega arith))) (B .room m (h 1 (omega arith))) (C .room m (h 2 (omega arith))) (D .room m (h 3 (omega arith)));
-        out = of-four Out (after-a ∙ A .out ∙ then 0 (w .a) l₀ l₀ xs refl ea) (after-b ∙ B .out ∙ from-b) (after-c ∙ C .out ∙ from-c) (D .out ∙ from-d);
+        moved = of-four (λ (j : ℕ). Moved (writerOf w j) (writerOf r j) (more j)) (A .moved) (B .moved) (C .moved) (D .moved);
+        out = of-four (λ (j : ℕ). outFrom 0 (partOf q l₄ j) (writerOf r j) ≡ outFrom 0 (partOf q l₀ j) (writerOf w j) ++ more j) out-a out-b out-c out-d;
       }
 
--- less room is room
-pub roomy-less : {q m : ℕ} {w : Writers} (n : ℕ) → Roomy q m w → n ≤ m → Roomy q n w
-roomy-less n h l j jh = record { ready = h j jh .ready; room = omega (arith, h j jh .room) }
+-- less room is room, and room for more is left after digits that are put out
+pub roomy-less : {q : ℕ} {m : ℕ → ℕ} {w : Writers} (n : ℕ → ℕ) → Roomy q m w → ((j : ℕ) → j < 4 → n j ≤ m j) → Roomy q n w
+roomy-less n h l j jh = record { ready = h j jh .ready; room = omega (arith, h j jh .room, l j jh) }
 
-pub grown-as : {q : ℕ} {old new : List ℕ} {w r : Writers} {n : ℕ} {more : ℕ → List ℕ} (other : ℕ → List ℕ) → Grown q old new w r n more
-    → ((j : ℕ) → j < 4 → more j ≡ other j) → Grown q old new w r n other
-grown-as {q} {old} {new} {w} other g same =
-    record { room = g .room; out = λ j h. g .out j h ∙ ap (λ (l : List ℕ). outFrom 0 (partOf q old j) (writerOf w j) ++ l) (same j h) }
+pub roomy-after : {q : ℕ} {old new : List ℕ} {w r : Writers} {more : ℕ → List ℕ} {m : ℕ → ℕ} (n : ℕ → ℕ) → Grown q old new w r more → Roomy q m w
+    → ((j : ℕ) → j < 4 → length (more j) + n j ≤ m j) → Roomy q n r
+roomy-after n g h l j jh = record { ready = g .moved j jh .ready; room = omega (arith, h j jh .room, g .moved j jh .place, l j jh) }
 
-pub grown-none : (q : ℕ) (s : List ℕ) (w : Writers) → Grown q s s w w 0 (λ (j : ℕ). [])
-grown-none q s w =
+pub grown-as : {q : ℕ} {old new : List ℕ} {w r : Writers} {more : ℕ → List ℕ} (other : ℕ → List ℕ) → Grown q old new w r more
+    → ((j : ℕ) → j < 4 → more j ≡ other j) → Grown q old new w r other
+grown-as {q} {old} {new} {w} {r} other g same =
     record {
-      room = λ m h. rw (zero-add m) at h;
+      moved = λ j h. rw (← same j h) (g .moved j h);
+      out = λ j h. rw (← same j h) (g .out j h);
+    }
+
+pub grown-none : (q : ℕ) (s : List ℕ) (w : Writers) → ((j : ℕ) → j < 4 → Ready (writerOf w j .fill) (writerOf w j .held)) → Grown q s s w w (λ (j : ℕ). [])
+grown-none q s w ready =
+    record {
+      moved = λ j h. record { ready = ready j h; place = omega arith };
       out = λ j h. sym (append-nil (outFrom 0 (partOf q s j) (writerOf w j)));
     }
 
-pub grown-more : {q : ℕ} {old mid new : List ℕ} {w r v : Writers} {n m : ℕ} {more other : ℕ → List ℕ} → Grown q old mid w r n more → Grown q mid new r v m other
-    → Grown q old new w v (n + m) (λ (j : ℕ). more j ++ other j)
-grown-more {q} {old} {mid} {new} {w} {r} {v} {n} {m} {more} {other} one two =
+pub grown-more : {q : ℕ} {old mid new : List ℕ} {w r v : Writers} {more other : ℕ → List ℕ} → Grown q old mid w r more → Grown q mid new r v other
+    → Grown q old new w v (λ (j : ℕ). more j ++ other j)
+grown-more {q} {old} {mid} {new} {w} {r} {v} {more} {other} one two =
     record {
-      room = λ k h. two .room k (one .room (m + k) (rw (add-assoc n m k) at h));
+      moved = λ j h.
+          record { ready = two .moved j h .ready; place = omega (arith, one .moved j h .place, two .moved j h .place, length-append (more j) (other j)) };
       out = λ j h.
           two .out j h ∙ ap (λ (l : List ℕ). l ++ other j) (one .out j h) ∙ append-assoc (outFrom 0 (partOf q old j) (writerOf w j)) (more j) (other j);
     }

@@ -3,7 +3,7 @@ use mathlib.Core.Path.{_≡_}
 use mathlib.Core.Logic.{_≢_}
 use mathlib.Core.List.{List, _++_}
 use Prim.Native.Nat.{ℕ, zero, suc, _+_, _*_, _<_, _≤_}
-use lib.ListN.{take, drop}
+use lib.ListN.{length, take, drop}
 use Rattle.words.specs.declared.Writer.{Writer}
 use Rattle.words.specs.Words.{Ready, outFrom}
 use Rattle.unweave.specs.declared.Writers.{Writers}
@@ -24,17 +24,22 @@ pub record Within (q n : ℕ) (w : Writer) : Type 0 where
   pub ready : Ready (w .fill) (w .held)
   pub room : 8 * w .at + (w .fill + n) ≤ 8 * q
 
--- so each of the four
-abbrev pub Roomy : ℕ → ℕ → Writers → Type 0
-Roomy q n w = (j : ℕ) → j < 4 → Within q n (writerOf w j)
+-- so each of the four, tributary j for n j digits
+abbrev pub Roomy : ℕ → (ℕ → ℕ) → Writers → Type 0
+Roomy q n w = (j : ℕ) → j < 4 → Within q (n j) (writerOf w j)
 
--- digits ds more, at most n, in quarter j, and the other quarters are as they were
-pub record Put (q j : ℕ) (old new : List ℕ) (w r : Writer) (n : ℕ) (ds : List ℕ) : Type 0 where
-  pub room : (m : ℕ) → Within q (n + m) w → Within q m r
+-- a writer has put out these digits more
+pub record Moved (w r : Writer) (ds : List ℕ) : Type 0 where
+  pub ready : Ready (r .fill) (r .held)
+  pub place : 8 * r .at + r .fill ≡ 8 * w .at + (w .fill + length ds)
+
+-- digits ds more in quarter j, and the other quarters are as they were
+pub record Put (q j : ℕ) (old new : List ℕ) (w r : Writer) (ds : List ℕ) : Type 0 where
+  pub moved : Moved w r ds
   pub out : outFrom 0 (partOf q new j) r ≡ outFrom 0 (partOf q old j) w ++ ds
   pub others : (k : ℕ) → k < 4 → k ≢ j → partOf q new k ≡ partOf q old k
 
--- digits more in each quarter, at most n: those of tributary j are `more j`
-pub record Grown (q : ℕ) (old new : List ℕ) (w r : Writers) (n : ℕ) (more : ℕ → List ℕ) : Type 0 where
-  pub room : (m : ℕ) → Roomy q (n + m) w → Roomy q m r
+-- digits more in each quarter: those of tributary j are `more j`
+pub record Grown (q : ℕ) (old new : List ℕ) (w r : Writers) (more : ℕ → List ℕ) : Type 0 where
+  pub moved : (j : ℕ) → j < 4 → Moved (writerOf w j) (writerOf r j) (more j)
   pub out : (j : ℕ) → j < 4 → outFrom 0 (partOf q new j) (writerOf r j) ≡ outFrom 0 (partOf q old j) (writerOf w j) ++ more j

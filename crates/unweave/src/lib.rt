@@ -4,15 +4,18 @@ pub mod sorting;
 
 use levels::lent;
 use levels::order;
+use levels::places;
 use levels::places::FramePlace;
+use levels::table::Row;
 use words::Writer;
 ghost use mathlib.Core.Path.{_≡_};
 ghost use mathlib.Core.Bool.{cond};
 ghost use mathlib.Core.List.{[], _∷_};
-ghost use Prim.Native.Nat.{_+_, _*_, _%_, _^_, _<_, _≤_};
+ghost use Prim.Native.Nat.{ℕ, _+_, _*_, _-_, _/_, _%_, _^_, _<_, _≤_};
 ghost use lib.ListN.{length, getD};
 ghost use Rattle.digits.specs.Digits.{digitsOf, tab, written};
-ghost use Rattle.unweave.specs.Lanes.{lanesOf, runDigits, justificationDigits};
+ghost use Rattle.levels.specs.Table.{Shared};
+ghost use Rattle.unweave.specs.Lanes.{lanesOf, runDigits, justificationDigits, headDigits, setDigits};
 ghost use Rattle.unweave.specs.Quarters.{Within, Roomy, Put, Grown};
 
 // The tributaries' writers, in order.
@@ -26,7 +29,7 @@ pub struct Writers {
 // Appends the n digits of a word to those of tributary j (from 0), whose quarter of q bytes is lent to its writer.
 fn put_quarter(buffer: &mut [u8], q: usize, j: usize, w: Writer, word: u64, n: usize) -> Writer
     requires { ⌜ (4 * q ≤ length (now buffer)) × (j < 4) × (n ≤ 32) × (word < 2 ^ n) × Within q n w ⌝ }
-    ensures { λ r. ⌜ Put q j (now (buffer .entry)) (now (buffer .exit)) w r n (written n word) ⌝ }
+    ensures { λ r. ⌜ Put q j (now (buffer .entry)) (now (buffer .exit)) w r (written n word) ⌝ }
 {
     let a = j * q;
     let e = a + q;
@@ -46,13 +49,12 @@ fn receive_few(
     requires { ⌜
         (now table ≡ tab 256 0 (lanesOf 2))
         × (p + 4 * n ≤ 8 * length (now line))
-        × (p < 2 ^ 32)
         × (0 < n)
         × (n ≤ 8)
         × (4 * q ≤ length (now buffer))
-        × Roomy q n w
+        × Roomy q (λ (j : ℕ). n) w
         ⌝ }
-    ensures { λ r. ⌜ Grown q (now (buffer .entry)) (now (buffer .exit)) w r n (runDigits (digitsOf (now (line .entry))) p n) ⌝ }
+    ensures { λ r. ⌜ Grown q (now (buffer .entry)) (now (buffer .exit)) w r (runDigits (digitsOf (now (line .entry))) p n) ⌝ }
 {
     let g = sorting::gather(table, words::read_digits(line, p, 4 * n));
     let a0 = w.a;
@@ -80,9 +82,9 @@ fn receive_many(
         × (p + 128 ≤ 8 * length (now line))
         × (p < 2 ^ 31)
         × (4 * q ≤ length (now buffer))
-        × Roomy q 32 w
+        × Roomy q (λ (j : ℕ). 32) w
         ⌝ }
-    ensures { λ r. ⌜ Grown q (now (buffer .entry)) (now (buffer .exit)) w r 32 (runDigits (digitsOf (now (line .entry))) p 32) ⌝ }
+    ensures { λ r. ⌜ Grown q (now (buffer .entry)) (now (buffer .exit)) w r (runDigits (digitsOf (now (line .entry))) p 32) ⌝ }
 {
     let p2 = p + 64;
     let hi = sorting::gather(table, words::read_digits(line, p, 32)) * 256
@@ -126,9 +128,9 @@ fn receive_wide(
         × (p + 4 * columns < 2 ^ 31)
         × (4 * q ≤ length (now buffer))
         × (columns % 32 ≡ 0)
-        × Roomy q columns w0
+        × Roomy q (λ (j : ℕ). columns) w0
         ⌝ }
-    ensures { λ r. ⌜ Grown q (now (buffer .entry)) (now (buffer .exit)) w0 r columns (runDigits (digitsOf (now (line .entry))) p columns) ⌝ }
+    ensures { λ r. ⌜ Grown q (now (buffer .entry)) (now (buffer .exit)) w0 r (runDigits (digitsOf (now (line .entry))) p columns) ⌝ }
 {
     let mut w = w0;
     let mut k: usize = 0;
@@ -154,9 +156,9 @@ fn receive_narrow(
         × (p + 4 * columns ≤ 8 * length (now line))
         × (p + 4 * columns < 2 ^ 31)
         × (4 * q ≤ length (now buffer))
-        × Roomy q columns w0
+        × Roomy q (λ (j : ℕ). columns) w0
         ⌝ }
-    ensures { λ r. ⌜ Grown q (now (buffer .entry)) (now (buffer .exit)) w0 r columns (runDigits (digitsOf (now (line .entry))) p columns) ⌝ }
+    ensures { λ r. ⌜ Grown q (now (buffer .entry)) (now (buffer .exit)) w0 r (runDigits (digitsOf (now (line .entry))) p columns) ⌝ }
 {
     let mut w = w0;
     let mut k: usize = 0;
@@ -183,9 +185,9 @@ pub fn receive_columns(
         × (p + 4 * columns ≤ 8 * length (now line))
         × (p + 4 * columns < 2 ^ 31)
         × (4 * q ≤ length (now buffer))
-        × Roomy q columns w
+        × Roomy q (λ (j : ℕ). columns) w
         ⌝ }
-    ensures { λ r. ⌜ Grown q (now (buffer .entry)) (now (buffer .exit)) w r columns (runDigits (digitsOf (now (line .entry))) p columns) ⌝ }
+    ensures { λ r. ⌜ Grown q (now (buffer .entry)) (now (buffer .exit)) w r (runDigits (digitsOf (now (line .entry))) p columns) ⌝ }
 {
     let rest = columns % 32;
     let many = columns - rest;
@@ -203,9 +205,9 @@ fn receive_unstuffed(
     w: Writer,
     st: bool,
 ) -> Writer
-    requires { ⌜ (p .0 < 8 * length (now line)) × (4 * q ≤ length (now buffer)) × (j < 4) × Within q 1 w ⌝ }
+    requires { ⌜ (p .0 < 8 * length (now line)) × (4 * q ≤ length (now buffer)) × (j < 4) × Within q (cond st 0 1) w ⌝ }
     ensures { λ r. ⌜
-        Put q j (now (buffer .entry)) (now (buffer .exit)) w r 1 (cond st [] (getD (digitsOf (now (line .entry))) (p .0) 0 ∷ []))
+        Put q j (now (buffer .entry)) (now (buffer .exit)) w r (cond st [] (getD (digitsOf (now (line .entry))) (p .0) 0 ∷ []))
         ⌝ }
 {
     if st {
@@ -224,8 +226,8 @@ pub fn receive_justification(
     w: Writers,
     note: u8,
 ) -> Writers
-    requires { ⌜ (p + 4 ≤ 8 * length (now line)) × (p < 2 ^ 31) × (4 * q ≤ length (now buffer)) × Roomy q 1 w ⌝ }
-    ensures { λ r. ⌜ Grown q (now (buffer .entry)) (now (buffer .exit)) w r 1 (justificationDigits (digitsOf (now (line .entry))) p note) ⌝ }
+    requires { ⌜ (p + 4 ≤ 8 * length (now line)) × (p < 2 ^ 31) × (4 * q ≤ length (now buffer)) × Roomy q (λ (j : ℕ). length (justificationDigits (digitsOf (now line)) p note j)) w ⌝ }
+    ensures { λ r. ⌜ Grown q (now (buffer .entry)) (now (buffer .exit)) w r (justificationDigits (digitsOf (now (line .entry))) p note) ⌝ }
 {
     let a0 = w.a;
     let b0 = w.b;
@@ -268,4 +270,57 @@ pub fn receive_justification(
         order::is_stuffed(note, 3),
     );
     Writers { a, b, c, d }
+}
+
+// The head of set s, from place p of the line on: that of the last set ends with the justification column.
+fn receive_head(
+    row: Row,
+    line: &[u8],
+    p: usize,
+    s: usize,
+    note: u8,
+    buffer: &mut [u8],
+    q: usize,
+    w: Writers,
+) -> Writers
+    requires { ⌜
+        Shared row
+        × (p + row .set ≤ 8 * length (now line))
+        × (p < 2 ^ 30)
+        × (4 * q ≤ length (now buffer))
+        × Roomy q (λ (j : ℕ). length (headDigits row (digitsOf (now line)) p s note j)) w
+        ⌝ }
+    ensures { λ r. ⌜ Grown q (now (buffer .entry)) (now (buffer .exit)) w r (headDigits row (digitsOf (now (line .entry))) p s note) ⌝ }
+{
+    if s == row.sets - 1 {
+        return receive_justification(line, p + (places::head_end(row, s) - 4), buffer, q, w, note);
+    }
+    w
+}
+
+// Set s, from place p of the line on, of a frame with this note: its head, then its run, up to the next head.
+pub fn receive_set(
+    table: &[u64; 256],
+    row: Row,
+    line: &[u8],
+    p: usize,
+    s: usize,
+    note: u8,
+    buffer: &mut [u8],
+    q: usize,
+    w: Writers,
+) -> Writers
+    requires { ⌜
+        (now table ≡ tab 256 0 (lanesOf 2))
+        × Shared row
+        × (p + row .set ≤ 8 * length (now line))
+        × (p < 2 ^ 30)
+        × (4 * q ≤ length (now buffer))
+        × Roomy q (λ (j : ℕ). length (setDigits row (digitsOf (now line)) p s note j)) w
+        ⌝ }
+    ensures { λ r. ⌜ Grown q (now (buffer .entry)) (now (buffer .exit)) w r (setDigits row (digitsOf (now (line .entry))) p s note) ⌝ }
+{
+    let end = places::head_end(row, s);
+    let v = receive_head(row, line, p, s, note, buffer, q, w);
+    receive_columns(table, line, p + end, buffer, q, v, (row.set - end) / 4)
 }

@@ -1,6 +1,7 @@
 -- `put_quarter` appends to the digits of one quarter and leaves the others: `part-put`, of the part that is lent.
 use mathlib.Core.Path.{_∙_}
 use native.Mathlib.Omega.{arith}
+use Rattle.digits.proofs.Written.{written-length}
 use Rattle.unweave.proofs.Four.{part-inside, part-size, part-put}
 use borrow.Author.Needs.{needs}
 use Rattle.unweave.proofs.put_quarter.Statement.{statement}
@@ -25,7 +26,8 @@ returns c =
     let b = c .before .before .before .before .before in
     let put = c .before .before .put in
     part-put (b .args .q) (b .args .j) (b .args .buffer .now) (b .pre .1) (b .pre .0) (put .last .0)
-    (put .kept .0 ∙ part-size (b .args .q) (b .args .j) (b .args .buffer .now) (b .pre .1) (b .pre .0)) (b .args .w) (put .result) (b .args .n) _ (put .ensures)
+    (put .kept .0 ∙ part-size (b .args .q) (b .args .j) (b .args .buffer .now) (b .pre .1) (b .pre .0))
+    (b .args .w) (put .result) (b .args .n) _ (written-length (b .args .n) (b .args .word)) (put .ensures)
 
 pub put-quarter-spec : {M : Type 1} → statement M
 put-quarter-spec =

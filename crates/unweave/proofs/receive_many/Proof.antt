@@ -1,11 +1,11 @@
 -- `receive_many` puts 32 digits of each tributary: lane j of two words is every fourth digit (`many-lane`).
 use mathlib.Core.Path.{_∙_}
-use Prim.Native.Nat.{ℕ, _+_}
+use Prim.Native.Nat.{_+_}
 use native.Mathlib.Omega.{arith}
 use Rattle.digits.specs.Digits.{digitsOf}
 use Rattle.digits.proofs.Laws.{digits-binary}
 use Rattle.unweave.specs.Lanes.{runDigits}
-use Rattle.unweave.proofs.Four.{grown}
+use Rattle.unweave.proofs.Four.{put-as, grown}
 use Rattle.unweave.proofs.Lanes.{many-lane, joined-lanes}
 use borrow.Author.Needs.{needs}
 use Rattle.unweave.proofs.receive_many.Statement.{statement}
@@ -68,11 +68,11 @@ returns c =
     let bin = digits-binary (c34 .args .line .now) in
     let hi = joined-lanes ds (c34 .args .p) (c34 .args .p + 32) _ _ _ _ (c31 .read-digits .ensures .0) (c29 .read-digits2 .ensures .0) (c30 .gather .ensures .0) (c28 .gather2 .ensures .0) in
     let lo = joined-lanes ds (c34 .args .p + 64) (c34 .args .p + 64 + 32) _ _ _ _ (c27 .read-digits3 .ensures .0) (c25 .read-digits4 .ensures .0) (c26 .gather3 .ensures .0) (c24 .gather4 .ensures .0) in
-    grown (runDigits ds (c34 .args .p) 32) (c17 .put-quarter .ensures) (c12 .put-quarter2 .ensures) (c7 .put-quarter3 .ensures) (c2 .put-quarter4 .ensures)
-    (many-lane ds bin (c34 .args .p) 0 _ _ _ (omega arith) hi lo (c18 .both .ensures .0))
-    (many-lane ds bin (c34 .args .p) 1 _ _ _ (omega arith) hi lo (c13 .both2 .ensures .0))
-    (many-lane ds bin (c34 .args .p) 2 _ _ _ (omega arith) hi lo (c8 .both3 .ensures .0))
-    (many-lane ds bin (c34 .args .p) 3 _ _ _ (omega arith) hi lo (c3 .both4 .ensures .0))
+    grown (runDigits ds (c34 .args .p) 32)
+    (put-as (c17 .put-quarter .ensures) (many-lane ds bin (c34 .args .p) 0 _ _ _ (omega arith) hi lo (c18 .both .ensures .0)))
+    (put-as (c12 .put-quarter2 .ensures) (many-lane ds bin (c34 .args .p) 1 _ _ _ (omega arith) hi lo (c13 .both2 .ensures .0)))
+    (put-as (c7 .put-quarter3 .ensures) (many-lane ds bin (c34 .args .p) 2 _ _ _ (omega arith) hi lo (c8 .both3 .ensures .0)))
+    (put-as (c2 .put-quarter4 .ensures) (many-lane ds bin (c34 .args .p) 3 _ _ _ (omega arith) hi lo (c3 .both4 .ensures .0)))
 
 pub receive-many-spec : {M : Type 1} → statement M
 receive-many-spec =

@@ -2,7 +2,6 @@
 use Prim.Native.Nat.{_-_}
 use native.Mathlib.Omega.{arith}
 use Rattle.digits.specs.Digits.{digitsOf}
-use Rattle.unweave.proofs.Four.{roomy-less}
 use Rattle.unweave.proofs.Runs.{Receiving, receiving-none, receiving-more, receiving-room, receiving-all}
 use Rattle.unweave.proofs.receive_narrow.Statement.{statement}
 use Rattle.unweave.proofs.receive_narrow.Tie as tie
@@ -14,7 +13,9 @@ abbrev μ-loop : tie.MeasureT-loop
 μ-loop table line p buffer₀ q columns w₀ k₀ buffer w k = columns - k
 
 loop-holds : tie.Need-loop-holds Inv-loop μ-loop
-loop-holds c = receiving-none _ _ _ _ _ _
+loop-holds c =
+    let c2 = c .before .before in
+    receiving-none _ _ _ _ _ _ (c2 .pre .4)
 
 sub-at-most : tie.Need-sub-at-most Inv-loop μ-loop
 sub-at-most c =
@@ -46,11 +47,10 @@ receive-few-requires c κs =
     let n = c1 .at-most in (
       c6 .pre .0,
       omega (arith, c6 .pre .1, so-far .to, n .ensures .0),
-      omega (arith, c6 .pre .2, so-far .to),
       n .ensures .2,
       n .ensures .1,
       omega (arith, so-far .kept, c6 .pre .3),
-      roomy-less (n .result) (receiving-room so-far (c6 .pre .4)) (n .ensures .0),
+      receiving-room so-far (n .result) (n .ensures .0) (c6 .pre .4),
     )
 
 add-k : tie.Need-add-k Inv-loop μ-loop
@@ -71,7 +71,7 @@ loop-again c =
     let c2 = c .before .before in
     let c4 = c2 .before .before in
     let c6 = c4 .before .before in
-    receiving-more (c6 .loop .inv) (omega (arith, c6 .loop .inv .to, c4 .at-most .ensures .0)) (c2 .receive-few .kept .1 .1 .1 .0) (c2 .receive-few .ensures)
+    receiving-more (c6 .loop .inv) (c4 .at-most .result) (omega (arith, c6 .loop .inv .to, c4 .at-most .ensures .0)) (c2 .receive-few .kept .1 .1 .1 .0) (c2 .receive-few .ensures)
 
 same-length : tie.Need-same-length Inv-loop μ-loop
 same-length c =

@@ -2,6 +2,7 @@
 use mathlib.Core.Path.{_∙_, ap}
 use mathlib.Core.List.{[], _∷_}
 use Prim.Native.Nat.{ℕ}
+use native.Mathlib.Omega.{arith}
 use Rattle.unweave.proofs.Four.{put-none, put-as}
 use Rattle.unweave.proofs.Lanes.{single}
 use borrow.Author.Needs.{needs}
@@ -10,7 +11,15 @@ use Rattle.unweave.proofs.receive_unstuffed.Tie as tie
 
 returns : tie.Need-returns
 returns c =
-    rw (c .if1 .taken) (put-none _ _ _ _ 1)
+    let c3 = c .before .before .before in
+    rw (c .if1 .taken) (put-none _ _ _ _ (c3 .pre .3 .ready))
+
+put-quarter-requires : tie.Need-put-quarter-requires
+put-quarter-requires c κs =
+    let c1 = c .before in
+    let c2 = c1 .before in
+    let c5 = c2 .before .before .before in
+    (c5 .pre .1, c5 .pre .2, omega arith, omega (arith, c1 .line-digit .ensures .1), rw (c2 .if1 .left) at (c5 .pre .3))
 
 returns-2 : tie.Need-returns-2
 returns-2 c =
@@ -22,4 +31,4 @@ returns-2 c =
 pub receive-unstuffed-spec : {M : Type 1} → statement M
 receive-unstuffed-spec =
     tie.close
-    (tie.spec returns (λ c κs. search needs) (λ c. search needs) (λ c κs. search needs) (λ c. search needs) returns-2)
+    (tie.spec returns (λ c κs. search needs) (λ c. search needs) put-quarter-requires (λ c. search needs) returns-2)

@@ -3,7 +3,6 @@ use mathlib.Core.Path.{_≡_, refl}
 use Prim.Native.Nat.{_+_, _-_, _%_, _≤_}
 use native.Mathlib.Omega.{arith}
 use Rattle.digits.specs.Digits.{digitsOf}
-use Rattle.unweave.proofs.Four.{roomy-less}
 use Rattle.unweave.proofs.Runs.{Receiving, receiving-none, receiving-more, receiving-room, receiving-all}
 use Rattle.unweave.proofs.receive_wide.Statement.{statement}
 use Rattle.unweave.proofs.receive_wide.Tie as tie
@@ -15,7 +14,9 @@ abbrev μ-loop : tie.MeasureT-loop
 μ-loop table line p buffer₀ q columns w₀ k₀ buffer w k = columns - k
 
 loop-holds : tie.Need-loop-holds Inv-loop μ-loop
-loop-holds c = (refl, receiving-none _ _ _ _ _ _)
+loop-holds c =
+    let c2 = c .before .before in
+    (refl, receiving-none _ _ _ _ _ _ (c2 .pre .5))
 
 mul-receive-many : tie.Need-mul-receive-many Inv-loop μ-loop
 mul-receive-many c =
@@ -36,7 +37,7 @@ receive-many-requires c κs =
     let c5 = c2 .before .before .before in
     let so-far = c2 .loop .inv .1 in
     let more : c2 .loop .k + 32 ≤ c5 .args .columns = omega (arith, so-far .to, c1 .loop-test .taken, c2 .loop .inv .0, c5 .pre .4) in
-    (c5 .pre .0, omega (arith, c5 .pre .1), omega (arith, c5 .pre .2), omega (arith, so-far .kept, c5 .pre .3), roomy-less 32 (receiving-room so-far (c5 .pre .5)) (omega arith))
+    (c5 .pre .0, omega (arith, c5 .pre .1), omega (arith, c5 .pre .2), omega (arith, so-far .kept, c5 .pre .3), receiving-room so-far 32 (omega arith) (c5 .pre .5))
 
 add-k : tie.Need-add-k Inv-loop μ-loop
 add-k c =
@@ -57,7 +58,7 @@ loop-again c =
     let c8 = c5 .before .before .before in
     let so-far = c5 .loop .inv .1 in
     let more : c5 .loop .k + 32 ≤ c8 .args .columns = omega (arith, so-far .to, c4 .loop-test .taken, c5 .loop .inv .0, c8 .pre .4) in
-    (omega (arith, c5 .loop .inv .0), receiving-more so-far more (c2 .receive-many .kept .1 .1 .1 .0) (c2 .receive-many .ensures))
+    (omega (arith, c5 .loop .inv .0), receiving-more so-far 32 more (c2 .receive-many .kept .1 .1 .1 .0) (c2 .receive-many .ensures))
 
 same-length : tie.Need-same-length Inv-loop μ-loop
 same-length c =
