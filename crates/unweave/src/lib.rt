@@ -16,7 +16,7 @@ ghost use lib.ListN.{length, getD};
 ghost use Rattle.digits.specs.Digits.{digitsOf, tab, written};
 ghost use Rattle.levels.specs.Table.{Shared};
 ghost use Rattle.unweave.specs.Lanes.{lanesOf, runDigits, justificationDigits, headDigits, setDigits};
-ghost use Rattle.unweave.specs.Quarters.{Within, Roomy, Put, Grown};
+ghost use Rattle.unweave.specs.Quarters.{writerOf, Within, Roomy, Put, Grown};
 
 // The tributaries' writers, in order.
 pub struct Writers {
@@ -323,4 +323,21 @@ pub fn receive_set(
     let end = places::head_end(row, s);
     let v = receive_head(row, line, p, s, note, buffer, q, w);
     receive_columns(table, line, p + end, buffer, q, v, (row.set - end) / 4)
+}
+
+// The writer of tributary j (from 0).
+pub fn writer_of(w: Writers, j: usize) -> Writer
+    requires { ⌜ j < 4 ⌝ }
+    ensures { λ r. ⌜ r ≡ writerOf w j ⌝ }
+{
+    if j == 0 {
+        return w.a;
+    }
+    if j == 1 {
+        return w.b;
+    }
+    if j == 2 {
+        return w.c;
+    }
+    w.d
 }
