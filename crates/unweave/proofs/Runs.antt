@@ -1,7 +1,6 @@
--- Runs of columns under way: from some column on, k of them are handed out; and the justification column.
+-- Runs of columns under way: from some column on, k of them are handed out; and what the head of a set hands out.
 use mathlib.Core.Path.{_≡_, refl, sym, ap, _∙_}
 use mathlib.Core.Logic.{_≢_}
-use mathlib.Core.Bool.{Bool, cond, true, false}
 use mathlib.Core.List.{List, [], _∷_, _++_}
 use Prim.Native.Nat.{ℕ, zero, suc, _+_, _-_, _*_, _≤_, _<_}
 use native.Mathlib.Omega.{arith}
@@ -11,25 +10,11 @@ use borrow.Author.Tests.{eq-eqb, ne-eqb}
 use Rattle.levels.specs.declared.table.Row.{Row}
 use Rattle.levels.specs.Table.{Shared}
 use Rattle.levels.specs.Places.{headEnd}
-use Rattle.levels.specs.Order.{stuffed}
-use Rattle.words.specs.declared.Writer.{Writer}
 use Rattle.unweave.specs.declared.Writers.{Writers}
 use Rattle.unweave.specs.Lanes.{picked, runDigits, justificationDigits, headDigits}
-use Rattle.unweave.specs.Quarters.{Within, Roomy, Grown}
+use Rattle.unweave.specs.Quarters.{Roomy, Grown}
 use Rattle.unweave.proofs.Lanes.{picked-cat}
 use Rattle.unweave.proofs.Four.{roomy-after, grown-as, grown-none, grown-more}
-
-pub justified : (ds : List ℕ) (p note j : ℕ) {p′ : ℕ} {st : Bool} → p′ ≡ p + j → st ≡ stuffed note j → cond st [] (getD ds p′ 0 ∷ []) ≡ justificationDigits ds p note j
-justified ds p note j ep es = rw (ep, es)
-
--- and has room
-pub justified-room : {q : ℕ} {w : Writer} (ds : List ℕ) (p note j : ℕ) {st : Bool} → st ≡ stuffed note j → Within q (length (justificationDigits ds p note j)) w
-    → Within q (cond st 0 1) w
-justified-room {q} {w} ds p note j {st} e h = rw e (same (stuffed note j) h)
-  where
-    same : (t : Bool) → Within q (length (cond t [] (getD ds (p + j) 0 ∷ []))) w → Within q (cond t 0 1) w
-    same true h = h
-    same false h = h
 
 pub picked-length : (n : ℕ) (ds : List ℕ) (p : ℕ) → length (picked n ds p) ≡ n
 unfolding picked

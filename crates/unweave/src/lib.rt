@@ -9,10 +9,8 @@ use levels::places::FramePlace;
 use levels::table::Row;
 use words::Writer;
 ghost use mathlib.Core.Path.{_≡_};
-ghost use mathlib.Core.Bool.{cond};
-ghost use mathlib.Core.List.{[], _∷_};
 ghost use Prim.Native.Nat.{ℕ, _+_, _*_, _-_, _/_, _%_, _^_, _<_, _≤_};
-ghost use lib.ListN.{length, getD};
+ghost use lib.ListN.{length};
 ghost use Rattle.digits.specs.Digits.{digitsOf, tab, written};
 ghost use Rattle.levels.specs.Table.{Shared};
 ghost use Rattle.unweave.specs.Lanes.{lanesOf, runDigits, justificationDigits, headDigits, setDigits};
@@ -171,7 +169,7 @@ fn receive_narrow(
 }
 
 // The columns between two heads, from place p of the line on: each tributary is handed every fourth digit.
-pub fn receive_columns(
+fn receive_columns(
     table: &[u64; 256],
     line: &[u8],
     p: usize,
@@ -195,80 +193,57 @@ pub fn receive_columns(
     receive_narrow(table, line, p + 4 * many, buffer, q, v, rest)
 }
 
-// The justification place p of tributary j (from 0): its digit, or none where the frame is stuffed.
+// The justification place of tributary j (from 0), in the column from place p on: its digit, or none where the note says that it is stuffed.
 fn receive_unstuffed(
     line: &[u8],
-    p: FramePlace,
+    p: usize,
+    note: u8,
     buffer: &mut [u8],
     q: usize,
     j: usize,
     w: Writer,
-    st: bool,
 ) -> Writer
-    requires { ⌜ (p .0 < 8 * length (now line)) × (4 * q ≤ length (now buffer)) × (j < 4) × Within q (cond st 0 1) w ⌝ }
-    ensures { λ r. ⌜
-        Put q j (now (buffer .entry)) (now (buffer .exit)) w r (cond st [] (getD (digitsOf (now (line .entry))) (p .0) 0 ∷ []))
+    requires { ⌜
+        (p + 4 ≤ 8 * length (now line))
+        × (p < 2 ^ 31)
+        × (4 * q ≤ length (now buffer))
+        × (j < 4)
+        × Within q (length (justificationDigits (digitsOf (now line)) p note j)) w
         ⌝ }
+    ensures { λ r. ⌜ Put q j (now (buffer .entry)) (now (buffer .exit)) w r (justificationDigits (digitsOf (now (line .entry))) p note j) ⌝ }
 {
-    if st {
+    if order::is_stuffed(note, j) {
         return w;
     }
-    let d = lent::line_digit(line, p);
+    let d = lent::line_digit(line, FramePlace(p + j));
     put_quarter(buffer, q, j, w, d as u64, 1)
 }
 
 // The justification column of a frame with this note, from place p of the line on.
-pub fn receive_justification(
+fn receive_justification(
     line: &[u8],
     p: usize,
+    note: u8,
     buffer: &mut [u8],
     q: usize,
     w: Writers,
-    note: u8,
 ) -> Writers
-    requires { ⌜ (p + 4 ≤ 8 * length (now line)) × (p < 2 ^ 31) × (4 * q ≤ length (now buffer)) × Roomy q (λ (j : ℕ). length (justificationDigits (digitsOf (now line)) p note j)) w ⌝ }
+    requires { ⌜
+        (p + 4 ≤ 8 * length (now line))
+        × (p < 2 ^ 31)
+        × (4 * q ≤ length (now buffer))
+        × Roomy q (λ (j : ℕ). length (justificationDigits (digitsOf (now line)) p note j)) w
+        ⌝ }
     ensures { λ r. ⌜ Grown q (now (buffer .entry)) (now (buffer .exit)) w r (justificationDigits (digitsOf (now (line .entry))) p note) ⌝ }
 {
     let a0 = w.a;
     let b0 = w.b;
     let c0 = w.c;
     let d0 = w.d;
-    let a = receive_unstuffed(
-        line,
-        FramePlace(p),
-        buffer,
-        q,
-        0,
-        a0,
-        order::is_stuffed(note, 0),
-    );
-    let b = receive_unstuffed(
-        line,
-        FramePlace(p + 1),
-        buffer,
-        q,
-        1,
-        b0,
-        order::is_stuffed(note, 1),
-    );
-    let c = receive_unstuffed(
-        line,
-        FramePlace(p + 2),
-        buffer,
-        q,
-        2,
-        c0,
-        order::is_stuffed(note, 2),
-    );
-    let d = receive_unstuffed(
-        line,
-        FramePlace(p + 3),
-        buffer,
-        q,
-        3,
-        d0,
-        order::is_stuffed(note, 3),
-    );
+    let a = receive_unstuffed(line, p, note, buffer, q, 0, a0);
+    let b = receive_unstuffed(line, p, note, buffer, q, 1, b0);
+    let c = receive_unstuffed(line, p, note, buffer, q, 2, c0);
+    let d = receive_unstuffed(line, p, note, buffer, q, 3, d0);
     Writers { a, b, c, d }
 }
 
@@ -293,7 +268,7 @@ fn receive_head(
     ensures { λ r. ⌜ Grown q (now (buffer .entry)) (now (buffer .exit)) w r (headDigits row (digitsOf (now (line .entry))) p s note) ⌝ }
 {
     if s == row.sets - 1 {
-        return receive_justification(line, p + (places::head_end(row, s) - 4), buffer, q, w, note);
+        return receive_justification(line, p + (places::head_end(row, s) - 4), note, buffer, q, w);
     }
     w
 }
