@@ -120,6 +120,7 @@ module _ (row : Row) (notes ds : List ℕ) (j : ℕ) where
     taken-set =
         let next : f * columns row + (s + 1) * wide row ≡ at (wide row) = omega (arith, add-mul s 1 (wide row)) in
         let here : f * columns row + s * wide row ≡ at 0 = omega arith in
-        rw (next, here)
-        (taken-columns (wide row) (omega arith)
-        ∙ ap (λ (l : List ℕ). takenTo row notes ds j (at 0) ++ l) (past (headOf row s (stuffed note j)) (head-fours row sh s (stuffed note j)) (omega (arith, head-fits row sh s (stuffed note j), head-fours row sh s (stuffed note j), sh .set-fours)) ∙ set-ways))
+        let head = headOf row s (stuffed note j) in
+        let fours : head % 4 ≡ 0 = head-fours row sh s (stuffed note j) in
+        let run = past head fours (omega (arith, head-fits row sh s (stuffed note j), fours, sh .set-fours)) ∙ set-ways in
+        rw (next, here) (taken-columns (wide row) (omega arith) ∙ ap (λ (l : List ℕ). takenTo row notes ds j (at 0) ++ l) run)

@@ -141,7 +141,15 @@ module _ (ds : List ℕ) (bin : Binary ds) (p j : ℕ) (jh : j < 4) where
       let lt : (a : ℕ) → laneAt a < 2 ^ 8 = λ a. lane-lt 8 (windowAt ds a 32) j in
       let none : p + j + 4 * 0 ≡ p + j = omega arith in
       written-cat 16 16 (laneAt p * 2 ^ 8 + laneAt (p + 32)) (laneAt (p + 64) * 2 ^ 8 + laneAt (p + 64 + 32)) (omega (arith, lt (p + 64), lt (p + 64 + 32)))
-      ∙ rw (written-cat 8 8 (laneAt p) (laneAt (p + 32)) (lt (p + 32)), written-cat 8 8 (laneAt (p + 64)) (laneAt (p + 64 + 32)) (lt (p + 64 + 32)), piece 0 p (omega arith), piece 8 (p + 32) (omega arith), piece 16 (p + 64) (omega arith), piece 24 (p + 64 + 32) (omega arith), none)
+      ∙ rw (
+        written-cat 8 8 (laneAt p) (laneAt (p + 32)) (lt (p + 32)),
+        written-cat 8 8 (laneAt (p + 64)) (laneAt (p + 64 + 32)) (lt (p + 64 + 32)),
+        piece 0 p (omega arith),
+        piece 8 (p + 32) (omega arith),
+        piece 16 (p + 64) (omega arith),
+        piece 24 (p + 64 + 32) (omega arith),
+        none,
+      )
       (sym (picked-cat ds (p + j) 16 16 ∙ rw (picked-cat ds (p + j) 8 8, later) refl))
     where
       later : picked 16 ds (p + j + 4 * 16) ≡ picked 8 ds (p + j + 4 * 16) ++ picked 8 ds (p + j + 4 * 24)

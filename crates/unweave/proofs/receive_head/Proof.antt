@@ -31,8 +31,12 @@ receive-justification-requires c κs =
     let c6 = c2 .before .before .before .before in
     let last = eq-eqb (c6 .args .s) (c6 .args .row .sets - 1) (c2 .if1 .taken) in
     let end : 4 ≤ headEnd (c6 .args .row) (c6 .args .s) = omega (arith, last-head (c6 .args .row) (c6 .pre .0) (c6 .args .s) (c2 .if1 .taken), c6 .pre .0 .last-eight) in
-    rw (c1 .head-end .ensures)
-    (omega (arith, c6 .pre .1, head-end-in (c6 .args .row) (c6 .pre .0) (c6 .args .s)), omega (arith, c6 .pre .2, head-end-short (c6 .args .row) (c6 .pre .0) (c6 .args .s)), c6 .pre .3, rw last at (c6 .pre .4))
+    rw (c1 .head-end .ensures) (
+      omega (arith, c6 .pre .1, head-end-in (c6 .args .row) (c6 .pre .0) (c6 .args .s)),
+      omega (arith, c6 .pre .2, head-end-short (c6 .args .row) (c6 .pre .0) (c6 .args .s)),
+      c6 .pre .3,
+      rw last at (c6 .pre .4),
+    )
 
 returns : tie.Need-returns
 returns c =
@@ -46,7 +50,8 @@ returns c =
 returns-2 : tie.Need-returns-2
 returns-2 c =
     let c4 = c .before .before .before .before in
-    grown-as (headDigits (c4 .args .row) (digitsOf (c4 .args .line .now)) (c4 .args .p) (c4 .args .s) (c4 .args .note)) (grown-none (c4 .args .q) (c4 .args .buffer .now) (c4 .args .w) (λ j h. c4 .pre .4 j h .ready))
+    grown-as (headDigits (c4 .args .row) (digitsOf (c4 .args .line .now)) (c4 .args .p) (c4 .args .s) (c4 .args .note))
+    (grown-none (c4 .args .q) (c4 .args .buffer .now) (c4 .args .w) (λ j h. c4 .pre .4 j h .ready))
     (λ j h. head-none (c4 .args .row) (digitsOf (c4 .args .line .now)) (c4 .args .p) (c4 .args .s) (c4 .args .note) (c .if1 .left) j)
 
 pub receive-head-spec : {M : Type 1} → statement M

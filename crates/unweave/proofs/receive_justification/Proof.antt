@@ -30,8 +30,13 @@ receive-unstuffed-requires-4 c κs =
     let c3 = c .before .before .before in
     let c7 = c3 .before .before .before .before in
     let c11 = c7 .before .before .before .before in
-    let c19 = c11 .before .before .before .before .before .before .before .before in
-    (c19 .pre .0, c19 .pre .1, omega (arith, c19 .pre .2, c11 .receive-unstuffed .kept .1 .1 .1 .0, c7 .receive-unstuffed2 .kept .1 .1 .1 .0, c3 .receive-unstuffed3 .kept .1 .1 .1 .0), omega arith, c19 .pre .3 3 (omega arith))
+    let c19 = c11 .before .before .before .before .before .before .before .before in (
+      c19 .pre .0,
+      c19 .pre .1,
+      omega (arith, c19 .pre .2, c11 .receive-unstuffed .kept .1 .1 .1 .0, c7 .receive-unstuffed2 .kept .1 .1 .1 .0, c3 .receive-unstuffed3 .kept .1 .1 .1 .0),
+      omega arith,
+      c19 .pre .3 3 (omega arith),
+    )
 
 same-length : tie.Need-same-length
 same-length c =

@@ -67,7 +67,8 @@ returns c =
     let ds = digitsOf (c34 .args .line .now) in
     let bin = digits-binary (c34 .args .line .now) in
     let hi = joined-lanes ds (c34 .args .p) (c34 .args .p + 32) _ _ _ _ (c31 .read-digits .ensures .0) (c29 .read-digits2 .ensures .0) (c30 .gather .ensures .0) (c28 .gather2 .ensures .0) in
-    let lo = joined-lanes ds (c34 .args .p + 64) (c34 .args .p + 64 + 32) _ _ _ _ (c27 .read-digits3 .ensures .0) (c25 .read-digits4 .ensures .0) (c26 .gather3 .ensures .0) (c24 .gather4 .ensures .0) in
+    let lo = joined-lanes ds (c34 .args .p + 64) (c34 .args .p + 64 + 32) _ _ _ _
+    (c27 .read-digits3 .ensures .0) (c25 .read-digits4 .ensures .0) (c26 .gather3 .ensures .0) (c24 .gather4 .ensures .0) in
     grown (runDigits ds (c34 .args .p) 32)
     (put-as (c17 .put-quarter .ensures) (many-lane ds bin (c34 .args .p) 0 _ _ _ (omega arith) hi lo (c18 .both .ensures .0)))
     (put-as (c12 .put-quarter2 .ensures) (many-lane ds bin (c34 .args .p) 1 _ _ _ (omega arith) hi lo (c13 .both2 .ensures .0)))

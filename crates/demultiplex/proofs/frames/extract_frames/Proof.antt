@@ -5,6 +5,7 @@ use native.Mathlib.Omega.{arith}
 use native.Mathlib.Nat.{zero-mul}
 use lib.ListN.{length}
 use Rattle.digits.proofs.Lists.{of-four}
+use Rattle.words.specs.declared.Writer.{Writer}
 use Rattle.levels.proofs.Columns.{columns}
 use Rattle.unweave.specs.Quarters.{writerOf}
 use Rattle.demultiplex.specs.Handing.{Handing}
@@ -19,6 +20,9 @@ Inv-loop table row line notes buffer₀ q w₀ f₀ buffer w f =
 abbrev μ-loop : tie.MeasureT-loop
 μ-loop table row line notes buffer₀ q w₀ f₀ buffer w f = length notes - f
 
+abbrev first : Writer
+first = record { at = 0; held = 0; fill = 0 }
+
 loop-holds : tie.Need-loop-holds Inv-loop μ-loop
 loop-holds c =
     let c3 = c .before .before .before in
@@ -28,7 +32,7 @@ loop-holds c =
       refl,
       rw (zero-mul (columns (c3 .args .row)))
           (handing-none line notes (c3 .args .buffer .now) (c3 .pre .1) (c3 .pre .2) _
-          (of-four (λ (j : ℕ). writerOf (record { a = record { at = 0; held = 0; fill = 0 }; b = record { at = 0; held = 0; fill = 0 }; c = record { at = 0; held = 0; fill = 0 }; d = record { at = 0; held = 0; fill = 0 } }) j ≡ record { at = 0; held = 0; fill = 0 }) refl refl refl refl)),
+          (of-four (λ (j : ℕ). writerOf (record { a = first; b = first; c = first; d = first }) j ≡ first) refl refl refl refl)),
     )
 
 extract-frame-requires : tie.Need-extract-frame-requires Inv-loop μ-loop

@@ -12,7 +12,8 @@ returns c =
     let c6 = c2 .before .before .before .before in
     let c11 = c6 .before .before .before .before .before in (
       refl,
-      quarter-ended (c11 .args .quarter .now) (c6 .finish .last .0) (c2 .clear .last .0) (c11 .args .w) (c6 .finish .result) (c6 .finish .ensures) (c6 .finish .kept .0) (omega (arith, c11 .pre .0 .room)) (c2 .clear .ensures)
+      quarter-ended (c11 .args .quarter .now) (c6 .finish .last .0) (c2 .clear .last .0) (c11 .args .w) (c6 .finish .result)
+          (c6 .finish .ensures) (c6 .finish .kept .0) (omega (arith, c11 .pre .0 .room)) (c2 .clear .ensures)
           (λ i. omega (arith, c .slice-known3 .given i)),
     )
 
