@@ -1,11 +1,10 @@
-use Prim.Native.Nat.{_-_, _^_}
+-- `eight_at` cuts eight digits out of a number.
+use Prim.Native.Nat.{_/_, _^_}
 use lib.Bits.{and-mask, mask-lt}
-use Prim.Native.Nat.{_/_}
 use borrow.Author.Needs.{needs}
 use Rattle.unweave.proofs.sorting.eight_at.Statement.{statement}
 use Rattle.unweave.proofs.sorting.eight_at.Tie as tie
 
--- src/lib.rt:49:1
 returns : tie.Need-returns
 returns c = let n = c .args .x / 2 ^ c .args .k in (and-mask n 8, mask-lt n 8)
 

@@ -1,11 +1,10 @@
+-- `gather` joins four entries, two columns each: `lanes-joined`.
 use mathlib.Core.Path.{refl}
-use Prim.Native.Nat.{_-_}
 use Rattle.unweave.proofs.Lanes.{lanes-joined, lanes-le}
 use borrow.Author.Needs.{needs}
 use Rattle.unweave.proofs.sorting.gather.Statement.{statement}
 use Rattle.unweave.proofs.sorting.gather.Tie as tie
 
--- src/lib.rt:48:1
 returns : tie.Need-returns
 returns c =
     let x = c .before .before .before .before .args .x in

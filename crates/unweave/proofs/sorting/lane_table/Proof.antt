@@ -1,11 +1,10 @@
+-- `lane_table` is the table that `lanesOf` makes, by computation.
 use mathlib.Core.Path.{refl}
-use Prim.Native.Nat.{_-_}
 use Rattle.unweave.specs.Lanes.{laneOf, lanesOf}
 use Rattle.digits.specs.Digits.{tab}
 use Rattle.unweave.proofs.sorting.lane_table.Statement.{statement}
 use Rattle.unweave.proofs.sorting.lane_table.Tie as tie
 
--- src/lib.rt:18:1
 returns : tie.Need-returns
 unfolding tab lanesOf laneOf
 returns c = refl

@@ -1,5 +1,6 @@
+-- `two_at` reads an entry of the table.
 use mathlib.Core.Path.{_≡_, refl}
-use Prim.Native.Nat.{_-_, _/_, _%_, _^_}
+use Prim.Native.Nat.{_/_, _%_, _^_}
 use native.Mathlib.Omega.{arith}
 use Rattle.unweave.specs.Lanes.{lanesOf}
 use native.Mathlib.Nat.{zero-add}
@@ -9,7 +10,6 @@ use borrow.Author.Needs.{needs}
 use Rattle.unweave.proofs.sorting.two_at.Statement.{statement}
 use Rattle.unweave.proofs.sorting.two_at.Tie as tie
 
--- src/lib.rt:39:1
 returns : tie.Need-returns
 returns c =
     let b = c .before .before .before in
