@@ -64,8 +64,9 @@
  *      frame, counted from 0
  *   6  the receiver state is not valid: a level that is not 2, 3 or 4, a window of 2 to the L
  *      or more, over L digits seen, a mode over 6, a place of N or more, hunting at a place
- *      other than 0, or not hunting with fewer than L digits seen; for the finder of 2048 kbit/s
- *      frames: see spritbobbin_finder_feed
+ *      other than 0, not hunting with fewer than L digits seen, N or more digits in the
+ *      stretch, more zeros than digits there, or a number for yes or no that is over 1; for the
+ *      finder of 2048 kbit/s frames: see spritbobbin_finder_feed
  *   7  first + count is more than the digits of the slice
  *   9  writing a capture: the label is over 32 bytes; reading one: the bytes are no run of a
  *      capture's fields, and the answer names the byte where the field at fault begins or should
@@ -95,7 +96,7 @@
  *
  *     static void receive(const uint8_t *bytes, size_t length)
  *     {
- *         uint64_t state[5], answer[3], first = 0, digits = 8 * (uint64_t)length;
+ *         uint64_t state[9], answer[3], first = 0, digits = 8 * (uint64_t)length;
  *         uint8_t frame[366];
  *
  *         spritbobbin_receiver_fresh(2, state, frame);

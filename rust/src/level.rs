@@ -123,7 +123,7 @@ mod tests {
     /// The library's own refusal of a level.
     fn refused(number: u64) -> bool {
         // Sound: the arrays have the lengths that the library writes.
-        unsafe { raw::spritbobbin_receiver_fresh(number, &mut [0; 5], &mut [0; raw::STORE]) != 0 }
+        unsafe { raw::spritbobbin_receiver_fresh(number, &mut [0; 9], &mut [0; raw::STORE]) != 0 }
     }
 
     #[test]

@@ -14,7 +14,7 @@ use Rattle.levels.specs.declared.table.Row.{Row}
 use Rattle.levels.specs.Order.{before, decisions, placesOf}
 use Rattle.levels.proofs.Inverse.{places-length}
 use Rattle.demultiplex.specs.Extract.{takenTo, quarterFrom}
-use Rattle.demultiplex.proofs.Extracting.{taken-length}
+use Rattle.demultiplex.proofs.Taking.{taken-length}
 
 binary-map : (f : ℕ → ℕ) (l : List ℕ) → ((k : ℕ) → f k < 2) → Binary (map f l)
 binary-map f [] h i = lit< tt

@@ -1,98 +1,108 @@
--- The four quarters of the buffer are written one after the other: what stands in the first j of them, that it holds at the start, that
--- one quarter more keeps it, and that four of them are the buffer.
-use mathlib.Core.Path.{_≡_, sym, _∙_, ap}
-use mathlib.Core.List.{List, [], _++_, append-assoc}
-use Prim.Native.Nat.{ℕ, zero, suc, _+_, _*_, _/_, _-_, _≤_, _<_}
+-- The four quarters of the buffer are ended one after the other: what the first j of them hold, that it holds at the start, that one quarter
+-- more keeps it, and that four of them are the buffer, where each writer has put out its tributary's digits.
+use mathlib.Core.Path.{_≡_, refl, sym, _∙_, ap}
+use mathlib.Core.List.{List, _++_}
+use Prim.Native.Nat.{ℕ, _+_, _*_, _-_, _≤_, _<_}
 use native.Mathlib.Omega.{arith}
-use native.Mathlib.Numerals.{add-one}
-use native.Mathlib.Nat.{suc-mul, zero-mul, mul-le-mul-right, add-sub-cancel-left}
-use lib.ListN.{length, getD, set, take, length-append, length-set}
-use lib.Seq.{getD-set-same, getD-set-other, take-at, take-all, length-take-le}
+use native.Mathlib.Nat.{zero-mul}
+use lib.ListN.{length, getD, set, take, drop, replicate, length-set, length-drop, take-append-drop}
+use lib.Seq.{getD-set-same, getD-set-other, take-all, drop-drop}
 use borrow.Author.Count.{below-none, below-more}
-use borrow.Rule.Slice.PartMut.{putMid, midOf, postOf, mid-len, same-len-mid}
-use Rattle.digits.specs.Digits.{tab}
+use borrow.Rule.Slice.PartMut.{midOf, putMid, same-len-mid}
+use Rattle.digits.specs.Digits.{digitsOf, bytesOf, tab}
 use Rattle.digits.proofs.Laws.{bytes-length, tab-of}
+use Rattle.words.specs.declared.Writer.{Writer}
+use Rattle.words.specs.Words.{outFrom}
 use Rattle.levels.specs.declared.table.Row.{Row}
-use Rattle.levels.specs.Table.{Shared}
-use Rattle.levels.specs.Sizes.{Accepted, Fits}
-use Rattle.levels.specs.Order.{before, decisions, countOf, countsOf}
+use Rattle.levels.specs.Order.{decisions, countOf, countsOf}
 use Rattle.levels.proofs.Counts.{count-of}
-use Rattle.levels.proofs.Judged.{fits-quarter}
-use Rattle.demultiplex.specs.Extract.{quarterFrom, quartersFrom}
+use Rattle.unweave.specs.declared.Writers.{Writers}
+use Rattle.unweave.specs.Quarters.{partOf, writerOf}
+use Rattle.unweave.proofs.Four.{part-inside, part-lent, part-size, part-back, part-others}
+use Rattle.demultiplex.specs.Extract.{takenTo, quarterFrom, quartersFrom}
+use Rattle.demultiplex.specs.Handing.{Handing}
+use Rattle.demultiplex.proofs.Taking.{taken-length}
+use Rattle.demultiplex.proofs.Handing.{come}
 
-quarter-length : (row : Row) (notes line : List ℕ) (q j : ℕ) → length (quarterFrom row notes line q j) ≡ q
-unfolding quarterFrom
-quarter-length row notes line q j = bytes-length q _
+-- how many digits a writer has put out, and what its end leaves in a quarter of q bytes
+abbrev pub countBy : Writer → ℕ
+countBy w = 8 * w .at + w .fill
 
--- the first j quarters
-unfoldable pub quartersTo : Row → List ℕ → List ℕ → ℕ → ℕ → List ℕ
-quartersTo row notes line q zero = []
-quartersTo row notes line q (suc j) = quartersTo row notes line q j ++ quarterFrom row notes line q j
+abbrev pub endOf : ℕ → List ℕ → Writer → List ℕ
+endOf q part w = bytesOf q (outFrom 0 part w ++ replicate (8 * q - countBy w) 0)
 
-pub record Quartered (row : Row) (line notes : List ℕ) (q j : ℕ) (counts buffer : List ℕ) : Type 0 where
-  pub fits : Fits row (length line) (length notes) q
+pub record Ended (q : ℕ) (w : Writers) (old : List ℕ) (j : ℕ) (counts buffer : List ℕ) : Type 0 where
   pub four : length counts ≡ 4
-  pub size : length buffer ≡ 4 * q
-  pub counted : (k : ℕ) → k < j → getD counts k 0 ≡ countOf row (decisions notes k) (length notes)
-  pub written : take (j * q) buffer ≡ quartersTo row notes line q j
+  pub size : length buffer ≡ length old
+  pub counted : (k : ℕ) → k < j → getD counts k 0 ≡ countBy (writerOf w k)
+  pub done : (k : ℕ) → k < j → partOf q buffer k ≡ endOf q (partOf q old k) (writerOf w k)
+  pub rest : (k : ℕ) → j ≤ k → partOf q buffer k ≡ partOf q old k
 
-pub quarters-none : (row : Row) (line notes counts buffer : List ℕ) → Shared row → Accepted row (length line) (length notes) (length buffer) → length counts ≡ 4
-    → Quartered row line notes (length buffer / 4) 0 counts buffer
-unfolding quartersTo
-quarters-none row line notes counts buffer sh ok four =
+pub ended-none : (q : ℕ) (w : Writers) (counts buffer : List ℕ) → length counts ≡ 4 → Ended q w buffer 0 counts buffer
+ended-none q w counts buffer four =
     record {
-      fits = fits-quarter sh ok;
       four = four;
-      size = ok .quarters;
-      counted = below-none (λ (k : ℕ). getD counts k 0 ≡ countOf row (decisions notes k) (length notes));
-      written = rw (zero-mul (length buffer / 4));
+      size = refl;
+      counted = below-none (λ (k : ℕ). getD counts k 0 ≡ countBy (writerOf w k));
+      done = below-none (λ (k : ℕ). partOf q buffer k ≡ endOf q (partOf q buffer k) (writerOf w k));
+      rest = λ k _. refl;
     }
 
-module _ {row : Row} {line notes : List ℕ} {q j : ℕ} {counts buffer : List ℕ} (so-far : Quartered row line notes q j counts buffer) where
-  module _ (h : j < 4) where
-    -- quarter j ends inside the buffer
-    pub quarter-inside : j * q + q ≤ length buffer
-    quarter-inside = omega (arith, suc-mul j q, mul-le-mul-right {m = suc j} {n = 4} q h, so-far .size)
+module _ {q : ℕ} {w : Writers} {old : List ℕ} {j : ℕ} {counts buffer : List ℕ} (so-far : Ended q w old j counts buffer) (room : 4 * q ≤ length old) (h : j < 4) where
+  abbrev part : List ℕ
+  part = midOf (j * q) (j * q + q - j * q) buffer
 
-    -- the part that is lent for it
-    abbrev part : List ℕ
-    part = midOf (j * q) (j * q + q - j * q) buffer
+  inside : 4 * q ≤ length buffer
+  inside = omega (arith, so-far .size)
 
-    part-size : length part ≡ q
-    part-size = mid-len (j * q) (j * q + q) buffer quarter-inside ∙ add-sub-cancel-left (j * q) q
+  pub quarter-inside : j * q + q ≤ length buffer
+  quarter-inside = part-inside q j buffer h inside
 
-    pub extract-asks : (j < 4) × Fits row (length line) (length notes) (length part)
-    extract-asks = (h, rw part-size (so-far .fits))
+  pub lent-size : length part ≡ q
+  lent-size = part-size q j buffer h inside
 
-    pub quarters-more : (count : ℕ) (ys : List ℕ) → (count ≡ before row (decisions notes j) j (2 * length line)) × (ys ≡ quarterFrom row notes line (length part) j)
-        → Quartered row line notes q (j + 1) (set counts j count) (putMid (j * q) (j * q + q - j * q) buffer ys)
-    unfolding quartersTo
-    quarters-more count ys e =
-        let a = j * q in
-        let k = j * q + q - j * q in
-        let F = length notes in
-        let number : count ≡ countOf row (decisions notes j) F = e .0 ∙ count-of row (so-far .fits .shared) j h (decisions notes j) F (length line) (so-far .fits .whole) in
-        let quarter : ys ≡ quarterFrom row notes line q j = rw part-size at (e .1) in
-        let end : (j + 1) * q ≡ a + q = ap (λ (m : ℕ). m * q) (add-one j) ∙ suc-mul j q in
-        let ahead : length (take a buffer) ≡ a = length-take-le a buffer (omega (arith, quarter-inside)) in
-        let own : length ys ≡ q = ap length quarter ∙ quarter-length row notes line q j in
-        let up : length (take a buffer ++ ys) ≡ (j + 1) * q = length-append (take a buffer) ys ∙ rw end (omega (arith, ahead, own)) in
-        record {
-          fits = so-far .fits;
-          four = length-set counts j count ∙ so-far .four;
-          size = same-len-mid a k buffer ys (own ∙ sym part-size) ∙ so-far .size;
-          counted = below-more (λ (k : ℕ). getD (set counts j count) k 0 ≡ countOf row (decisions notes k) F) j
-              (λ k m. getD-set-other counts j k count 0 (λ e. omega arith) ∙ so-far .counted k m)
-              (getD-set-same counts j count 0 (omega (arith, so-far .four)) ∙ number);
-          written = ap (λ (l : List ℕ). take ((j + 1) * q) l) (sym (append-assoc (take a buffer) ys (postOf a k buffer)))
-              ∙ take-at (take a buffer ++ ys) (postOf a k buffer) ((j + 1) * q) up
-              ∙ rw (add-one j, so-far .written, quarter);
-        }
+  pub ended-more : (count : ℕ) (ys : List ℕ)
+      → (count ≡ countBy (writerOf w j)) × (ys ≡ bytesOf (length part) (outFrom 0 part (writerOf w j) ++ replicate (8 * length part - countBy (writerOf w j)) 0))
+      → Ended q w old (j + 1) (set counts j count) (putMid (j * q) (j * q + q - j * q) buffer ys)
+  ended-more count ys e =
+      let lent : part ≡ partOf q old j = part-lent q j buffer h inside ∙ so-far .rest j (omega arith) in
+      let mine : ys ≡ endOf q (partOf q old j) (writerOf w j) =
+      (rw lent-size at (e .1)) ∙ ap (λ (l : List ℕ). endOf q l (writerOf w j)) lent in
+      let own : length ys ≡ q = ap length mine ∙ bytes-length q _ in
+      let new = putMid (j * q) (j * q + q - j * q) buffer ys in
+      record {
+        four = length-set counts j count ∙ so-far .four;
+        size = same-len-mid (j * q) (j * q + q - j * q) buffer ys (own ∙ sym lent-size) ∙ so-far .size;
+        counted = below-more (λ (k : ℕ). getD (set counts j count) k 0 ≡ countBy (writerOf w k)) j
+            (λ k m. getD-set-other counts j k count 0 (λ e. omega arith) ∙ so-far .counted k m)
+            (getD-set-same counts j count 0 (omega (arith, so-far .four)) ∙ e .0);
+        done = below-more (λ (k : ℕ). partOf q new k ≡ endOf q (partOf q old k) (writerOf w k)) j
+            (λ k m. part-others q j buffer h inside ys own k (λ e. omega arith) ∙ so-far .done k m)
+            (part-back q j buffer h inside ys own ∙ mine);
+        rest = λ k m. part-others q j buffer h inside ys own k (λ e. omega arith) ∙ so-far .rest k (omega arith);
+      }
 
-  pub quarters-all : j ≡ 4 → (counts ≡ countsOf row notes (length notes)) × (buffer ≡ quartersFrom row notes line q)
-  unfolding quartersTo quartersFrom tab
-  quarters-all e =
-      let whole : take (j * q) buffer ≡ buffer = take-all (j * q) buffer (rw e (omega (arith, so-far .size))) in (
-        tab-of counts 4 (λ (k : ℕ). countOf row (decisions notes k) (length notes)) (so-far .four) (λ k h. so-far .counted k (omega arith)),
-        sym whole ∙ so-far .written ∙ rw e (simp append-assoc),
-      )
+-- a buffer is its four quarters
+four-parts : (q : ℕ) (l : List ℕ) → length l ≡ 4 * q → partOf q l 0 ++ (partOf q l 1 ++ (partOf q l 2 ++ partOf q l 3)) ≡ l
+four-parts q l size =
+    let last : partOf q l 3 ≡ drop (3 * q) l = take-all q (drop (3 * q) l) (omega (arith, length-drop (3 * q) l)) in
+    let step : (a b : ℕ) → b ≡ a + q → take q (drop a l) ++ drop b l ≡ drop a l =
+    λ a b e. rw (e, ← drop-drop q a l) (take-append-drop q (drop a l)) in
+    rw (last, step (2 * q) (3 * q) (omega arith), step (1 * q) (2 * q) (omega arith), step (0 * q) (1 * q) (omega arith), zero-mul q)
+
+pub ended-all : {row : Row} {line notes : List ℕ} {q : ℕ} {w : Writers} {old counts buffer : List ℕ} → Handing row line notes q (2 * length line) old w → Ended q w old 4 counts buffer
+    → (counts ≡ countsOf row notes (length notes)) × (buffer ≡ quartersFrom row notes line q)
+unfolding tab quarterFrom quartersFrom
+ended-all {row} {line} {notes} {q} {w} {old} {counts} {buffer} handed ended =
+    let F = length notes in
+    let sh = handed .fits .shared in
+    let count : (k : ℕ) → k < 4 → getD counts k 0 ≡ countOf row (decisions notes k) F =
+    λ k h. ended .counted k h ∙ come handed k h ∙ count-of row sh k h (decisions notes k) F (length line) (handed .fits .whole) in
+    let many : (k : ℕ) → k < 4 → countBy (writerOf w k) ≡ length (takenTo row notes (digitsOf line) k (2 * length line)) =
+    λ k h. come handed k h ∙ sym (taken-length row notes (digitsOf line) k (2 * length line)) in
+    let quarter : (k : ℕ) → k < 4 → partOf q buffer k ≡ quarterFrom row notes line q k =
+    λ k h. ended .done k h ∙ rw (many k h, handed .out k h) in
+    let parts = four-parts q buffer (ended .size ∙ handed .size) in (
+      tab-of counts 4 (λ (k : ℕ). countOf row (decisions notes k) F) (ended .four) count,
+      sym parts ∙ rw (quarter 0 (omega arith), quarter 1 (omega arith), quarter 2 (omega arith), quarter 3 (omega arith)),
+    )

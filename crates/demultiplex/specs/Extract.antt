@@ -1,14 +1,10 @@
 -- Extraction by notes: the digits of each tributary, in the order of their places, into its quarter. It looks at no control digit.
-use mathlib.Core.Path.{_≡_}
-use mathlib.Core.Bool.{Bool, cond}
 use mathlib.Core.List.{List, _++_, map}
-use Prim.Native.Nat.{ℕ, _+_, _*_, _-_}
-use lib.ListN.{length, getD, set, replicate}
-use Rattle.digits.specs.Digits.{digitsOf, bytesOf, Bytes}
+use Prim.Native.Nat.{ℕ, _*_, _-_}
+use lib.ListN.{length, getD, replicate}
+use Rattle.digits.specs.Digits.{digitsOf, bytesOf}
 use Rattle.levels.specs.declared.table.Row.{Row}
-use Rattle.levels.specs.declared.places.At.{At}
-use Rattle.levels.specs.Places.{kindOf}
-use Rattle.levels.specs.Order.{carried, decisions, placesOf}
+use Rattle.levels.specs.Order.{decisions, placesOf}
 
 -- the digits of tributary j (from 0) that the first x columns of a line with these digits carry, by the notes
 unfoldable pub takenTo : Row → List ℕ → List ℕ → ℕ → ℕ → List ℕ
@@ -26,9 +22,3 @@ unfoldable pub quartersFrom : Row → List ℕ → List ℕ → ℕ → List ℕ
 quartersFrom row notes line q =
     quarterFrom row notes line q 0
     ++ (quarterFrom row notes line q 1 ++ (quarterFrom row notes line q 2 ++ quarterFrom row notes line q 3))
-
--- what one place of a walk leaves in the quarter: a digit that the place carries is put at place i, and the next one goes one further on
-pub record Taken (row : Row) (at : At) (ds : List ℕ) (p i : ℕ) (st : Bool) (next : ℕ) (old new : List ℕ) : Type 0 where
-  pub index : next ≡ i + cond (carried (kindOf row (at .set) (at .place)) st) 1 0
-  pub digits : digitsOf new ≡ cond (carried (kindOf row (at .set) (at .place)) st) (set (digitsOf old) i (getD ds p 0)) (digitsOf old)
-  pub bytes : Bytes old → Bytes new

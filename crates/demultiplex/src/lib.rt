@@ -1,11 +1,9 @@
 // Demultiplexing from a known start: a line becomes its notes and four tributaries. First the notes are read, then the tributaries are
-// extracted by these notes, so that each decision is used in its own frame. specs/Demultiplex.antt says what the call answers and leaves.
+// extracted by these notes, all four at once, so that each decision is used in its own frame. specs/Demultiplex.antt says what the call answers and leaves.
+pub mod frames;
+
 use levels::lent;
-use levels::order;
-use levels::places;
-use levels::places::At;
 use levels::places::FramePlace;
-use levels::places::TributaryPlace;
 use levels::sizes;
 use levels::table;
 use levels::table::Level;
@@ -13,17 +11,16 @@ use levels::table::Row;
 use levels::vote;
 use levels::vote::Vote;
 use levels::word;
+use unweave::sorting;
 ghost use mathlib.Core.Path.{_≡_};
-ghost use mathlib.Core.Bool.{true};
 ghost use Prim.Native.Nat.{_+_, _*_, _/_, _<_, _≤_};
-ghost use lib.ListN.{length, getD, replicate};
+ghost use lib.ListN.{length, getD};
 ghost use Rattle.digits.specs.Digits.{digitsOf};
 ghost use Rattle.levels.specs.Table.{Shared};
-ghost use Rattle.levels.specs.Sizes.{Accepted, Fits};
-ghost use Rattle.levels.specs.Places.{kindOf};
-ghost use Rattle.levels.specs.Order.{carried, before, decisions, countsOf};
+ghost use Rattle.levels.specs.Sizes.{Accepted};
+ghost use Rattle.levels.specs.Order.{countsOf};
 ghost use Rattle.demultiplex.specs.Notes.{voteAt, serviceAt, noteOf, notesOf, alignmentTo, dissentsOf, dissentsIn, fourSums};
-ghost use Rattle.demultiplex.specs.Extract.{quarterFrom, quartersFrom, Taken};
+ghost use Rattle.demultiplex.specs.Extract.{quartersFrom};
 ghost use Rattle.demultiplex.specs.Demultiplex.{refusedWith, answerOn, notesOn, bufferOn, Met};
 
 pub struct Demultiplexed {
@@ -136,74 +133,7 @@ fn read_notes(row: Row, line: &[u8], notes: &mut [u8]) -> Errors
     Errors { alignment, dissent }
 }
 
-// Every byte zero.
-fn clear(dst: &mut [u8])
-    ensures { λ _. ⌜ now (dst .exit) ≡ replicate (length (now (dst .entry))) 0 ⌝ }
-{
-    let mut i: usize = 0;
-    while i < dst.len() {
-        dst[i] = 0;
-        i += 1;
-    }
-}
-
-// One place of a tributary's walk: a digit that the place carries is put behind those before it. Answers where the next one goes.
-fn take_one(
-    row: Row,
-    at: At,
-    line: &[u8],
-    p: FramePlace,
-    dst: &mut [u8],
-    i: TributaryPlace,
-    st: bool,
-) -> TributaryPlace
-    requires { ⌜
-        Shared row
-        × (p .0 < 8 * length (now line))
-        × (i .0 < 65536)
-        × (carried (kindOf row (at .set) (at .place)) st ≡ true → i .0 < 8 * length (now dst))
-        ⌝ }
-    ensures { λ r. ⌜ Taken row at (digitsOf (now (line .entry))) (p .0) (i .0) st (r .0) (now (dst .entry)) (now (dst .exit)) ⌝ }
-{
-    let kind = places::kind_of(row, at);
-    if order::carries_digit(kind, st) {
-        let d = lent::line_digit(line, p);
-        lent::put_tributary_digit(dst, i, d);
-        return TributaryPlace(i.0 + 1);
-    }
-    i
-}
-
-// Extracts tributary j (from 0) of a line by the notes: its digits, then zeros. Looks at no control digit. Answers how many digits came.
-fn extract(row: Row, line: &[u8], notes: &[u8], dst: &mut [u8], j: usize) -> usize
-    requires { ⌜ (j < 4) × Fits row (length (now line)) (length (now notes)) (length (now dst)) ⌝ }
-    ensures { λ r. ⌜
-        (r ≡ before row (decisions (now (notes .entry)) j) j (2 * length (now (line .entry))))
-        × (now (dst .exit) ≡ quarterFrom row (now (notes .entry)) (now (line .entry)) (length (now (dst .entry))) j)
-        ⌝ }
-{
-    clear(dst);
-    let n = 2 * line.len();
-    let mut x: usize = 0;
-    let mut i = TributaryPlace(0);
-    let mut at = At {
-        frame: 0,
-        set: 0,
-        place: j,
-    };
-    while x < n {
-        let f = at.frame;
-        let note = order::note_of(notes, f);
-        let st = order::is_stuffed(note, j);
-        let p = FramePlace(4 * x + j);
-        i = take_one(row, at, line, p, dst, i, st);
-        at = places::next_column(row, at);
-        x += 1;
-    }
-    i.0
-}
-
-// The four extractions, each into its quarter of the buffer.
+// The four extractions, by the notes: the frames hand out their digits, then each quarter is ended. Looks at no control digit.
 fn extract_all(row: Row, line: &[u8], notes: &[u8], buffer: &mut [u8]) -> [usize; 4]
     requires { ⌜ Shared row × Accepted row (length (now line)) (length (now notes)) (length (now buffer)) ⌝ }
     ensures { λ r. ⌜
@@ -212,12 +142,14 @@ fn extract_all(row: Row, line: &[u8], notes: &[u8], buffer: &mut [u8]) -> [usize
         ⌝ }
 {
     let q = buffer.len() / 4;
+    let table = sorting::lane_table();
+    let w = frames::extract_frames(&table, row, line, notes, buffer, q);
     let mut counts = [0usize; 4];
     let mut j: usize = 0;
     while j < 4 {
         let a = j * q;
         let e = a + q;
-        counts[j] = extract(row, line, notes, &mut buffer[a..e], j);
+        counts[j] = frames::finish_quarter(&mut buffer[a..e], unweave::writer_of(w, j));
         j += 1;
     }
     counts

@@ -3,6 +3,7 @@ pub mod Laws
 pub mod Lists
 pub mod Sums
 pub mod Tests
+pub mod Windows
 pub mod Written
 pub mod Lasts
 pub mod Histories

@@ -5,7 +5,7 @@ use mathlib.Core.List.{List, [], _∷_, _++_}
 use Prim.Native.Nat.{ℕ, zero, suc, _+_, _-_, _*_, _/_, _%_, _<_}
 use native.Mathlib.Omega.{arith}
 use native.Mathlib.Decide.{decLt}
-use native.Mathlib.Nat.{add-zero}
+use native.Mathlib.Nat.{add-zero, zero-add}
 use lib.Dec.{eqb, lit<}
 use lib.ListN.{length, take, drop, replicate, length-take, length-replicate, getD-replicate, List·getD-append, List·getD-eq-default}
 use lib.Seq.{take-at, drop-at, getD-append-add, getD-take, getD-drop}
@@ -18,6 +18,24 @@ pub tab-more : (k p : ℕ) (f : ℕ → ℕ) → tab (suc k) p f ≡ tab k p f +
 unfolding tab
 tab-more zero p f = rw (add-zero p)
 tab-more (suc k) p f = let e : p + suc k ≡ suc p + k = omega arith in rw e (ap (λ (l : List ℕ). f p ∷ l) (tab-more k (suc p) f))
+
+-- cut in two, and four places of it
+pub tab-cat : (n m p : ℕ) (f : ℕ → ℕ) → tab (n + m) p f ≡ tab n p f ++ tab m (p + n) f
+unfolding tab
+tab-cat zero m p f = rw (zero-add m, add-zero p)
+tab-cat (suc n) m p f =
+    let e : suc n + m ≡ suc (n + m) = omega arith in
+    let g : p + suc n ≡ suc p + n = omega arith in
+    rw (e, g, tab-cat n m (suc p) f)
+
+pub tab-four : (p : ℕ) (f : ℕ → ℕ) → tab 4 p f ≡ f (p + 0) ∷ f (p + 1) ∷ f (p + 2) ∷ f (p + 3) ∷ []
+unfolding tab
+tab-four p f =
+    let e₀ : p + 0 ≡ p = omega arith in
+    let e₁ : p + 1 ≡ suc p = omega arith in
+    let e₂ : p + 2 ≡ suc (suc p) = omega arith in
+    let e₃ : p + 3 ≡ suc (suc (suc p)) = omega arith in
+    rw (e₀, e₁, e₂, e₃)
 
 -- what holds of 0, 1, 2 and 3 holds of every number below 4: of every tributary
 pub of-four : (P : ℕ → Type 0) → P 0 → P 1 → P 2 → P 3 → (j : ℕ) → j < 4 → P j

@@ -68,3 +68,8 @@ between bs first end = take (end - first) (drop first (digitsOf bs))
 unfoldable pub zerosIn : List ℕ → ℕ
 zerosIn [] = 0
 zerosIn (d ∷ ds) = 1 - d + zerosIn ds
+
+-- the k digits from place p on as a number, the newest digit worth 1
+unfoldable pub windowAt : List ℕ → ℕ → ℕ → ℕ
+windowAt ds p zero = 0
+windowAt ds p (suc k) = windowAt ds p k * 2 + getD ds (p + k) 0

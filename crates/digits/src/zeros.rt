@@ -1,6 +1,6 @@
 // The zeros among the digits of a part of a slice: by whole bytes, and one by one where the part begins or ends inside a byte.
 ghost use mathlib.Core.Path.{_≡_};
-ghost use Prim.Native.Nat.{_*_, _-_, _≤_};
+ghost use Prim.Native.Nat.{_+_, _*_, _-_, _<_, _≤_};
 ghost use lib.ListN.{length};
 ghost use Rattle.digits.specs.Digits.{between, zerosIn};
 
@@ -10,7 +10,15 @@ fn wide(d: u8) -> usize
     d as usize
 }
 
-fn wide_count(n: u32) -> usize
+// Sixteen digits are enough for the ones of a part, and a machine adds up many such numbers at once.
+fn narrow(n: u32) -> u16
+    requires { ⌜ n < 65536 ⌝ }
+    ensures { λ r. ⌜ r ≡ n ⌝ }
+{
+    n as u16
+}
+
+fn wide_count(n: u16) -> usize
     ensures { λ r. ⌜ r ≡ n ⌝ }
 {
     n as usize
@@ -32,21 +40,21 @@ fn zeros_by_digit(s: &[u8], first: usize, end: usize) -> usize
 
 // The zeros among the digits of whole bytes.
 fn zeros_by_byte(s: &[u8], from: usize, to: usize) -> usize
-    requires { ⌜ (from ≤ to) × (to ≤ length (now s)) × (length (now s) ≤ 65536) ⌝ }
+    requires { ⌜ (from ≤ to) × (to ≤ length (now s)) × (length (now s) ≤ 65536) × (to ≤ from + 4096) ⌝ }
     ensures { λ r. ⌜ (r ≡ zerosIn (between (now (s .entry)) (8 * from) (8 * to))) × (r ≤ 8 * to - 8 * from) ⌝ }
 {
     let mut i = from;
-    let mut ones: usize = 0;
+    let mut ones: u16 = 0;
     while i < to {
-        ones += wide_count(u8::count_ones(s[i]));
+        ones += narrow(u8::count_ones(s[i]));
         i += 1;
     }
-    8 * (to - from) - ones
+    8 * (to - from) - wide_count(ones)
 }
 
-// The zeros among the digits from first on and before end.
+// The zeros among the digits from first on and before end, of which there may be 32,768.
 pub fn zeros_in(s: &[u8], first: usize, end: usize) -> usize
-    requires { ⌜ (first ≤ end) × (end ≤ 8 * length (now s)) × (length (now s) ≤ 65536) ⌝ }
+    requires { ⌜ (first ≤ end) × (end ≤ 8 * length (now s)) × (length (now s) ≤ 65536) × (end ≤ first + 32768) ⌝ }
     ensures { λ r. ⌜ (r ≡ zerosIn (between (now (s .entry)) first end)) × (r ≤ end - first) ⌝ }
 {
     let from = (first + 7) / 8;

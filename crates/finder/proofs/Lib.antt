@@ -1,11 +1,4 @@
 pub mod Validity
 pub mod Hurries
 pub mod Runs
-pub mod Pieces
-pub mod Alignment
-pub mod Traces
-pub mod Turns
-pub mod Words
-pub mod Recovery
-pub mod Ones
 pub mod Answers

@@ -1,12 +1,12 @@
 -- Laws of the run over a piece: the loop's invariant, one turn of the loop, and its two ends.
 use mathlib.Core.Path.{_≡_, refl, sym, _∙_}
 use mathlib.Core.Bool.{true, false}
-use mathlib.Core.List.{List, _∷_}
+use mathlib.Core.List.{List}
 use Prim.Native.Nat.{ℕ, suc, _+_, _*_, _-_, _≤_, _<_}
 use native.Mathlib.Omega.{arith}
 use lib.ListN.{length, getD}
 use Rattle.digits.specs.Digits.{digitsOf}
-use Rattle.digits.specs.Runs.{Run, runOf, pieceOf}
+use Rattle.digits.specs.Runs.{runOf, pieceOf}
 use Rattle.digits.proofs.Runs.{piece-step}
 use Rattle.finder.specs.declared.State.{State}
 use Rattle.finder.specs.Modes.{stepOf, turned}

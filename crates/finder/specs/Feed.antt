@@ -1,6 +1,6 @@
 -- The two calls: a fresh state, and a piece fed to a state. Document 02, request 3; refusals as at the receiver of document 01.
 use mathlib.Core.Path.{_≡_}
-use mathlib.Core.Bool.{Bool, cond, true, false, not, _&&_, _||_}
+use mathlib.Core.Bool.{Bool, cond, false, not, _&&_, _||_}
 use mathlib.Core.List.{List}
 use Prim.Native.Nat.{ℕ, _+_, _*_, _^_, _<_, _≤_}
 use lib.Dec.{eqb, ltb, leb}

@@ -1,5 +1,3 @@
 pub mod Modes
 pub mod Feed
 pub mod Hurry
-pub mod History
-pub mod Line

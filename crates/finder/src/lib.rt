@@ -8,7 +8,7 @@ ghost use mathlib.Core.Bool.{_||_};
 ghost use Prim.Native.Nat.{_+_, _*_, _≤_};
 ghost use lib.Dec.{ltb, leb};
 ghost use lib.ListN.{length};
-ghost use Rattle.digits.specs.Runs.{Run, pieceOf};
+ghost use Rattle.digits.specs.Runs.{pieceOf};
 ghost use Rattle.finder.specs.Modes.{hunting, aligned, turned};
 ghost use Rattle.finder.specs.Feed.{Valid, misplaced, invalid, refusalOf, refused, fedBy, runFrom, FreshMet, FeedMet};
 

@@ -4,7 +4,7 @@ use crate::State;
 ghost use mathlib.Core.Path.{_≡_};
 ghost use Prim.Native.Nat.{_*_, _^_, _<_, _≤_};
 ghost use Rattle.finder.specs.Modes.{missed, windowOf, seenOf, good, checkAt, asks, passes, judged, placeThen, placeAfter, stepOf};
-ghost use Rattle.finder.specs.Feed.{Placed, Valid};
+ghost use Rattle.finder.specs.Feed.{Valid};
 
 // How many words in a row are missed.
 pub fn missed_of(mode: Mode) -> u8

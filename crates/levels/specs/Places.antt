@@ -38,6 +38,10 @@ lastSet row r = cond (ltb r (row .last - 4)) Control (cond (ltb r (row .last)) J
 unfoldable pub kindOf : Row → ℕ → ℕ → Kind
 kindOf row s r = cond (eqb s 0) (firstSet row r) (cond (eqb s (row .sets - 1)) (lastSet row r) (middleSet row r))
 
+-- where the head of set s ends: its first tributary place, off the table
+unfoldable pub headEnd : Row → ℕ → ℕ
+headEnd row s = cond (eqb s 0) (row .first) (cond (eqb s (row .sets - 1)) (row .last) (row .middle))
+
 -- where place p of a line stands: its frame, the set in the frame, the place in the set. A place in a frame is a place in a line of one frame
 unfoldable pub posOf : Row → ℕ → At
 posOf row p = record { frame = p / row .digits; set = p % row .digits / row .set; place = p % row .digits % row .set }

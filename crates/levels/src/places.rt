@@ -14,7 +14,7 @@ use crate::table::TWELVE_THIRD;
 ghost use mathlib.Core.Path.{_≡_};
 ghost use Prim.Native.Nat.{ℕ, _+_, _%_, _<_, _≤_};
 ghost use Rattle.levels.specs.Table.{Shared, row2, row4};
-ghost use Rattle.levels.specs.Places.{firstSet, middleSet, lastSet, kindOf, kindAt, posOf, isOwn};
+ghost use Rattle.levels.specs.Places.{firstSet, middleSet, lastSet, headEnd, kindOf, kindAt, posOf, isOwn};
 
 // A place in a frame, 0 to N - 1, counted on from frame to frame in a line, and a place in a tributary: the number of a digit in
 // its quarter. Two kinds of numbers: lent.rt reads and writes a line by the one and a quarter by the other.
@@ -115,6 +115,20 @@ pub fn kind_of(row: Row, at: At) -> Kind
         return last_set(r);
     }
     middle_set(r)
+}
+
+// Where the head of a set ends: its first tributary place. From there to the set's end is a run of tributary digits.
+pub fn head_end(row: Row, set: usize) -> usize
+    requires { ⌜ Shared row ⌝ }
+    ensures { λ r. ⌜ r ≡ headEnd row set ⌝ }
+{
+    if set == 0 {
+        return row.first;
+    }
+    if set == row.sets - 1 {
+        return row.last;
+    }
+    row.middle
 }
 
 // Where a place of a frame stands, in a line of this one frame.

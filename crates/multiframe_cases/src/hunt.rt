@@ -269,14 +269,19 @@ fn follow(line: &[u8; 640], size: u64) {
             &mut answer,
         );
         first = std::num::wrapping_add_u64(first, answer[0]);
-        if answer[1] != aligned {
-            aligned = answer[1];
-            say::counted(b"frames pieces ", size);
-            say::counted(b" digits ", first);
-            hunted(no, state, answer);
-        }
+        turned(size, first, no, state, answer, aligned);
+        aligned = answer[1];
         turns += 1;
     }
+}
+
+fn turned(size: u64, digits: u64, no: u64, state: [u64; 4], answer: [u64; 2], before: u64) {
+    if answer[1] == before {
+        return;
+    }
+    say::counted(b"frames pieces ", size);
+    say::counted(b" digits ", digits);
+    hunted(no, state, answer);
 }
 
 fn least(a: u64, b: u64) -> u64 {

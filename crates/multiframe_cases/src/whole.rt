@@ -209,10 +209,7 @@ fn build_on(
     spare: &mut [u8],
 ) {
     inputs::fill(multiframe, 165);
-    inputs::count_up(channels);
-    inputs::fill(signalling, c.signal);
-    inputs::put_byte(signalling, c.at, c.other);
-    inputs::count_up(spare);
+    lay_out(c, channels, signalling, spare);
     let mut answer = [0u64; 1];
     let no = spritbobbin::spritbobbin_multiframe_build(
         multiframe,
@@ -223,6 +220,14 @@ fn build_on(
     );
     built(c, no, answer, inputs::sum(multiframe));
     apart_on(multiframe, channels, signalling, spare);
+}
+
+// What is built from.
+fn lay_out(c: Making, channels: &mut [u8], signalling: &mut [u8], spare: &mut [u8]) {
+    inputs::count_up(channels);
+    inputs::fill(signalling, c.signal);
+    inputs::put_byte(signalling, c.at, c.other);
+    inputs::count_up(spare);
 }
 
 fn built(c: Making, no: u64, answer: [u64; 1], sum: u64) {
@@ -241,10 +246,18 @@ fn built(c: Making, no: u64, answer: [u64; 1], sum: u64) {
 
 // What was built, or what stood there before, is taken apart into slices of the same lengths.
 fn apart_on(multiframe: &[u8], channels: &mut [u8], signalling: &mut [u8], spare: &mut [u8]) {
+    forget(channels, signalling, spare);
+    let no = spritbobbin::spritbobbin_multiframe_apart(multiframe, channels, signalling, spare);
+    taken(no, channels, signalling, spare);
+}
+
+fn forget(channels: &mut [u8], signalling: &mut [u8], spare: &mut [u8]) {
     inputs::fill(channels, 165);
     inputs::fill(signalling, 165);
     inputs::fill(spare, 165);
-    let no = spritbobbin::spritbobbin_multiframe_apart(multiframe, channels, signalling, spare);
+}
+
+fn taken(no: u64, channels: &[u8], signalling: &[u8], spare: &[u8]) {
     say::counted(b"apart: refusal ", no);
     say::counted(b" sums ", inputs::sum(channels));
     say::counted(b" ", inputs::sum(signalling));

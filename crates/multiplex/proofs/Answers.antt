@@ -22,7 +22,7 @@ use Rattle.levels.specs.Sizes.{sizeRefusal, badLine, badNotes, badBuffer, quart
 use Rattle.levels.proofs.Choice.{cond-by}
 use Rattle.multiplex.specs.declared.Multiplexed.{Multiplexed}
 use Rattle.multiplex.specs.Line.{lineDigit, lineOf}
-use Rattle.multiplex.specs.Passes.{AllHeads, AllFilled}
+use Rattle.multiplex.specs.Sending.{AllSent}
 use Rattle.multiplex.specs.Multiplex.{firstFaulty, refusalOn, refusedWith, answerOn, lineOn, Met}
 use Rattle.multiplex.proofs.multiplex.{signature, ended}
 use Rattle.multiplex.proofs.multiplex.Reads.{Asked, Learnt}
@@ -56,27 +56,12 @@ module _ (row : Row) (line notes buffer : List ℕ) where
       let e : refusal ≡ 5 = rw (eq-eqb size 0 z, lt-ltb (firstFaulty row notes) (length notes) h) in
       rw e (refl, refl)
 
-  -- heads and passes together leave the line's digit at every place
-  module _ (heads new : List ℕ) (len : length heads ≡ length line) (len′ : length new ≡ length line) (a : AllHeads row notes line heads) where
-    every-place : (counts : List ℕ) → AllFilled row notes buffer counts heads new → (p : ℕ) → p < 8 * length line
-        → getD (digitsOf new) p 0 ≡ lineDigit row notes (λ (j : ℕ). digitsOf (quarterOf buffer j)) p
-    every-place counts b p h = go (isOwn (kindAt row p)) (b .digits p (omega arith)) (a .digits (λ (j : ℕ). digitsOf (quarterOf buffer j)) p h)
-      where
-        d : ℕ
-        d = lineDigit row notes (λ (j : ℕ). digitsOf (quarterOf buffer j)) p
-
-        go : (o : Bool) → getD (digitsOf new) p 0 ≡ cond o d (getD (digitsOf heads) p 0) → getD (digitsOf heads) p 0 ≡ cond o (getD (digitsOf line) p 0) d → getD (digitsOf new) p 0 ≡ d
-        go true x y = x
-        go false x y = x ∙ y
-
-    pub sent-whole : size ≡ 0 → length notes ≤ firstFaulty row notes → (counts : List ℕ) → AllFilled row notes buffer counts heads new
-        → (record { refusal = 0; frame = 0; counts = counts } ≡ answer) × (new ≡ lineOn row line notes buffer)
-    unfolding refusalOn
-    sent-whole z h counts b =
-        let e : refusal ≡ 0 = rw (eq-eqb size 0 z, le-ltb (firstFaulty row notes) (length notes) h) in
-        let at = every-place counts b in
-        let bytes = bytes-by-place new (lineDigit row notes (λ (j : ℕ). digitsOf (quarterOf buffer j))) (b .bytes (a .bytes)) (λ p h. at p (omega arith)) in
-        rw e (ap (λ (n : List ℕ). record { refusal = 0; frame = 0; counts = n }) (b .counted), bytes ∙ ap (λ (n : ℕ). lineOf row notes (λ (j : ℕ). digitsOf (quarterOf buffer j)) n) len′)
+  pub sent-whole : (new : List ℕ) → size ≡ 0 → length notes ≤ firstFaulty row notes → (counts : List ℕ) → AllSent row notes buffer line counts new
+      → (record { refusal = 0; frame = 0; counts = counts } ≡ answer) × (new ≡ lineOn row line notes buffer)
+  unfolding refusalOn
+  sent-whole new z h counts b =
+      let e : refusal ≡ 0 = rw (eq-eqb size 0 z, le-ltb (firstFaulty row notes) (length notes) h) in
+      rw e (ap (λ (n : List ℕ). record { refusal = 0; frame = 0; counts = n }) (b .counted), b .line)
 
 -- what two runs of the call may answer and leave, on the same input, is the same
 pub no-second-answer : (level : ℕ) (line notes buffer : List ℕ) (a b : Multiplexed) (l m : List ℕ) → Met level line notes buffer a l → Met level line notes buffer b m

@@ -19,7 +19,7 @@ use Rattle.levels.proofs.Choice.{cond-by}
 use Rattle.levels.proofs.Positions.{Stands, stands, pos-of-sum}
 use Rattle.levels.proofs.Ways.{kind-service, kind-first}
 use Rattle.multiplex.specs.Line.{noteBit, digitBy}
-use Rattle.multiplex.specs.Passes.{idleDigit}
+use Rattle.multiplex.specs.Sending.{idleDigit}
 
 module _ (row : Row) (note j r next : ℕ) where
   -- a place that carries a digit has the tributary's next digit
@@ -37,14 +37,6 @@ module _ (row : Row) (note j r next : ℕ) where
   digit-idle Control o c = refl
   digit-idle Justification o c = rw c
   digit-idle Tributary o c = absurd (true≢false c)
-
--- a head's digit has nothing to do with a tributary
-pub digit-of-head : (row : Row) (note j j′ r next next′ : ℕ) (k : Kind) → isOwn k ≡ false → digitBy row note j r next k ≡ digitBy row note j′ r next′ k
-digit-of-head row note j j′ r next next′ Word o = refl
-digit-of-head row note j j′ r next next′ (Service s) o = refl
-digit-of-head row note j j′ r next next′ Control o = absurd (true≢false o)
-digit-of-head row note j j′ r next next′ Justification o = absurd (true≢false o)
-digit-of-head row note j j′ r next next′ Tributary o = absurd (true≢false o)
 
 module _ (row : Row) (sh : Shared row) where
   pub head-not-own : (r : ℕ) → r < row .first → isOwn (kindOf row 0 r) ≡ false

@@ -11,17 +11,22 @@ use levels::sizes;
 use levels::table;
 use levels::table::Level;
 use levels::table::Row;
+use weave::Next;
+use weave::table::spread_table;
+use words::Writer;
 ghost use mathlib.Core.Path.{_≡_};
 ghost use mathlib.Core.Bool.{true};
-ghost use Prim.Native.Nat.{ℕ, _+_, _*_, _<_, _≤_};
-ghost use lib.ListN.{length};
-ghost use Rattle.digits.specs.Digits.{digitsOf};
+ghost use Prim.Native.Nat.{ℕ, _+_, _*_, _/_, _%_, _<_, _≤_};
+ghost use lib.ListN.{length, getD};
+ghost use Rattle.digits.specs.Digits.{tab};
+ghost use Rattle.words.specs.Words.{Ready};
+ghost use Rattle.weave.specs.Weave.{spreadOf, Has};
 ghost use Rattle.levels.specs.Table.{Shared};
-ghost use Rattle.levels.specs.Sizes.{Accepted, Fits};
-ghost use Rattle.levels.specs.Places.{kindOf};
+ghost use Rattle.levels.specs.Sizes.{quarterOf, Accepted};
+ghost use Rattle.levels.specs.Places.{headEnd, kindOf};
 ghost use Rattle.levels.specs.Order.{stuffed, carried};
 ghost use Rattle.multiplex.specs.Line.{digitBy};
-ghost use Rattle.multiplex.specs.Passes.{Headed, AllHeads, idleDigit, Put, Filled, AllFilled};
+ghost use Rattle.multiplex.specs.Sending.{idleDigit, Placed, nextOf, Ran, Sending, AllSent};
 ghost use Rattle.multiplex.specs.Multiplex.{firstFaulty, refusedWith, answerOn, lineOn, Met};
 
 pub struct Multiplexed {
@@ -68,66 +73,6 @@ fn head_digit(row: Row, note: u8, r: FramePlace) -> u8
     (note >> (4 + (k - row.len))) % 2
 }
 
-// The head of one frame, which begins at place start of the line: word and service digits.
-fn write_head(row: Row, line: &mut [u8], start: FramePlace, note: u8)
-    requires { ⌜ Shared row × (start .0 + row .first ≤ 8 * length (now line)) × (start .0 < 1000000) ⌝ }
-    ensures { λ _. ⌜ Headed row note (start .0) (row .first) (now (line .entry)) (now (line .exit)) ⌝ }
-{
-    let mut r: usize = 0;
-    while r < row.first {
-        let d = head_digit(row, note, FramePlace(r));
-        lent::put_line_digit(line, FramePlace(start.0 + r), d);
-        r += 1;
-    }
-}
-
-// The heads of all frames.
-fn write_heads(row: Row, line: &mut [u8], notes: &[u8])
-    requires { ⌜ Shared row × (length (now line) ≡ length (now notes) * row .bytes) × (length (now notes) ≤ 64) ⌝ }
-    ensures { λ _. ⌜ AllHeads row (now (notes .entry)) (now (line .entry)) (now (line .exit)) ⌝ }
-{
-    let mut start = FramePlace(0);
-    let mut f: usize = 0;
-    while f < notes.len() {
-        write_head(row, line, start, notes[f]);
-        start = FramePlace(start.0 + row.digits);
-        f += 1;
-    }
-}
-
-// One place of tributary j's walk: an own place gets its digit, a head's place stays. Answers the tributary's next digit.
-fn put_one(
-    row: Row,
-    at: At,
-    line: &mut [u8],
-    p: FramePlace,
-    src: &[u8],
-    i: TributaryPlace,
-    note: u8,
-    j: usize,
-) -> TributaryPlace
-    requires { ⌜
-        Shared row
-        × (p .0 < 8 * length (now line))
-        × (j < 4)
-        × (i .0 < 65536)
-        × (carried (kindOf row (at .set) (at .place)) (stuffed note j) ≡ true → i .0 < 8 * length (now src))
-        ⌝ }
-    ensures { λ r. ⌜ Put row at (now (line .entry)) (p .0) (digitsOf (now (src .entry))) (i .0) note j (r .0) (now (line .exit)) ⌝ }
-{
-    let kind = places::kind_of(row, at);
-    let st = order::is_stuffed(note, j);
-    if !places::is_own(kind) {
-        return i;
-    }
-    if order::carries_digit(kind, st) {
-        lent::put_line_digit(line, p, lent::tributary_digit(src, i));
-        return TributaryPlace(i.0 + 1);
-    }
-    lent::put_line_digit(line, p, idle_digit(kind, st));
-    i
-}
-
 // What an own place that carries no digit is sent as: a control digit is the decision, a stuffing digit is 1.
 fn idle_digit(kind: Kind, st: bool) -> u8
     ensures { λ d. ⌜ (d ≡ idleDigit kind st) × (d < 2) ⌝ }
@@ -141,45 +86,196 @@ fn idle_digit(kind: Kind, st: bool) -> u8
     }
 }
 
-// One tributary's pass over a line: every own place of tributary j (from 0) gets its digit. Answers how many digits it took.
-fn fill(row: Row, line: &mut [u8], notes: &[u8], src: &[u8], j: usize) -> usize
-    requires { ⌜ (j < 4) × Fits row (length (now line)) (length (now notes)) (length (now src)) ⌝ }
-    ensures { λ r. ⌜ Filled row (now (notes .entry)) (digitsOf (now (src .entry))) j r (now (line .entry)) (now (line .exit)) ⌝ }
+// One place of a set's head: its digit. Where it carries one of its tributary, that is the next, and the index moves on.
+fn place_digit(row: Row, buffer: &[u8], next: &mut [usize; 4], note: u8, set: usize, r: usize) -> u8
+    requires { ⌜
+        Shared row
+        × (length (now buffer) ≡ 4 * (length (now buffer) / 4))
+        × (length (now next) ≡ 4)
+        × (getD (now next) (r % 4) 0 < 65536)
+        × (carried (kindOf row set r) (stuffed note (r % 4)) ≡ true → getD (now next) (r % 4) 0 < 8 * (length (now buffer) / 4))
+        ⌝ }
+    ensures { λ d. ⌜ Placed row note set r (now (buffer .entry)) (now (next .entry)) d (now (next .exit)) ⌝ }
 {
-    let n = 2 * line.len();
-    let mut x: usize = 0;
-    let mut i = TributaryPlace(0);
-    let mut at = At {
-        frame: 0,
-        set: 0,
-        place: j,
-    };
-    while x < n {
-        let f = at.frame;
-        let p = FramePlace(4 * x + j);
-        let note = order::note_of(notes, f);
-        i = put_one(row, at, line, p, src, i, note, j);
-        at = places::next_column(row, at);
-        x += 1;
-    }
-    i.0
-}
-
-// The four passes, each from its quarter of the buffer.
-fn fill_all(row: Row, line: &mut [u8], notes: &[u8], buffer: &[u8]) -> [usize; 4]
-    requires { ⌜ Shared row × Accepted row (length (now line)) (length (now notes)) (length (now buffer)) ⌝ }
-    ensures { λ r. ⌜ AllFilled row (now (notes .entry)) (now (buffer .entry)) r (now (line .entry)) (now (line .exit)) ⌝ }
-{
-    let q = buffer.len() / 4;
-    let mut counts = [0usize; 4];
-    let mut j: usize = 0;
-    while j < 4 {
+    let j = r % 4;
+    let kind = places::kind_of(
+        row,
+        At {
+            frame: 0,
+            set,
+            place: r,
+        },
+    );
+    let st = order::is_stuffed(note, j);
+    if order::carries_digit(kind, st) {
+        let q = buffer.len() / 4;
         let a = j * q;
         let e = a + q;
-        counts[j] = fill(row, line, notes, &buffer[a..e], j);
-        j += 1;
+        let i = next[j];
+        next[j] = i + 1;
+        return lent::tributary_digit(&buffer[a..e], TributaryPlace(i));
     }
-    counts
+    if places::is_own(kind) {
+        return idle_digit(kind, st);
+    }
+    head_digit(row, note, FramePlace(r))
+}
+
+fn wide(d: u8) -> u64
+    ensures { λ r. ⌜ r ≡ d ⌝ }
+{
+    d as u64
+}
+
+// The head of a set of frame f, place by place, put out as one number.
+fn send_head(
+    row: Row,
+    line: &mut [u8],
+    notes: &[u8],
+    buffer: &[u8],
+    next: &mut [usize; 4],
+    w: Writer,
+    f: usize,
+    set: usize,
+) -> Writer
+    requires { ⌜
+        (f < length (now notes))
+        × (set < row .sets)
+        × (length (now buffer) ≡ 4 * (length (now buffer) / 4))
+        × Sending row (now notes) (now buffer) (f * row .digits + set * row .set) (now line) w (now next)
+        ⌝ }
+    ensures { λ r. ⌜
+        Sending row (now (notes .entry)) (now (buffer .entry)) (f * row .digits + (set * row .set + headEnd row set)) (now (line .exit)) r (now (next .exit))
+        ⌝ }
+{
+    let note = order::note_of(notes, f);
+    let end = places::head_end(row, set);
+    let mut word: u64 = 0;
+    let mut r: usize = 0;
+    while r < end {
+        word = word * 2 + wide(place_digit(row, buffer, next, note, set, r));
+        r += 1;
+    }
+    words::put(line, w, word, end)
+}
+
+// A run of tributary digits, so many columns, from the four quarters.
+fn send_run(
+    table: &[u64; 256],
+    line: &mut [u8],
+    buffer: &[u8],
+    next: &mut [usize; 4],
+    w: Writer,
+    columns: usize,
+) -> Writer
+    requires { ⌜
+        (now table ≡ tab 256 0 (spreadOf 8))
+        × Ready (w .fill) (w .held)
+        × (8 * w .at + (w .fill + 4 * columns) ≤ 8 * length (now line))
+        × (length (now buffer) ≡ 4 * (length (now buffer) / 4))
+        × Has (quarterOf (now buffer) 0) (quarterOf (now buffer) 1) (quarterOf (now buffer) 2) (quarterOf (now buffer) 3) (nextOf (now next)) columns
+        ⌝ }
+    ensures { λ r. ⌜ Ran (now (buffer .entry)) (now (next .entry)) columns (now (line .entry)) (now (line .exit)) w r (now (next .exit)) ⌝ }
+{
+    let q = buffer.len() / 4;
+    let half = 2 * q;
+    let three = 3 * q;
+    let end = 4 * q;
+    let i = Next {
+        a: next[0],
+        b: next[1],
+        c: next[2],
+        d: next[3],
+    };
+    *next = [i.a + columns, i.b + columns, i.c + columns, i.d + columns];
+    weave::send_columns(
+        table,
+        line,
+        &buffer[0..q],
+        &buffer[q..half],
+        &buffer[half..three],
+        &buffer[three..end],
+        w,
+        i,
+        columns,
+    )
+}
+
+// A set of frame f: its head, then the run up to its end.
+fn send_set(
+    table: &[u64; 256],
+    row: Row,
+    line: &mut [u8],
+    notes: &[u8],
+    buffer: &[u8],
+    next: &mut [usize; 4],
+    w: Writer,
+    f: usize,
+    set: usize,
+) -> Writer
+    requires { ⌜
+        (now table ≡ tab 256 0 (spreadOf 8))
+        × (f < length (now notes))
+        × (set < row .sets)
+        × (length (now buffer) ≡ 4 * (length (now buffer) / 4))
+        × Sending row (now notes) (now buffer) (f * row .digits + set * row .set) (now line) w (now next)
+        ⌝ }
+    ensures { λ r. ⌜
+        Sending row (now (notes .entry)) (now (buffer .entry)) (f * row .digits + (set + 1) * row .set) (now (line .exit)) r (now (next .exit))
+        ⌝ }
+{
+    let headed = send_head(row, line, notes, buffer, next, w, f, set);
+    let columns = (row.set - places::head_end(row, set)) / 4;
+    send_run(table, line, buffer, next, headed, columns)
+}
+
+// The sets of frame f.
+fn send_frame(
+    table: &[u64; 256],
+    row: Row,
+    line: &mut [u8],
+    notes: &[u8],
+    buffer: &[u8],
+    next: &mut [usize; 4],
+    w0: Writer,
+    f: usize,
+) -> Writer
+    requires { ⌜
+        (now table ≡ tab 256 0 (spreadOf 8))
+        × (f < length (now notes))
+        × (length (now buffer) ≡ 4 * (length (now buffer) / 4))
+        × Sending row (now notes) (now buffer) (f * row .digits) (now line) w0 (now next)
+        ⌝ }
+    ensures { λ r. ⌜ Sending row (now (notes .entry)) (now (buffer .entry)) ((f + 1) * row .digits) (now (line .exit)) r (now (next .exit)) ⌝ }
+{
+    let mut w = w0;
+    let mut set: usize = 0;
+    while set < row.sets {
+        w = send_set(table, row, line, notes, buffer, next, w, f, set);
+        set += 1;
+    }
+    w
+}
+
+// All frames, one after the other, into the line. Answers how many digits of each tributary they took.
+fn send_frames(row: Row, line: &mut [u8], notes: &[u8], buffer: &[u8]) -> [usize; 4]
+    requires { ⌜ Shared row × Accepted row (length (now line)) (length (now notes)) (length (now buffer)) ⌝ }
+    ensures { λ r. ⌜ AllSent row (now (notes .entry)) (now (buffer .entry)) (now (line .entry)) r (now (line .exit)) ⌝ }
+{
+    let table = spread_table();
+    let mut next = [0usize; 4];
+    let mut w = Writer {
+        at: 0,
+        held: 0,
+        fill: 0,
+    };
+    let mut f: usize = 0;
+    while f < notes.len() {
+        w = send_frame(&table, row, line, notes, buffer, &mut next, w, f);
+        f += 1;
+    }
+    words::finish(line, w);
+    next
 }
 
 // A level's row is known: the lengths and the notes are judged, and the line is written.
@@ -198,8 +294,7 @@ fn multiplex_on(row: Row, line: &mut [u8], notes: &[u8], buffer: &[u8]) -> Multi
     if f < notes.len() {
         return refused(5, f);
     }
-    write_heads(row, line, notes);
-    let counts = fill_all(row, line, notes, buffer);
+    let counts = send_frames(row, line, notes, buffer);
     Multiplexed {
         refusal: 0,
         frame: 0,

@@ -3,13 +3,4 @@ pub mod Validity
 pub mod Counts
 pub mod Runs
 pub mod Hunts
-pub mod Lasts
-pub mod Traces
-pub mod Pieces
-pub mod Alignment
-pub mod Words
-pub mod Losses
 pub mod Answers
-pub mod Calls
-pub mod Alarms
-pub mod FramedLines

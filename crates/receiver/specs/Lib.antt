@@ -3,6 +3,3 @@ pub mod Frame
 pub mod Alarm
 pub mod Feed
 pub mod Hunt
-pub mod History
-pub mod Line
-pub mod Calls

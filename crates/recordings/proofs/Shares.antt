@@ -25,13 +25,13 @@ use Rattle.receiver.specs.declared.Fed.{Fed}
 use Rattle.receiver.specs.Modes.{hunting}
 use Rattle.receiver.specs.Frame.{aligned}
 use Rattle.receiver.specs.Feed.{coreOf, afterOf, pieceOf, feedOf, Valid}
-use Rattle.receiver.specs.History.{heard, readyAfter}
-use Rattle.receiver.proofs.Pieces.{accepted-valid, none-passed}
-use Rattle.receiver.proofs.Calls.{Answered, answered}
+use Rattle.receiver_promises.specs.History.{heard, readyAfter}
+use Rattle.receiver_promises.proofs.Pieces.{accepted-valid, none-passed}
+use Rattle.receiver_promises.proofs.Calls.{Answered, answered}
 use Rattle.receiver.proofs.Validity.{cond-told}
-use Rattle.receiver.proofs.Alarms.{inside-stretch, inside-all}
-use Rattle.receiver.proofs.Alignment.{rises}
-use Rattle.receiver.proofs.Losses.{Early, early-hunting, none-hunting, early-more, early-same, early-stays}
+use Rattle.receiver_promises.proofs.Alarms.{inside-stretch, inside-all}
+use Rattle.receiver_promises.proofs.Alignment.{rises}
+use Rattle.receiver_promises.proofs.Losses.{Early, early-hunting, none-hunting, early-more, early-same, early-stays}
 use Rattle.recordings.specs.declared.watch.Change.{Change}
 use Rattle.recordings.specs.declared.watch.Heard.{Heard}
 use Rattle.recordings.specs.Watch.{changeOf, isAligned, isAlarmed, shareOf, shareFor, ListenMet, said, changesIn}

@@ -137,14 +137,14 @@ fn ends(row: &'static Row) -> Vec<Case> {
     ]
 }
 
-/// The alarm: framed ones raise none, ones do, and so few zeros are no matter; frames end it,
-/// also where it began before the recording's first stretch was whole in ones.
+/// The alarm: framed ones raise none, ones do, and so few zeros are no matter; a stretch with one
+/// zero too many does not count, and frames end it.
 fn alarms(row: &'static Row) -> Vec<Case> {
     let (n, few) = (row.frame_digits, row.few_zeros);
     let framed = Stream::new(row, 20).ones_after_word().ones_after_word().ones_after_word();
     let framed = Finding::of(row, framed.ones_after_word().bytes());
     let framed = framed.with_events(&[Event::Found(2 * n)]).with_counts(2, 3);
-    let stream = Stream::new(row, 21).good(3).junk(5).ones(3 * n - 5).good(5);
+    let stream = Stream::new(row, 21).good(3).zeros(few + 1).ones(3 * n - few - 1).good(5);
     let long = Finding::of(row, stream.bytes());
     let (begins, ends) = (Event::AlarmBegins(6 * n - 1), Event::AlarmEnds(8 * n - 1));
     assert!(long.found.events.contains(&begins) && long.found.events.contains(&ends));

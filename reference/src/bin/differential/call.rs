@@ -65,7 +65,7 @@ pub enum Call {
 }
 
 /// The names of the calls, in the order of their numbers.
-pub const NAMES: [&str; 9] = [
+pub const NAMES: [&str; 11] = [
     "multiplex",
     "demultiplex",
     "receiver_fresh",

@@ -11,6 +11,7 @@ const ALL_FAULTS: Faults = 1 << 5;
 
 pub fn part(run: &mut Run) {
     every_frame_count(run);
+    every_way_of_a_run(run);
     every_set_of_faults(run);
     anything(run);
 }
@@ -22,6 +23,54 @@ fn every_frame_count(run: &mut Run) {
             there_and_back(run, level, frames);
         }
     }
+}
+
+/// Every stuffing of the four over nine frames, from every place in a byte on: of eight
+/// frames ahead of the nine so many are stuffed for all, and each moves all that follows by
+/// one digit. The quarters have no byte to spare, one, or eight. Sent, and read back.
+fn every_way_of_a_run(run: &mut Run) {
+    for level in 2..=4 {
+        let row = row(level).expect("a level");
+        for pattern in 0..16 {
+            let mut met = [[false; 8]; 4];
+            for stuffed in 0..8 {
+                let mut notes = vec![0x0F; stuffed];
+                notes.resize(8, 0);
+                notes.resize(8 + 9, pattern);
+                places_in_a_byte(row, &notes, &mut met);
+                for spare in [0, 1, 8] {
+                    there_and_back_by(run, level, row, &notes, spare);
+                }
+            }
+            assert_eq!(met, [[true; 8]; 4], "a place in a byte is not met");
+        }
+    }
+}
+
+/// Where in a byte each tributary's digits begin, frame by frame.
+fn places_in_a_byte(row: &Row, notes: &[u8], met: &mut [[bool; 8]; 4]) {
+    for (j, places) in met.iter_mut().enumerate() {
+        let mut next = 0;
+        for note in notes {
+            places[next % 8] = true;
+            next += row.tributary_digits - usize::from(note >> j & 1);
+        }
+    }
+}
+
+fn there_and_back_by(run: &mut Run, level: u64, row: &Row, notes: &[u8], spare: usize) {
+    let quarter = (notes.len() * row.tributary_digits + 7) / 8 + spare;
+    let mut with = Lending {
+        level,
+        line: run.random.filled(notes.len() * row.frame_bytes()),
+        notes: notes.to_vec(),
+        buffer: run.random.bytes(4 * quarter),
+    };
+    let sent = run.compare(&Call::Multiplex(with.clone()));
+    with.line.clone_from(&sent.lent[0].1);
+    with.notes = run.random.bytes(notes.len());
+    with.buffer = run.random.filled(4 * quarter);
+    run.compare(&Call::Demultiplex(with));
 }
 
 fn every_set_of_faults(run: &mut Run) {

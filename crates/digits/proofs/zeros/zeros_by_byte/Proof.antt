@@ -19,14 +19,20 @@ abbrev μ-loop : tie.MeasureT-loop
 loop-holds : tie.Need-loop-holds Inv-loop μ-loop
 loop-holds c = (omega arith, omega arith, ones-none _ (c .before .args .from))
 
-shared-slice-read-wide-count : tie.Need-shared-slice-read-wide-count Inv-loop μ-loop
-shared-slice-read-wide-count c = omega arith
+shared-slice-read-narrow : tie.Need-shared-slice-read-narrow Inv-loop μ-loop
+shared-slice-read-narrow c = omega arith
+
+narrow-requires : tie.Need-narrow-requires Inv-loop μ-loop
+narrow-requires c κs =
+    let l = c .before .before .loop in
+    let b = getD (c .before .before .before .before .args .s .now) (l .i) 0 in
+    omega (arith, ones-le 8 b (omega (arith, c .shared-slice-known2 .given (l .i))))
 
 add-ones : tie.Need-add-ones Inv-loop μ-loop
 add-ones c =
     let l = c .before .before .before .loop in
     let b = getD (c .before .before .before .before .before .args .s .now) (l .i) 0 in
-    omega (arith, l .inv .2, c .wide-count .ensures, ones-le 8 b (omega (arith, c .before .shared-slice-known2 .given (l .i))))
+    omega (arith, l .inv .2, c .narrow .ensures, ones-le 8 b (omega (arith, c .before .shared-slice-known2 .given (l .i))))
 
 add-i : tie.Need-add-i Inv-loop μ-loop
 add-i c = omega arith
@@ -38,7 +44,7 @@ loop-again : tie.Need-loop-again Inv-loop μ-loop
 loop-again c =
     let l = c .before .before .before .loop in
     let small : getD (c .before .before .before .before .before .args .s .now) (l .i) 0 < 256 = omega (arith, c .before .shared-slice-known2 .given (l .i)) in
-    (omega arith, omega arith, ones-more _ _ (l .i) _ _ (l .inv .0) (omega arith) small (c .wide-count .ensures) (l .inv .2))
+    (omega arith, omega arith, ones-more _ _ (l .i) _ _ (l .inv .0) (omega arith) small (c .narrow .ensures) (l .inv .2))
 
 sub-result : tie.Need-sub-result Inv-loop μ-loop
 sub-result c = omega arith
@@ -48,18 +54,19 @@ mul-result c = omega arith
 
 sub-result-2 : tie.Need-sub-result-2 Inv-loop μ-loop
 sub-result-2 c =
-    let l = c .before .loop in
-    let e : l .i ≡ c .before .before .before .args .to = omega arith in
-    omega (arith, rw e at (l .inv .2))
+    let l = c .before .before .loop in
+    let e : l .i ≡ c .before .before .before .before .args .to = omega arith in
+    omega (arith, c .wide-count .ensures, rw e at (l .inv .2))
 
 returns : tie.Need-returns Inv-loop μ-loop
 returns c =
-    let l = c .before .loop in
-    let e : l .i ≡ c .before .before .before .args .to = omega arith in
+    let l = c .before .before .loop in
+    let e : l .i ≡ c .before .before .before .before .args .to = omega arith in
     let inv = rw e at (l .inv .2) in
-    (omega (arith, inv), omega arith)
+    (omega (arith, inv, c .wide-count .ensures), omega arith)
 
 pub zeros-by-byte-spec : {M : Type 1} → statement M
 zeros-by-byte-spec =
     tie.close
-    (tie.spec Inv-loop μ-loop loop-holds shared-slice-read-wide-count (λ c κs. search needs) add-ones add-i loop-less loop-again sub-result mul-result sub-result-2 returns)
+    (tie.spec Inv-loop μ-loop loop-holds shared-slice-read-narrow narrow-requires add-ones add-i loop-less loop-again sub-result mul-result
+    (λ c κs. search needs) sub-result-2 returns)

@@ -24,7 +24,9 @@ add-zeros-in : tie.Need-add-zeros-in Inv-loop μ-loop
 add-zeros-in c = omega (arith, c .room-for .ensures)
 
 zeros-in-requires : tie.Need-zeros-in-requires Inv-loop μ-loop
-zeros-in-requires c κs = (omega arith, omega (arith, c .room-for .ensures), c .before .before .before .before .pre .4)
+zeros-in-requires c κs =
+    let b = c .before .before .before .before in
+    (omega arith, omega (arith, c .room-for .ensures), b .pre .4, omega (arith, c .room-for .ensures, b .pre .0 .short))
 
 add-requires : tie.Need-add-requires Inv-loop μ-loop
 add-requires c κs =

@@ -1,0 +1,3 @@
+pub mod Lanes
+pub mod Four
+pub mod Runs

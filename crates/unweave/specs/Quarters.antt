@@ -1,0 +1,45 @@
+-- Four writers, each in its quarter of one buffer: how many digits more have room, and what they have put out.
+use mathlib.Core.Path.{_≡_}
+use mathlib.Core.Logic.{_≢_}
+use mathlib.Core.List.{List, _++_}
+use Prim.Native.Nat.{ℕ, zero, suc, _+_, _*_, _<_, _≤_}
+use lib.ListN.{length, take, drop}
+use Rattle.words.specs.declared.Writer.{Writer}
+use Rattle.words.specs.Words.{Ready, outFrom}
+use Rattle.unweave.specs.declared.Writers.{Writers}
+
+-- quarter j (from 0) of a buffer, of q bytes
+abbrev pub partOf : ℕ → List ℕ → ℕ → List ℕ
+partOf q buffer j = take q (drop (j * q) buffer)
+
+-- the writer of tributary j (from 0)
+abbrev pub writerOf : Writers → ℕ → Writer
+writerOf w zero = w .a
+writerOf w (suc zero) = w .b
+writerOf w (suc (suc zero)) = w .c
+writerOf w (suc (suc (suc j))) = w .d
+
+-- a writer in a quarter of q bytes, with room for n digits more
+pub record Within (q n : ℕ) (w : Writer) : Type 0 where
+  pub ready : Ready (w .fill) (w .held)
+  pub room : 8 * w .at + (w .fill + n) ≤ 8 * q
+
+-- so each of the four, tributary j for n j digits
+abbrev pub Roomy : ℕ → (ℕ → ℕ) → Writers → Type 0
+Roomy q n w = (j : ℕ) → j < 4 → Within q (n j) (writerOf w j)
+
+-- a writer has put out these digits more
+pub record Moved (w r : Writer) (ds : List ℕ) : Type 0 where
+  pub ready : Ready (r .fill) (r .held)
+  pub place : 8 * r .at + r .fill ≡ 8 * w .at + (w .fill + length ds)
+
+-- digits ds more in quarter j, and the other quarters are as they were
+pub record Put (q j : ℕ) (old new : List ℕ) (w r : Writer) (ds : List ℕ) : Type 0 where
+  pub moved : Moved w r ds
+  pub out : outFrom 0 (partOf q new j) r ≡ outFrom 0 (partOf q old j) w ++ ds
+  pub others : (k : ℕ) → k < 4 → k ≢ j → partOf q new k ≡ partOf q old k
+
+-- digits more in each quarter: those of tributary j are `more j`
+pub record Grown (q : ℕ) (old new : List ℕ) (w r : Writers) (more : ℕ → List ℕ) : Type 0 where
+  pub moved : (j : ℕ) → j < 4 → Moved (writerOf w j) (writerOf r j) (more j)
+  pub out : (j : ℕ) → j < 4 → outFrom 0 (partOf q new j) (writerOf r j) ≡ outFrom 0 (partOf q old j) (writerOf w j) ++ more j

@@ -1,0 +1,318 @@
+// A line taken apart, whole bytes at a time: the columns between two heads, up to 32 a turn, and the justification column. Each tributary has
+// a writer of its own, to which its quarter of the buffer is lent.
+pub mod sorting;
+
+use levels::lent;
+use levels::order;
+use levels::places;
+use levels::places::FramePlace;
+use levels::table::Row;
+use words::Writer;
+ghost use mathlib.Core.Path.{_≡_};
+ghost use Prim.Native.Nat.{ℕ, _+_, _*_, _-_, _/_, _%_, _^_, _<_, _≤_};
+ghost use lib.ListN.{length};
+ghost use Rattle.digits.specs.Digits.{digitsOf, tab, written};
+ghost use Rattle.levels.specs.Table.{Shared};
+ghost use Rattle.unweave.specs.Lanes.{lanesOf, runDigits, justificationDigits, headDigits, setDigits};
+ghost use Rattle.unweave.specs.Quarters.{writerOf, Within, Roomy, Put, Grown};
+
+// The tributaries' writers, in order.
+pub struct Writers {
+    pub a: Writer,
+    pub b: Writer,
+    pub c: Writer,
+    pub d: Writer,
+}
+
+// Appends the n digits of a word to those of tributary j (from 0), whose quarter of q bytes is lent to its writer.
+fn put_quarter(buffer: &mut [u8], q: usize, j: usize, w: Writer, word: u64, n: usize) -> Writer
+    requires { ⌜ (4 * q ≤ length (now buffer)) × (j < 4) × (n ≤ 32) × (word < 2 ^ n) × Within q n w ⌝ }
+    ensures { λ r. ⌜ Put q j (now (buffer .entry)) (now (buffer .exit)) w r (written n word) ⌝ }
+{
+    let a = j * q;
+    let e = a + q;
+    words::put(&mut buffer[a..e], w, word, n)
+}
+
+// Up to eight columns from place p of the line on.
+fn receive_few(
+    table: &[u64; 256],
+    line: &[u8],
+    p: usize,
+    buffer: &mut [u8],
+    q: usize,
+    w: Writers,
+    n: usize,
+) -> Writers
+    requires { ⌜
+        (now table ≡ tab 256 0 (lanesOf 2))
+        × (p + 4 * n ≤ 8 * length (now line))
+        × (0 < n)
+        × (n ≤ 8)
+        × (4 * q ≤ length (now buffer))
+        × Roomy q (λ (j : ℕ). n) w
+        ⌝ }
+    ensures { λ r. ⌜ Grown q (now (buffer .entry)) (now (buffer .exit)) w r (runDigits (digitsOf (now (line .entry))) p n) ⌝ }
+{
+    let g = sorting::gather(table, words::read_digits(line, p, 4 * n));
+    let a0 = w.a;
+    let b0 = w.b;
+    let c0 = w.c;
+    let d0 = w.d;
+    let a = put_quarter(buffer, q, 0, a0, sorting::lane(g, 0), n);
+    let b = put_quarter(buffer, q, 1, b0, sorting::lane(g, 1), n);
+    let c = put_quarter(buffer, q, 2, c0, sorting::lane(g, 2), n);
+    let d = put_quarter(buffer, q, 3, d0, sorting::lane(g, 3), n);
+    Writers { a, b, c, d }
+}
+
+// 32 columns from place p of the line on.
+fn receive_many(
+    table: &[u64; 256],
+    line: &[u8],
+    p: usize,
+    buffer: &mut [u8],
+    q: usize,
+    w: Writers,
+) -> Writers
+    requires { ⌜
+        (now table ≡ tab 256 0 (lanesOf 2))
+        × (p + 128 ≤ 8 * length (now line))
+        × (p < 2 ^ 31)
+        × (4 * q ≤ length (now buffer))
+        × Roomy q (λ (j : ℕ). 32) w
+        ⌝ }
+    ensures { λ r. ⌜ Grown q (now (buffer .entry)) (now (buffer .exit)) w r (runDigits (digitsOf (now (line .entry))) p 32) ⌝ }
+{
+    let p2 = p + 64;
+    let hi = sorting::gather(table, words::read_digits(line, p, 32)) * 256
+        + sorting::gather(table, words::read_digits(line, p + 32, 32));
+    let lo = sorting::gather(table, words::read_digits(line, p2, 32)) * 256
+        + sorting::gather(table, words::read_digits(line, p2 + 32, 32));
+    let a0 = w.a;
+    let b0 = w.b;
+    let c0 = w.c;
+    let d0 = w.d;
+    let a = put_quarter(buffer, q, 0, a0, sorting::both(hi, lo, 0), 32);
+    let b = put_quarter(buffer, q, 1, b0, sorting::both(hi, lo, 1), 32);
+    let c = put_quarter(buffer, q, 2, c0, sorting::both(hi, lo, 2), 32);
+    let d = put_quarter(buffer, q, 3, d0, sorting::both(hi, lo, 3), 32);
+    Writers { a, b, c, d }
+}
+
+fn at_most(n: usize, most: usize) -> usize
+    requires { ⌜ (0 < n) × (0 < most) ⌝ }
+    ensures { λ r. ⌜ (r ≤ n) × (r ≤ most) × (0 < r) ⌝ }
+{
+    if n < most {
+        return n;
+    }
+    most
+}
+
+// So many times 32 columns from place p of the line on.
+fn receive_wide(
+    table: &[u64; 256],
+    line: &[u8],
+    p: usize,
+    buffer: &mut [u8],
+    q: usize,
+    w0: Writers,
+    columns: usize,
+) -> Writers
+    requires { ⌜
+        (now table ≡ tab 256 0 (lanesOf 2))
+        × (p + 4 * columns ≤ 8 * length (now line))
+        × (p + 4 * columns < 2 ^ 31)
+        × (4 * q ≤ length (now buffer))
+        × (columns % 32 ≡ 0)
+        × Roomy q (λ (j : ℕ). columns) w0
+        ⌝ }
+    ensures { λ r. ⌜ Grown q (now (buffer .entry)) (now (buffer .exit)) w0 r (runDigits (digitsOf (now (line .entry))) p columns) ⌝ }
+{
+    let mut w = w0;
+    let mut k: usize = 0;
+    while k < columns {
+        w = receive_many(table, line, p + 4 * k, buffer, q, w);
+        k += 32;
+    }
+    w
+}
+
+// Any number of columns from place p of the line on, eight at a time.
+fn receive_narrow(
+    table: &[u64; 256],
+    line: &[u8],
+    p: usize,
+    buffer: &mut [u8],
+    q: usize,
+    w0: Writers,
+    columns: usize,
+) -> Writers
+    requires { ⌜
+        (now table ≡ tab 256 0 (lanesOf 2))
+        × (p + 4 * columns ≤ 8 * length (now line))
+        × (p + 4 * columns < 2 ^ 31)
+        × (4 * q ≤ length (now buffer))
+        × Roomy q (λ (j : ℕ). columns) w0
+        ⌝ }
+    ensures { λ r. ⌜ Grown q (now (buffer .entry)) (now (buffer .exit)) w0 r (runDigits (digitsOf (now (line .entry))) p columns) ⌝ }
+{
+    let mut w = w0;
+    let mut k: usize = 0;
+    while k < columns {
+        let n = at_most(columns - k, 8);
+        w = receive_few(table, line, p + 4 * k, buffer, q, w, n);
+        k += n;
+    }
+    w
+}
+
+// The columns between two heads, from place p of the line on: each tributary is handed every fourth digit.
+fn receive_columns(
+    table: &[u64; 256],
+    line: &[u8],
+    p: usize,
+    buffer: &mut [u8],
+    q: usize,
+    w: Writers,
+    columns: usize,
+) -> Writers
+    requires { ⌜
+        (now table ≡ tab 256 0 (lanesOf 2))
+        × (p + 4 * columns ≤ 8 * length (now line))
+        × (p + 4 * columns < 2 ^ 31)
+        × (4 * q ≤ length (now buffer))
+        × Roomy q (λ (j : ℕ). columns) w
+        ⌝ }
+    ensures { λ r. ⌜ Grown q (now (buffer .entry)) (now (buffer .exit)) w r (runDigits (digitsOf (now (line .entry))) p columns) ⌝ }
+{
+    let rest = columns % 32;
+    let many = columns - rest;
+    let v = receive_wide(table, line, p, buffer, q, w, many);
+    receive_narrow(table, line, p + 4 * many, buffer, q, v, rest)
+}
+
+// The justification place of tributary j (from 0), in the column from place p on: its digit, or none where the note says that it is stuffed.
+fn receive_unstuffed(
+    line: &[u8],
+    p: usize,
+    note: u8,
+    buffer: &mut [u8],
+    q: usize,
+    j: usize,
+    w: Writer,
+) -> Writer
+    requires { ⌜
+        (p + 4 ≤ 8 * length (now line))
+        × (p < 2 ^ 31)
+        × (4 * q ≤ length (now buffer))
+        × (j < 4)
+        × Within q (length (justificationDigits (digitsOf (now line)) p note j)) w
+        ⌝ }
+    ensures { λ r. ⌜ Put q j (now (buffer .entry)) (now (buffer .exit)) w r (justificationDigits (digitsOf (now (line .entry))) p note j) ⌝ }
+{
+    if order::is_stuffed(note, j) {
+        return w;
+    }
+    let d = lent::line_digit(line, FramePlace(p + j));
+    put_quarter(buffer, q, j, w, d as u64, 1)
+}
+
+// The justification column of a frame with this note, from place p of the line on.
+fn receive_justification(
+    line: &[u8],
+    p: usize,
+    note: u8,
+    buffer: &mut [u8],
+    q: usize,
+    w: Writers,
+) -> Writers
+    requires { ⌜
+        (p + 4 ≤ 8 * length (now line))
+        × (p < 2 ^ 31)
+        × (4 * q ≤ length (now buffer))
+        × Roomy q (λ (j : ℕ). length (justificationDigits (digitsOf (now line)) p note j)) w
+        ⌝ }
+    ensures { λ r. ⌜ Grown q (now (buffer .entry)) (now (buffer .exit)) w r (justificationDigits (digitsOf (now (line .entry))) p note) ⌝ }
+{
+    let a0 = w.a;
+    let b0 = w.b;
+    let c0 = w.c;
+    let d0 = w.d;
+    let a = receive_unstuffed(line, p, note, buffer, q, 0, a0);
+    let b = receive_unstuffed(line, p, note, buffer, q, 1, b0);
+    let c = receive_unstuffed(line, p, note, buffer, q, 2, c0);
+    let d = receive_unstuffed(line, p, note, buffer, q, 3, d0);
+    Writers { a, b, c, d }
+}
+
+// The head of set s, from place p of the line on: that of the last set ends with the justification column.
+fn receive_head(
+    row: Row,
+    line: &[u8],
+    p: usize,
+    s: usize,
+    note: u8,
+    buffer: &mut [u8],
+    q: usize,
+    w: Writers,
+) -> Writers
+    requires { ⌜
+        Shared row
+        × (p + row .set ≤ 8 * length (now line))
+        × (p < 2 ^ 30)
+        × (4 * q ≤ length (now buffer))
+        × Roomy q (λ (j : ℕ). length (headDigits row (digitsOf (now line)) p s note j)) w
+        ⌝ }
+    ensures { λ r. ⌜ Grown q (now (buffer .entry)) (now (buffer .exit)) w r (headDigits row (digitsOf (now (line .entry))) p s note) ⌝ }
+{
+    if s == row.sets - 1 {
+        return receive_justification(line, p + (places::head_end(row, s) - 4), note, buffer, q, w);
+    }
+    w
+}
+
+// Set s, from place p of the line on, of a frame with this note: its head, then its run, up to the next head.
+pub fn receive_set(
+    table: &[u64; 256],
+    row: Row,
+    line: &[u8],
+    p: usize,
+    s: usize,
+    note: u8,
+    buffer: &mut [u8],
+    q: usize,
+    w: Writers,
+) -> Writers
+    requires { ⌜
+        (now table ≡ tab 256 0 (lanesOf 2))
+        × Shared row
+        × (p + row .set ≤ 8 * length (now line))
+        × (p < 2 ^ 30)
+        × (4 * q ≤ length (now buffer))
+        × Roomy q (λ (j : ℕ). length (setDigits row (digitsOf (now line)) p s note j)) w
+        ⌝ }
+    ensures { λ r. ⌜ Grown q (now (buffer .entry)) (now (buffer .exit)) w r (setDigits row (digitsOf (now (line .entry))) p s note) ⌝ }
+{
+    let end = places::head_end(row, s);
+    let v = receive_head(row, line, p, s, note, buffer, q, w);
+    receive_columns(table, line, p + end, buffer, q, v, (row.set - end) / 4)
+}
+
+// The writer of tributary j (from 0).
+pub fn writer_of(w: Writers, j: usize) -> Writer
+    requires { ⌜ j < 4 ⌝ }
+    ensures { λ r. ⌜ r ≡ writerOf w j ⌝ }
+{
+    if j == 0 {
+        return w.a;
+    }
+    if j == 1 {
+        return w.b;
+    }
+    if j == 2 {
+        return w.c;
+    }
+    w.d
+}
