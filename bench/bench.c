@@ -15,7 +15,7 @@
 #include "rows.h"
 #include "spritbobbin.h"
 
-enum { FRAMES = 64, ENGINES = 3, TASKS = 4, LEVELS = 3 };
+enum { FRAMES = 64, ENGINES = 3, TASKS = 6, LEVELS = 3 };
 enum { LINE_BYTES = FRAMES * 366, BUFFER_BYTES = 4 * ((FRAMES * 723 + 7) / 8) };
 /* The stream's first frame begins in the middle of a byte, as frames do on a real line. */
 enum { STREAM_FIRST = 3 };
@@ -35,7 +35,7 @@ static const struct engine {
 enum { PLAIN = 1 };
 static const unsigned PLAIN_FIRST[ENGINES] = {PLAIN, 0, 2};
 
-static const char *const tasks[TASKS] = {"multiplex", "demultiplex", "receiver, aligned", "receiver, hunting"};
+static const char *const tasks[TASKS] = {"multiplex", "demultiplex", "receiver, aligned", "receiver, hunting", "multiplex, one", "demultiplex, one"};
 
 /* What the engines are given at one level: no engine writes here. */
 struct input {
@@ -51,6 +51,7 @@ struct output {
     uint8_t notes[FRAMES], buffer[BUFFER_BYTES], line[LINE_BYTES], frame[2][366];
     uint64_t state[2][9]; /* of an aligned receiver, and of one that hunts */
     uint64_t answer[10];
+    uint8_t notes_by_one[FRAMES], buffer_by_one[BUFFER_BYTES], line_by_one[LINE_BYTES]; /* a frame a call */
 };
 
 static struct input inputs[LEVELS];
@@ -137,6 +138,21 @@ static unsigned feed_all(feed_call *feed, uint64_t state[9], uint8_t frame[366],
     return frames;
 }
 
+/* The same 64 frames, a frame a call: each is made of the buffer's first digits, or taken apart into them. */
+static unsigned run_by_one(unsigned back, const struct engine *engine, const struct input *input, struct output *output)
+{
+    const struct row *row = input->row;
+    size_t bytes = row->frame_digits / 8, room = 4 * ((row->tributary_digits + 7) / 8);
+    unsigned refused = 0;
+
+    for (unsigned f = 0; f < FRAMES; f++)
+        refused |= (unsigned)(back ? engine->demultiplex(row->level, input->line + f * bytes, bytes, output->notes_by_one + f, 1,
+                                                         output->buffer_by_one, room, output->answer)
+                                   : engine->multiplex(row->level, output->line_by_one + f * bytes, bytes, input->notes + f, 1,
+                                                       input->buffer, room, output->answer));
+    return refused;
+}
+
 /* One task, once, over all 64 frames. */
 static unsigned run(unsigned task, const struct engine *engine, const struct input *input, struct output *output)
 {
@@ -152,6 +168,9 @@ static unsigned run(unsigned task, const struct engine *engine, const struct inp
                                              output->buffer, input->buffer_bytes, output->answer);
     case 2:
         return feed_all(engine->feed, output->state[0], output->frame[0], input->stream, length + 1, STREAM_FIRST, digits);
+    case 4:
+    case 5:
+        return run_by_one(task == 5, engine, input, output);
     default:
         return feed_all(engine->feed, output->state[1], output->frame[1], input->noise, length, 0, digits);
     }
