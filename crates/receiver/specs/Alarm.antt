@@ -1,11 +1,8 @@
 -- Alarm indication. Document 02, request 4: "the receiver cuts its digits into stretches of N, counted from reset, whatever its mode".
 use mathlib.Core.Bool.{Bool, cond, true, false, _||_}
 use mathlib.Core.List.{List, [], _∷_}
-use mathlib.Core.Path.{_≡_}
-use Prim.Native.Nat.{ℕ, zero, suc, _+_, _-_, _/_, _≤_, _<_}
+use Prim.Native.Nat.{ℕ, _+_, _-_, _≤_, _<_}
 use lib.Dec.{eqb, leb, ltb}
-use lib.ListN.{length, take, drop}
-use Rattle.digits.specs.Digits.{zerosIn}
 use Rattle.levels.specs.declared.table.Row.{Row}
 use Rattle.receiver.specs.declared.alarm.Stretch.{Stretch}
 
@@ -51,23 +48,3 @@ uncounted row st = leb (row .digits) (st .digits) || ltb (st .digits) (st .zeros
 pub record Counting (row : Row) (st : Stretch) : Type 0 where
   pub within : st .digits < row .digits
   pub fewer : st .zeros ≤ st .digits
-
--- ---- whole stretches: proofs/Alarms.antt shows that to count digit by digit is to go over these
-
--- the first n stretches of these digits, N digits each
-unfoldable pub stretchesOf : Row → ℕ → List ℕ → List (List ℕ)
-stretchesOf row zero ds = []
-stretchesOf row (suc n) ds = take (row .digits) ds ∷ stretchesOf row n (drop (row .digits) ds)
-
--- the alarm after these stretches, where the stretch before them had few zeros or not, and the alarm stood or not
-unfoldable pub alarmOver : Row → Bool → Bool → List (List ℕ) → Bool
-alarmOver row few alarm [] = alarm
-alarmOver row few alarm (x ∷ xs) = alarmOver row (isFew row (zerosIn x)) (alarmAfter (isFew row (zerosIn x)) few alarm) xs
-
--- the alarm after a history, from reset on: of its whole stretches, wherever its pieces were cut
-abbrev pub alarmOf : Row → List ℕ → Bool
-alarmOf row ds = alarmOver row false false (stretchesOf row (length ds / row .digits) ds)
-
--- wherever they begin, N of these digits in a row have few zeros; or, with no for yes, have more
-abbrev pub EverywhereFew : Row → Bool → List ℕ → Type 0
-EverywhereFew row few ds = (i : ℕ) → i + row .digits ≤ length ds → isFew row (zerosIn (take (row .digits) (drop i ds))) ≡ few

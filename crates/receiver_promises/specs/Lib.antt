@@ -1,3 +1,4 @@
 pub mod History
 pub mod Line
 pub mod Calls
+pub mod Stretches

@@ -1,0 +1,28 @@
+-- The digits cut into whole stretches, and the alarm as the fold over them: proofs/Alarms.antt shows that to count digit by digit, as the
+-- receiver does (`counted`), is to go over these.
+use mathlib.Core.Path.{_≡_}
+use mathlib.Core.Bool.{Bool, false}
+use mathlib.Core.List.{List, [], _∷_}
+use Prim.Native.Nat.{ℕ, zero, suc, _+_, _/_, _≤_}
+use lib.ListN.{length, take, drop}
+use Rattle.digits.specs.Digits.{zerosIn}
+use Rattle.levels.specs.declared.table.Row.{Row}
+use Rattle.receiver.specs.Alarm.{isFew, alarmAfter}
+
+-- the first n stretches of these digits, N digits each
+unfoldable pub stretchesOf : Row → ℕ → List ℕ → List (List ℕ)
+stretchesOf row zero ds = []
+stretchesOf row (suc n) ds = take (row .digits) ds ∷ stretchesOf row n (drop (row .digits) ds)
+
+-- the alarm after these stretches, where the stretch before them had few zeros or not, and the alarm stood or not
+unfoldable pub alarmOver : Row → Bool → Bool → List (List ℕ) → Bool
+alarmOver row few alarm [] = alarm
+alarmOver row few alarm (x ∷ xs) = alarmOver row (isFew row (zerosIn x)) (alarmAfter (isFew row (zerosIn x)) few alarm) xs
+
+-- the alarm after a history, from reset on: of its whole stretches, wherever its pieces were cut
+abbrev pub alarmOf : Row → List ℕ → Bool
+alarmOf row ds = alarmOver row false false (stretchesOf row (length ds / row .digits) ds)
+
+-- wherever they begin, N of these digits in a row have few zeros; or, with no for yes, have more
+abbrev pub EverywhereFew : Row → Bool → List ℕ → Type 0
+EverywhereFew row few ds = (i : ℕ) → i + row .digits ≤ length ds → isFew row (zerosIn (take (row .digits) (drop i ds))) ≡ few
