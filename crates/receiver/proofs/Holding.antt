@@ -3,13 +3,12 @@ use mathlib.Core.Path.{_≡_, sym, ap, ap₂, _∙_}
 use mathlib.Core.List.{List, _∷_, _++_, append-assoc}
 use Prim.Native.Nat.{ℕ, zero, suc, _+_, _-_, _*_, _/_, _%_, _^_, _≤_, _<_}
 use native.Mathlib.Omega.{arith}
-use native.Mathlib.Decide.{decLt, ℕ-discrete}
 use native.Mathlib.Nat.{div-one}
-use lib.ListN.{length, getD, set, take, replicate, length-append, length-take, length-set, length-replicate, getD-replicate, List·getD-append, replicate-append-replicate, List·getD-eq-default}
-use lib.Seq.{getD-append-add, getD-take}
+use lib.ListN.{length, set, replicate, length-append, length-set, length-replicate, replicate-append-replicate}
 use lib.Pow.{shl-lt}
 use Rattle.digits.specs.Digits.{digitsOf, eight, Bytes, Binary, written}
 use Rattle.digits.proofs.Laws.{digits-length, bytes-of-digits, digits-of-bytes, bytes-length}
+use Rattle.digits.proofs.Lists.{binary-zeros, binary-append}
 use Rattle.levels.specs.declared.table.Row.{Row}
 use Rattle.levels.specs.Table.{Shared}
 use Rattle.receiver.specs.Frame.{holding, begun, put}
@@ -18,31 +17,6 @@ use Rattle.digits.proofs.Written.{written-length, written-split, written-shift,
 -- a frame has room for its word: with `Shared`'s `word-some`, that the word has two digits, all that the receiver asks of its length
 pub word-within : (row : Row) → Shared row → row .len ≤ row .digits
 word-within row sh = omega (arith, sh .counted)
-
--- ---- lists of digits, and zeros
-
-pub binary-zeros : (n : ℕ) → Binary (replicate n 0)
-binary-zeros n i =
-    elim (decLt i n) [
-      | yes h ↦ rw (getD-replicate {A = ℕ} n i 0 0 h) (omega arith)
-      | no h ↦ rw (List·getD-eq-default (replicate {A = ℕ} n 0) 0 {n = i} (omega (arith, length-replicate {A = ℕ} n 0))) (omega arith)
-    ]
-
-pub binary-append : (xs ys : List ℕ) → Binary xs → Binary ys → Binary (xs ++ ys)
-binary-append xs ys bx by i =
-    elim (decLt i (length xs)) [
-      | yes h ↦ rw (List·getD-append xs ys 0 i h) (bx i)
-      | no h ↦
-          let e : i ≡ length xs + (i - length xs) = omega arith in
-          rw (e, getD-append-add xs ys (i - length xs) 0) (by (i - length xs))
-    ]
-
-pub binary-take : (n : ℕ) (xs : List ℕ) → Binary xs → Binary (take n xs)
-binary-take n xs bx i =
-    elim (decLt i n) [
-      | yes h ↦ rw (getD-take n xs i 0 h) (bx i)
-      | no h ↦ rw (List·getD-eq-default (take n xs) 0 {n = i} (omega (arith, length-take n xs))) (omega arith)
-    ]
 
 module _ (ds : List ℕ) (bin : Binary ds) (fits : length ds ≤ 2928) where
   -- the array that holds digits has them, and zeros after

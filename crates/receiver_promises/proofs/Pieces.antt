@@ -21,7 +21,7 @@ use Rattle.receiver.specs.Frame.{readyOf}
 use Rattle.receiver.specs.Feed.{coreOf, freshState, freshOf, invalid, refusalOf, afterOf, accepted, refused, runOf, pieceOf, feedRow, feedOf, Valid, ValidState}
 use Rattle.receiver.specs.Alarm.{uncounted, counted, Counting}
 use Rattle.receiver_promises.specs.History.{heard, readyAfter, since, joined, Handed}
-use Rattle.receiver.proofs.Holding.{binary-append, binary-take}
+use Rattle.digits.proofs.Lists.{binary-append, binary-take}
 use Rattle.receiver.proofs.Validity.{cond-told, valid-only, counting-only, step-valid, Accepted, accepted-if, accepted-only}
 use Rattle.receiver.proofs.Counts.{counted-counting}
 use Rattle.receiver_promises.proofs.Traces.{Traced, traced-fresh, traced, handed}

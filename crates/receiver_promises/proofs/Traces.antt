@@ -22,7 +22,8 @@ use Rattle.receiver.specs.Feed.{coreOf, freshState, afterOf, Valid}
 use Rattle.digits.specs.Histories.{lastOf}
 use Rattle.receiver_promises.specs.History.{heard, since, Handed}
 use Rattle.digits.proofs.Written.{written-zero, written-more}
-use Rattle.receiver.proofs.Holding.{word-within, binary-append, holding-digits, holding-length}
+use Rattle.digits.proofs.Lists.{binary-append}
+use Rattle.receiver.proofs.Holding.{word-within, holding-digits, holding-length}
 use Rattle.receiver.proofs.Validity.{cond-told, and-both, step-valid, asked-came}
 use Rattle.digits.proofs.Lasts.{last-length, last-binary, last-more, last-less, last-zeros}
 
