@@ -2,11 +2,12 @@
 use mathlib.Core.Path.{_≡_}
 use mathlib.Core.Logic.{_≢_}
 use mathlib.Core.List.{List, _++_}
-use Prim.Native.Nat.{ℕ, zero, suc, _+_, _*_, _<_, _≤_}
+use Prim.Native.Nat.{ℕ, zero, suc, _+_, _*_, _^_, _<_, _≤_}
 use lib.ListN.{length, take, drop}
 use Rattle.words.specs.declared.Writer.{Writer}
 use Rattle.words.specs.Words.{Ready, outFrom}
 use Rattle.unweave.specs.declared.Writers.{Writers}
+use Rattle.unweave.specs.declared.Columns.{Columns}
 
 -- quarter j (from 0) of a buffer, of q bytes
 abbrev pub partOf : ℕ → List ℕ → ℕ → List ℕ
@@ -18,6 +19,16 @@ writerOf w zero = w .a
 writerOf w (suc zero) = w .b
 writerOf w (suc (suc zero)) = w .c
 writerOf w (suc (suc (suc j))) = w .d
+
+-- tributary j's number (from 0) of four, and that each has at most n digits
+abbrev pub numberOf : Columns → ℕ → ℕ
+numberOf x zero = x .a
+numberOf x (suc zero) = x .b
+numberOf x (suc (suc zero)) = x .c
+numberOf x (suc (suc (suc j))) = x .d
+
+abbrev pub Below : ℕ → Columns → Type 0
+Below n x = (j : ℕ) → j < 4 → numberOf x j < 2 ^ n
 
 -- a writer in a quarter of q bytes, with room for n digits more
 pub record Within (q n : ℕ) (w : Writer) : Type 0 where

@@ -14,7 +14,7 @@ ghost use lib.ListN.{length};
 ghost use Rattle.digits.specs.Digits.{digitsOf, tab, written};
 ghost use Rattle.levels.specs.Table.{Shared};
 ghost use Rattle.unweave.specs.Lanes.{lanesOf, runDigits, justificationDigits, headDigits, setDigits};
-ghost use Rattle.unweave.specs.Quarters.{writerOf, Within, Roomy, Put, Grown};
+ghost use Rattle.unweave.specs.Quarters.{writerOf, numberOf, Below, Within, Roomy, Put, Grown};
 
 // The tributaries' writers, in order.
 pub struct Writers {
@@ -32,6 +32,30 @@ fn put_quarter(buffer: &mut [u8], q: usize, j: usize, w: Writer, word: u64, n: u
     let a = j * q;
     let e = a + q;
     words::put(&mut buffer[a..e], w, word, n)
+}
+
+// The tributaries' digits, in order, each as a number.
+struct Columns {
+    a: u64,
+    b: u64,
+    c: u64,
+    d: u64,
+}
+
+// Appends n digits to those of each tributary.
+fn put_four(buffer: &mut [u8], q: usize, w: Writers, x: Columns, n: usize) -> Writers
+    requires { ⌜ (4 * q ≤ length (now buffer)) × (n ≤ 32) × Below n x × Roomy q (λ (j : ℕ). n) w ⌝ }
+    ensures { λ r. ⌜ Grown q (now (buffer .entry)) (now (buffer .exit)) w r (λ (j : ℕ). written n (numberOf x j)) ⌝ }
+{
+    let a0 = w.a;
+    let b0 = w.b;
+    let c0 = w.c;
+    let d0 = w.d;
+    let a = put_quarter(buffer, q, 0, a0, x.a, n);
+    let b = put_quarter(buffer, q, 1, b0, x.b, n);
+    let c = put_quarter(buffer, q, 2, c0, x.c, n);
+    let d = put_quarter(buffer, q, 3, d0, x.d, n);
+    Writers { a, b, c, d }
 }
 
 // Up to eight columns from place p of the line on.
@@ -55,15 +79,11 @@ fn receive_few(
     ensures { λ r. ⌜ Grown q (now (buffer .entry)) (now (buffer .exit)) w r (runDigits (digitsOf (now (line .entry))) p n) ⌝ }
 {
     let g = sorting::gather(table, words::read_digits(line, p, 4 * n));
-    let a0 = w.a;
-    let b0 = w.b;
-    let c0 = w.c;
-    let d0 = w.d;
-    let a = put_quarter(buffer, q, 0, a0, sorting::lane(g, 0), n);
-    let b = put_quarter(buffer, q, 1, b0, sorting::lane(g, 1), n);
-    let c = put_quarter(buffer, q, 2, c0, sorting::lane(g, 2), n);
-    let d = put_quarter(buffer, q, 3, d0, sorting::lane(g, 3), n);
-    Writers { a, b, c, d }
+    let a = sorting::lane(g, 0);
+    let b = sorting::lane(g, 1);
+    let c = sorting::lane(g, 2);
+    let d = sorting::lane(g, 3);
+    put_four(buffer, q, w, Columns { a, b, c, d }, n)
 }
 
 // 32 columns from place p of the line on.
@@ -89,25 +109,11 @@ fn receive_many(
         + sorting::gather(table, words::read_digits(line, p + 32, 32));
     let lo = sorting::gather(table, words::read_digits(line, p2, 32)) * 256
         + sorting::gather(table, words::read_digits(line, p2 + 32, 32));
-    let a0 = w.a;
-    let b0 = w.b;
-    let c0 = w.c;
-    let d0 = w.d;
-    let a = put_quarter(buffer, q, 0, a0, sorting::both(hi, lo, 0), 32);
-    let b = put_quarter(buffer, q, 1, b0, sorting::both(hi, lo, 1), 32);
-    let c = put_quarter(buffer, q, 2, c0, sorting::both(hi, lo, 2), 32);
-    let d = put_quarter(buffer, q, 3, d0, sorting::both(hi, lo, 3), 32);
-    Writers { a, b, c, d }
-}
-
-fn at_most(n: usize, most: usize) -> usize
-    requires { ⌜ (0 < n) × (0 < most) ⌝ }
-    ensures { λ r. ⌜ (r ≤ n) × (r ≤ most) × (0 < r) ⌝ }
-{
-    if n < most {
-        return n;
-    }
-    most
+    let a = sorting::both(hi, lo, 0);
+    let b = sorting::both(hi, lo, 1);
+    let c = sorting::both(hi, lo, 2);
+    let d = sorting::both(hi, lo, 3);
+    put_four(buffer, q, w, Columns { a, b, c, d }, 32)
 }
 
 // So many times 32 columns from place p of the line on.
@@ -161,7 +167,7 @@ fn receive_narrow(
     let mut w = w0;
     let mut k: usize = 0;
     while k < columns {
-        let n = at_most(columns - k, 8);
+        let n = words::at_most(columns - k, 8);
         w = receive_few(table, line, p + 4 * k, buffer, q, w, n);
         k += n;
     }

@@ -195,16 +195,6 @@ fn send_wide(
     w
 }
 
-fn at_most(n: usize, most: usize) -> usize
-    requires { ⌜ (0 < n) × (0 < most) ⌝ }
-    ensures { λ r. ⌜ (r ≤ n) × (r ≤ most) × (0 < r) ⌝ }
-{
-    if n < most {
-        return n;
-    }
-    most
-}
-
 // Columns by eight, and the last few.
 fn send_narrow(
     table: &[u64; 256],
@@ -231,7 +221,7 @@ fn send_narrow(
     let mut w = w0;
     let mut k: usize = 0;
     while k < columns {
-        let n = at_most(columns - k, 8);
+        let n = words::at_most(columns - k, 8);
         w = send_few(table, line, a, b, c, d, w, moved_on(i, k), n);
         k += n;
     }

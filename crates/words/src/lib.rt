@@ -160,3 +160,14 @@ pub fn finish(s: &mut [u8], w0: Writer) -> Writer
     }
     w
 }
+
+// How many of n the next turn takes that takes at most so many.
+pub fn at_most(n: usize, most: usize) -> usize
+    requires { ⌜ (0 < n) × (0 < most) ⌝ }
+    ensures { λ r. ⌜ (r ≤ n) × (r ≤ most) × (0 < r) ⌝ }
+{
+    if n < most {
+        return n;
+    }
+    most
+}
