@@ -23,7 +23,8 @@ use Rattle.multiframe.specs.declared.Kind.the-variants.{Fixed, Spare, Si
 use Rattle.multiframe.specs.Multiframe.{kindAt, withWord, withoutWord, multiframeByte, isFixed, sparesBefore, signallingFrom, channelFrom, channelOf, meant, digitFor, multiframeOf}
 use Rattle.multiframe.specs.Steps.{ColumnPut, ColumnTaken, Channelled, Laid, at, wordByte, otherByte, wordFrom, firstByte, firstBytes, sixteenthByte, spareTable, spareBytes}
 use Rattle.multiframe.specs.Calls.{Taken}
-use Rattle.multiframe.proofs.Told.{InFirst, Told, fixed, spare, signalled, channelled, told, no-truth, both, all, all-at}
+use Rattle.digits.proofs.Tests.{and-both}
+use Rattle.multiframe.proofs.Told.{InFirst, Told, fixed, spare, signalled, channelled, told, no-truth, all, all-at}
 use Rattle.multiframe.proofs.Spares.{table, table-found, table-there}
 
 -- ---- the bytes
@@ -121,7 +122,7 @@ word-right = refl
 word-number : (f p : ℕ) → f < 16 → f % 2 ≡ 0 → p ≡ 256 * f → sparesBefore p ≡ wordFrom f
 word-number f p h e q =
     let t : eqb (getD table (wordFrom f) 0) (256 * f) && ltb (wordFrom f) 68 ≡ true = rw (eq-eqb (f % 2) 0 e) at (all-at 16 _ word-right f h) in
-    let w = both (eqb (getD table (wordFrom f) 0) (256 * f)) (ltb (wordFrom f) 68) t in
+    let w = and-both (eqb (getD table (wordFrom f) 0) (256 * f)) (ltb (wordFrom f) 68) t in
     numbered (wordFrom f) p (ltb-true (wordFrom f) 68 (w .1)) (eqb-true (getD table (wordFrom f) 0) (256 * f) (w .0) ∙ sym q)
 
 other-number : (m q : ℕ) → otherTest m q ≡ true → m < 7 → (f p : ℕ) → f < 16 → (f % 2 ≡ 0 → ⊥) → p ≡ 256 * f + q → sparesBefore p ≡ 4 * f + 1 + m
