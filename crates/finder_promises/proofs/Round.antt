@@ -92,8 +92,7 @@ made-line c s x clean o n =
           at i h ∙ word-there c s x ((o + i) % 4096) (omega arith) (omega (arith, lo)) (omega (arith, hi)) ∙ rw e refl;
       second-digits = λ i h e. at i h ∙ second-there c s x ((o + i) % 4096) (omega arith) (omega (arith, e));
       no-others = λ i room e.
-          let one : (o + i) % 4096 % 512 ≡ 1 = clean ((o + i) % 4096) (omega arith) (sym (seven m o n i (omega (arith, sent-length m o n))) ∙ e) in
-          omega arith;
+          omega (arith, clean ((o + i) % 4096) (omega arith) (sym (seven m o n i (omega (arith, sent-length m o n))) ∙ e));
     }
   where
     m : List ℕ
