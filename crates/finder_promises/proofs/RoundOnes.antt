@@ -10,11 +10,12 @@ use lib.Dec.{eqb}
 use lib.ListN.{getD, replicate, getD-replicate}
 use Rattle.digits.specs.Digits.{digitsOf}
 use Rattle.digits.proofs.Laws.{digit-at, digits-binary, tab-at}
+use Rattle.digits.proofs.Below.{all, all-at}
 use Rattle.multiframe.specs.declared.Kind.{Kind}
 use Rattle.multiframe.specs.declared.Kind.the-variants.{Fixed, Spare, Signalling, Channel}
 use Rattle.multiframe.specs.Multiframe.{kindAt, digitFor, channelFrom, channelOf, sparesBefore}
 use Rattle.multiframe.specs.Calls.{BuildMet, silentFrom}
-use Rattle.multiframe.proofs.Told.{all, all-at, Told, fixed, spare, signalled, channelled, told}
+use Rattle.multiframe.proofs.Told.{Told, fixed, spare, signalled, channelled, told}
 use Rattle.multiframe.proofs.Places.{made-digit}
 use Rattle.multiframe.proofs.Spares.{table-found}
 use Rattle.multiframe.proofs.Channels.{channel-bounds}

@@ -24,7 +24,8 @@ use Rattle.multiframe.specs.Multiframe.{kindAt, withWord, withoutWord, m
 use Rattle.multiframe.specs.Steps.{ColumnPut, ColumnTaken, Channelled, Laid, at, wordByte, otherByte, wordFrom, firstByte, firstBytes, sixteenthByte, spareTable, spareBytes}
 use Rattle.multiframe.specs.Calls.{Taken}
 use Rattle.digits.proofs.Tests.{and-both}
-use Rattle.multiframe.proofs.Told.{InFirst, Told, fixed, spare, signalled, channelled, told, no-truth, all, all-at}
+use Rattle.digits.proofs.Below.{all, all-at}
+use Rattle.multiframe.proofs.Told.{InFirst, Told, fixed, spare, signalled, channelled, told, no-truth}
 use Rattle.multiframe.proofs.Spares.{table, table-found, table-there}
 
 -- ---- the bytes

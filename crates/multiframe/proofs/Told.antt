@@ -1,46 +1,22 @@
 -- What each place is, told with where its byte comes from: bytes 0 and 16 of the sixteen frames by one computed test each, all others at once.
-use mathlib.Core.Path.{_≡_, refl, sym, ap, subst, _∙_}
+use mathlib.Core.Path.{_≡_, refl, subst, _∙_}
 use mathlib.Core.Logic.{_⊎_, inl, inr}
-use mathlib.Core.Bool.{Bool, cond, true, false, _&&_}
-use mathlib.Core.List.{List}
-use Prim.Native.Nat.{ℕ, zero, suc, _+_, _-_, _*_, _/_, _%_, _^_, _≤_, _<_}
+use mathlib.Core.Bool.{Bool, cond, true, false}
+use Prim.Native.Nat.{ℕ, zero, suc, _+_, _-_, _*_, _/_, _%_, _≤_, _<_}
 use native.Mathlib.Omega.{arith}
 use native.Mathlib.Decide.{decLt, ℕ-discrete}
 use lib.Dec.{eqb}
 use lib.ListN.{getD, getD-replicate}
 use borrow.Author.Tests.{eq-eqb, ne-eqb, eqb-true}
-use Rattle.digits.proofs.Tests.{and-both}
+use Rattle.digits.proofs.Below.{all, all-at}
 use Rattle.multiframe.specs.declared.SpareDigit.{SpareDigit}
 use Rattle.multiframe.specs.declared.Kind.{Kind}
 use Rattle.multiframe.specs.declared.Kind.the-variants.{Fixed, Spare, Signalling, Channel}
 use Rattle.multiframe.specs.Multiframe.{kindAt, withWord, withoutWord, multiframeByte, signallingByte, channelOf, signallingFrom}
 
--- ---- a test of every number below n
-
-unfoldable pub all : ℕ → (ℕ → Bool) → Bool
-all zero t = true
-all (suc n) t = t n && all n t
-
 -- no is not yes
 pub no-truth : false ≡ true → ⊥
 no-truth e = subst (λ (t : Bool). cond t ⊥ (Unit {0})) e tt
-
-pub all-at : (n : ℕ) (t : ℕ → Bool) → all n t ≡ true → (i : ℕ) → i < n → t i ≡ true
-unfolding all
-all-at zero t e i h = absurd (nothing h)
-  where
-    nothing : i < 0 → ⊥
-    nothing h = omega arith
-all-at (suc n) t e i h =
-    let w = and-both (t n) (all n t) e in
-    elim (ℕ-discrete i n) [
-      | yes it ↦ rw it (w .0)
-      | no far ↦
-          elim (decLt i n) [
-            | yes l ↦ all-at n t (w .1) i l
-            | no l ↦ absurd (far (omega arith))
-          ]
-    ]
 
 -- ---- what a place is, and where its byte comes from
 
