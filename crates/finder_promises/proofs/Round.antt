@@ -7,7 +7,7 @@ use native.Mathlib.Omega.{arith}
 use lib.ListN.{length, getD, take, drop, length-drop}
 use lib.Seq.{getD-take, getD-drop, take-all, length-take-le, ext-getD}
 use Rattle.digits.specs.Digits.{digitsOf, tab}
-use Rattle.digits.specs.Runs.{heard}
+use Rattle.digits.specs.Runs.{heard, Piece, AllLent, digitsInAll, leftBy, callsForAll}
 use Rattle.digits.proofs.Laws.{digits-binary, tab-length, tab-at, tab-binary}
 use Rattle.multiframe.specs.declared.Built.{Built}
 use Rattle.multiframe.specs.declared.Kind.the-variants.{Fixed}
@@ -18,9 +18,10 @@ use Rattle.multiframe.proofs.Places.{made-digit}
 use Rattle.finder.specs.declared.State.{State}
 use Rattle.finder.specs.Modes.{word, stepOf}
 use Rattle.finder.specs.Feed.{freshState, Valid}
+use Rattle.finder_promises.specs.History.{callOf}
 use Rattle.finder_promises.specs.Line.{Line, truePlace, AlignedAt}
 use Rattle.finder_promises.specs.Round.{roundDigit, sentOver, NoFalseWord}
-use Rattle.finder_promises.proofs.Recovery.{recovers, found-from-fresh}
+use Rattle.finder_promises.proofs.Recovery.{recovers, found-from-fresh, calls-recover}
 
 -- ---- the fixed digits of what is built
 
@@ -122,3 +123,10 @@ module _ (old c s x : List ℕ) (a : Built) (m : List ℕ) (met : BuildMet old c
   built-found clean o n enough =
       let whole : take n (sentOver m o n) ≡ sentOver m o n = take-all n (sentOver m o n) (omega (arith, sent-length m o n)) in
       rw whole at (found-from-fresh o (sentOver m o n) (built-line clean o n) n enough (omega (arith, sent-length m o n)))
+
+  -- the same of the public call: its digits in pieces, fed in turn, each with its rest after a stop
+  pub built-calls-recover : NoFalseWord m → (t : State) → Valid t → (ps : List Piece) → AllLent ps → (o n : ℕ) → digitsInAll ps ≡ sentOver m o n → 2565 ≤ n
+      → AlignedAt (truePlace o n) (leftBy callOf t (callsForAll callOf t ps))
+  built-calls-recover clean t v ps lent o n cut enough =
+      let size : length (digitsInAll ps) ≡ n = rw cut (sent-length m o n) in
+      rw size at (calls-recover t v ps lent o (rw cut (built-line clean o n)) (omega (arith, size)))
