@@ -6,11 +6,15 @@ use console::help;
 use console::words;
 use console::words::NO_NOTE;
 use finding::find;
+use hunting::hunt;
 use keeping::keep;
 use keeping::opened;
 use levels::table;
 use levels::table::Level;
 use levels::table::Row;
+use multiframe_picture::picture;
+use multiframes::apart;
+use multiframes::build;
 use passages::send;
 use passages::take;
 use pictures::frame;
@@ -41,6 +45,17 @@ const KEEP: u8 = 4;
 
 const SHOW: u8 = 5;
 
+// Those of 2048 kbit/s, which take no level.
+const BUILD: u8 = 6;
+
+const APART: u8 = 7;
+
+const HUNT: u8 = 8;
+
+const MULTIFRAME: u8 = 9;
+
+const NO_COMMAND: u8 = 10;
+
 // Beside NO_NOTE, where there is none: a word that should be a note and is none.
 const WRONG_NOTE: u16 = 257;
 
@@ -65,7 +80,7 @@ fn command(word: &[u8], last: usize) {
         return;
     }
     let which = which_command(word);
-    if SHOW < which {
+    if which == NO_COMMAND {
         help::wrong_call(b"there is no such command, or it is missing.");
         return;
     }
@@ -91,7 +106,23 @@ fn which_command(word: &[u8]) -> u8 {
     if check::same(word, b"show") {
         return SHOW;
     }
-    SHOW + 1
+    which_of_2048(word)
+}
+
+fn which_of_2048(word: &[u8]) -> u8 {
+    if check::same(word, b"build") {
+        return BUILD;
+    }
+    if check::same(word, b"apart") {
+        return APART;
+    }
+    if check::same(word, b"hunt") {
+        return HUNT;
+    }
+    if check::same(word, b"multiframe") {
+        return MULTIFRAME;
+    }
+    NO_COMMAND
 }
 
 // Whether a command may have a last word of this number.
@@ -102,7 +133,11 @@ fn fits(which: u8, last: usize) -> bool {
         TAKE => last == take::TRIBUTARIES || last == opened::TRIBUTARIES,
         FIND => last == find::STREAM || last == find::PREFIX,
         KEEP => last == keep::CAPTURE || last == keep::LABEL,
-        _ => last == opened::CAPTURE || last == opened::LINE,
+        SHOW => last == opened::CAPTURE || last == opened::LINE,
+        BUILD => last == build::MULTIFRAMES,
+        APART => last == apart::SPARE,
+        HUNT => last == hunt::RECORDING,
+        _ => last == COMMAND || last == picture::PICTURE,
     }
 }
 
@@ -117,7 +152,17 @@ fn wrong_words(which: u8) {
             help::wrong_call(b"find takes a level and a file, and a prefix where files are wanted.")
         }
         KEEP => help::wrong_call(b"keep takes a level and two files, and a label where wanted."),
-        _ => help::wrong_call(b"show takes a capture, and a file where its line is wanted."),
+        SHOW => help::wrong_call(b"show takes a capture, and a file where its line is wanted."),
+        _ => wrong_words_of_2048(which),
+    }
+}
+
+fn wrong_words_of_2048(which: u8) {
+    match which {
+        BUILD => help::wrong_call(b"build takes four files."),
+        APART => help::wrong_call(b"apart takes four files."),
+        HUNT => help::wrong_call(b"hunt takes a file."),
+        _ => help::wrong_call(b"multiframe takes a file for the picture where wanted."),
     }
 }
 
@@ -133,11 +178,42 @@ fn counted(which: u8, last: usize) {
             return;
         }
     }
-    if which == SHOW {
-        shown(last);
+    if SHOW <= which {
+        unlevelled(which, last);
         return;
     }
     levelled(which, last);
+}
+
+// The commands that take no level.
+fn unlevelled(which: u8, last: usize) {
+    match which {
+        SHOW => shown(last),
+        BUILD => build::run(),
+        APART => taken_apart(),
+        HUNT => hunt::run(),
+        _ => multiframe(last),
+    }
+}
+
+fn taken_apart() {
+    if apart::share_a_name() {
+        help::wrong_call(b"CHANNELS, SIGNALLING and SPARE are three files: give three names.");
+        return;
+    }
+    apart::run();
+}
+
+// multiframe [FILE.svg]
+fn multiframe(last: usize) {
+    let mut word = io::buffer();
+    let n = os::arg(last, &mut word);
+    let drawn = last == picture::PICTURE;
+    if drawn && !words::is_svg(&word[..n]) {
+        help::wrong_call(b"a picture's file ends in .svg.");
+        return;
+    }
+    picture::run(drawn);
 }
 
 fn shown(last: usize) {
@@ -172,7 +248,7 @@ fn started(which: u8, last: usize, row: Row, level: u64)
     requires { ⌜ Shared row ⌝ }
 {
     match which {
-        FRAME => picture(row, level, last),
+        FRAME => frame_shown(row, level, last),
         SEND => send::run(row, level),
         TAKE => take_line(row, level, last),
         FIND => find::run(row, level, last == find::PREFIX),
@@ -192,7 +268,7 @@ fn take_line(row: Row, level: u64, last: usize)
 }
 
 // frame LEVEL [NOTE] [FILE.svg]: the last word is a file where it ends in .svg, and a word before it is a note.
-fn picture(row: Row, level: u64, last: usize)
+fn frame_shown(row: Row, level: u64, last: usize)
     requires { ⌜ Shared row ⌝ }
 {
     let mut word = io::buffer();

@@ -35,7 +35,28 @@ pub fn forms() {
         b"show CAPTURE [LINE]               ",
         b"what a capture holds; LINE: writes its line out",
     );
+    forms_of_2048();
     form(b"help                              ", b"these forms");
+}
+
+// The commands on the 2048 kbit/s frame.
+fn forms_of_2048() {
+    form(
+        b"multiframe [FILE.svg]             ",
+        b"the multiframe of 2048 kbit/s",
+    );
+    form(
+        b"build CHANNELS SIGNALLING SPARE MULTIFRAMES",
+        b"\n                                                  makes the file MULTIFRAMES",
+    );
+    form(
+        b"apart MULTIFRAMES CHANNELS SIGNALLING SPARE",
+        b"\n                                                  takes the file MULTIFRAMES apart",
+    );
+    form(
+        b"hunt RECORDING                    ",
+        b"finds the frames of 2048 kbit/s in a recording",
+    );
 }
 
 fn form(words: &[u8], what: &[u8]) {

@@ -2,5 +2,6 @@
 pub mod files;
 pub mod help;
 pub mod page;
+pub mod progress;
 pub mod say;
 pub mod words;

@@ -9,3 +9,4 @@ pub mod Lasts
 pub mod Histories
 pub mod Runs
 pub mod ZeroLaws
+pub mod Below

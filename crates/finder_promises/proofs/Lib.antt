@@ -5,3 +5,5 @@ pub mod Turns
 pub mod Words
 pub mod Recovery
 pub mod Ones
+pub mod Round
+pub mod RoundOnes

@@ -1,6 +1,7 @@
 // find LEVEL STREAM [PREFIX]: finds the frames in a recording begun anywhere, and takes them apart. It is read in chunks; the frames handed
 // over are held until there are 64 of them.
 use console::files;
+use console::progress;
 use console::say;
 use levels::table::Row;
 use passages::apart;
@@ -98,7 +99,7 @@ fn chunks(row: Row, level: u64, bytes: usize, t: Finding) -> Finding
     let mut u = t;
     let mut at: usize = 0;
     while at < bytes {
-        progress(at, bytes);
+        progress::say(at, bytes);
         u = one_chunk(
             row,
             level,
@@ -109,25 +110,8 @@ fn chunks(row: Row, level: u64, bytes: usize, t: Finding) -> Finding
         );
         at += 65536;
     }
-    progress(bytes, bytes);
+    progress::say(bytes, bytes);
     flush(row, level, &line, u)
-}
-
-// How much of a recording is done, in hundredths, where standard error is a terminal.
-fn progress(at: usize, bytes: usize)
-    requires { ⌜ at ≤ 1099511693312 ⌝ }
-{
-    if bytes < 1048576 {
-        return;
-    }
-    if libc::isatty(libc::STDERR_FILENO) == 1 {
-        io::write_all(libc::STDERR_FILENO, b"\r");
-        io::print_decimal(libc::STDERR_FILENO, (at * 100 / bytes) as u64);
-        io::write_all(libc::STDERR_FILENO, b"% \r");
-        if at == bytes {
-            io::write_all(libc::STDERR_FILENO, b"\r     \r");
-        }
-    }
 }
 
 fn one_chunk(row: Row, level: u64, at: usize, n: usize, line: &mut [u8], t: Finding) -> Finding

@@ -1,21 +1,14 @@
 -- A column of a multiframe, byte by byte: one byte more is put, or taken.
-use mathlib.Core.Path.{_≡_, refl, sym, ap, _∙_}
+use mathlib.Core.Path.{_≡_, refl, _∙_}
 use mathlib.Core.Logic.{_≢_}
 use mathlib.Core.List.{List}
 use Prim.Native.Nat.{ℕ, _+_, _*_, _<_}
 use native.Mathlib.Omega.{arith}
-use native.Mathlib.Decide.{decLt, ℕ-discrete}
+use native.Mathlib.Decide.{ℕ-discrete}
 use lib.ListN.{length, getD, set}
 use lib.Seq.{ext-getD, getD-set-same, getD-set-other}
+use Rattle.digits.proofs.Below.{lt-of-ne}
 use Rattle.multiframe.specs.Steps.{ColumnPut, ColumnTaken}
-
--- below n + 1 and not n is below n
-pub lt-of-ne : (f n : ℕ) → f < n + 1 → (f ≡ n → ⊥) → f < n
-lt-of-ne f n l far =
-    elim (decLt f n) [
-      | yes h ↦ h
-      | no h ↦ absurd (far (omega arith))
-    ]
 
 pub column-none : (old : List ℕ) (first : ℕ) (column : List ℕ) → ColumnPut old first column 0 old
 column-none old first column = record { put = λ f h. absurd (nothing f h); stays = λ k n. refl }

@@ -23,24 +23,26 @@ use Rattle.multiframe.specs.declared.Kind.the-variants.{Fixed, Spare, Si
 use Rattle.multiframe.specs.Multiframe.{kindAt, withWord, withoutWord, multiframeByte, isFixed, sparesBefore, signallingFrom, channelFrom, channelOf, meant, digitFor, multiframeOf}
 use Rattle.multiframe.specs.Steps.{ColumnPut, ColumnTaken, Channelled, Laid, at, wordByte, otherByte, wordFrom, firstByte, firstBytes, sixteenthByte, spareTable, spareBytes}
 use Rattle.multiframe.specs.Calls.{Taken}
-use Rattle.multiframe.proofs.Told.{InFirst, Told, fixed, spare, signalled, channelled, told, no-truth, both, all, all-at}
+use Rattle.digits.proofs.Tests.{and-both}
+use Rattle.digits.proofs.Below.{all, all-at}
+use Rattle.multiframe.proofs.Told.{InFirst, Told, fixed, spare, signalled, channelled, told, no-truth}
 use Rattle.multiframe.proofs.Spares.{table, table-found, table-there}
 
 -- ---- the bytes
 
 -- the channels are put, then byte 0 of each frame, then byte 16 of frame 0, then byte 16 of the others
-pub all-laid : (channels signalling spares one two new : List ℕ) (v : ℕ) → length two ≡ 512 → Channelled channels one
-    → ColumnPut one 0 (firstBytes (digitsOf spares)) 16 two → v ≡ sixteenthByte (digitsOf spares) → ColumnPut (set two 16 v) 48 signalling 15 new
-    → Laid channels signalling spares new
-all-laid channels signalling spares one two new v l ch first is put =
+pub all-laid : (channels signalling spares one two new : List ℕ) (v from : ℕ) → length two ≡ 512 → Channelled channels one
+    → ColumnPut one 0 (firstBytes (digitsOf spares)) 16 two → v ≡ sixteenthByte (digitsOf spares) → ColumnPut (set two 16 v) from signalling 15 new
+    → from ≡ 48 → Laid channels signalling spares new
+all-laid channels signalling spares one two new v from l ch first is put at =
     record {
       channelled = λ k h g. put .stays k (λ f _ e. far k f g e) ∙ getD-set-other two 16 k v 0 (λ e. off k g e) ∙ first .stays k (λ f _ e. away k f g e) ∙ ch k h g;
       firsts = λ f h. put .stays (32 * f) (λ g _ e. odd f g e) ∙ getD-set-other two 16 (32 * f) v 0 (λ e. half f e) ∙ ap (λ (k : ℕ). getD two k 0) (from-zero f) ∙ first .put f h;
       sixteenth = put .stays 16 (λ f _ e. later f e) ∙ getD-set-same two 16 v 0 (omega arith) ∙ is;
-      signalled = put .put;
+      signalled = λ f h. ap (λ (k : ℕ). getD new (k + 32 * f) 0) (sym at) ∙ put .put f h;
     }
   where
-    far : (k f : ℕ) → 0 < k % 16 → k ≡ 48 + 32 * f → ⊥
+    far : (k f : ℕ) → 0 < k % 16 → k ≡ from + 32 * f → ⊥
     far k f g e = omega arith
 
     off : (k : ℕ) → 0 < k % 16 → k ≡ 16 → ⊥
@@ -49,7 +51,7 @@ all-laid channels signalling spares one two new v l ch first is put =
     away : (k f : ℕ) → 0 < k % 16 → k ≡ 0 + 32 * f → ⊥
     away k f g e = omega arith
 
-    odd : (f g : ℕ) → 32 * f ≡ 48 + 32 * g → ⊥
+    odd : (f g : ℕ) → 32 * f ≡ from + 32 * g → ⊥
     odd f g e = omega arith
 
     half : (f : ℕ) → 32 * f ≡ 16 → ⊥
@@ -58,7 +60,7 @@ all-laid channels signalling spares one two new v l ch first is put =
     from-zero : (f : ℕ) → 32 * f ≡ 0 + 32 * f
     from-zero f = omega arith
 
-    later : (f : ℕ) → 16 ≡ 48 + 32 * f → ⊥
+    later : (f : ℕ) → 16 ≡ from + 32 * f → ⊥
     later f e = omega arith
 
 -- ---- the digits
@@ -121,7 +123,7 @@ word-right = refl
 word-number : (f p : ℕ) → f < 16 → f % 2 ≡ 0 → p ≡ 256 * f → sparesBefore p ≡ wordFrom f
 word-number f p h e q =
     let t : eqb (getD table (wordFrom f) 0) (256 * f) && ltb (wordFrom f) 68 ≡ true = rw (eq-eqb (f % 2) 0 e) at (all-at 16 _ word-right f h) in
-    let w = both (eqb (getD table (wordFrom f) 0) (256 * f)) (ltb (wordFrom f) 68) t in
+    let w = and-both (eqb (getD table (wordFrom f) 0) (256 * f)) (ltb (wordFrom f) 68) t in
     numbered (wordFrom f) p (ltb-true (wordFrom f) 68 (w .1)) (eqb-true (getD table (wordFrom f) 0) (256 * f) (w .0) ∙ sym q)
 
 other-number : (m q : ℕ) → otherTest m q ≡ true → m < 7 → (f p : ℕ) → f < 16 → (f % 2 ≡ 0 → ⊥) → p ≡ 256 * f + q → sparesBefore p ≡ 4 * f + 1 + m

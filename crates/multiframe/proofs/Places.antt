@@ -44,12 +44,12 @@ two-ways P false a b x y = y
 
 kinds-small : (f b : ℕ) → EachSmall (kindsOf f b)
 kinds-small f b =
-    let o : 0 < 2 = lit< tt in
-    let i : 1 < 2 = lit< tt in
     two-ways EachSmall (eqb b 0) (cond (eqb (f % 2) 0) withWord withoutWord) (cond (eqb b 16) (cond (eqb f 0) multiframeByte (signallingByte f)) (replicate 8 (Channel (channelOf b))))
-    (two-ways EachSmall (eqb (f % 2) 0) withWord withoutWord (tt, (o, (o, (i, (i, (o, (i, (i, tt)))))))) (tt, (i, (tt, (tt, (tt, (tt, (tt, (tt, tt)))))))))
+    (two-ways EachSmall (eqb (f % 2) 0) withWord withoutWord
+    (tt, (omega arith, (omega arith, (omega arith, (omega arith, (omega arith, (omega arith, (omega arith, tt)))))))) (tt, (omega arith, (tt, (tt, (tt, (tt, (tt, (tt, tt)))))))))
     (two-ways EachSmall (eqb b 16) (cond (eqb f 0) multiframeByte (signallingByte f)) (replicate 8 (Channel (channelOf b)))
-    (two-ways EachSmall (eqb f 0) multiframeByte (signallingByte f) (o, (o, (o, (o, (tt, (tt, (tt, (tt, tt)))))))) (tt, (tt, (tt, (tt, (tt, (tt, (tt, (tt, tt)))))))))
+    (two-ways EachSmall (eqb f 0) multiframeByte (signallingByte f)
+    (omega arith, (omega arith, (omega arith, (omega arith, (tt, (tt, (tt, (tt, tt)))))))) (tt, (tt, (tt, (tt, (tt, (tt, (tt, (tt, tt)))))))))
     (tt, (tt, (tt, (tt, (tt, (tt, (tt, (tt, tt)))))))))
 
 kind-small : (p : ℕ) → Small (kindAt p)

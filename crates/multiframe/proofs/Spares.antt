@@ -14,7 +14,7 @@ use borrow.Author.Tests.{lt-ltb, le-ltb}
 use Rattle.digits.specs.Digits.{digitsOf, Bytes}
 use Rattle.digits.proofs.Laws.{digit-at, put-same, put-other}
 use Rattle.multiframe.specs.Steps.{spareTable}
-use Rattle.multiframe.proofs.Columns.{lt-of-ne}
+use Rattle.digits.proofs.Below.{lt-of-ne}
 use Rattle.multiframe.specs.Multiframe.{kindAt, isSpare, sparesBefore}
 
 -- the places below n that are spare

@@ -1,49 +1,22 @@
 -- What each place is, told with where its byte comes from: bytes 0 and 16 of the sixteen frames by one computed test each, all others at once.
-use mathlib.Core.Path.{_≡_, refl, sym, ap, subst, _∙_}
+use mathlib.Core.Path.{_≡_, refl, subst, _∙_}
 use mathlib.Core.Logic.{_⊎_, inl, inr}
-use mathlib.Core.Bool.{Bool, cond, true, false, _&&_}
-use mathlib.Core.List.{List}
-use Prim.Native.Nat.{ℕ, zero, suc, _+_, _-_, _*_, _/_, _%_, _^_, _≤_, _<_}
+use mathlib.Core.Bool.{Bool, cond, true, false}
+use Prim.Native.Nat.{ℕ, zero, suc, _+_, _-_, _*_, _/_, _%_, _≤_, _<_}
 use native.Mathlib.Omega.{arith}
 use native.Mathlib.Decide.{decLt, ℕ-discrete}
 use lib.Dec.{eqb}
 use lib.ListN.{getD, getD-replicate}
-use borrow.Author.Tests.{ne-eqb, eqb-true}
+use borrow.Author.Tests.{eq-eqb, ne-eqb, eqb-true}
+use Rattle.digits.proofs.Below.{all, all-at}
 use Rattle.multiframe.specs.declared.SpareDigit.{SpareDigit}
 use Rattle.multiframe.specs.declared.Kind.{Kind}
 use Rattle.multiframe.specs.declared.Kind.the-variants.{Fixed, Spare, Signalling, Channel}
-use Rattle.multiframe.specs.Multiframe.{kindAt, channelOf, signallingFrom}
-
--- ---- a test of every number below n
-
-unfoldable pub all : ℕ → (ℕ → Bool) → Bool
-all zero t = true
-all (suc n) t = t n && all n t
+use Rattle.multiframe.specs.Multiframe.{kindAt, withWord, withoutWord, multiframeByte, signallingByte, channelOf, signallingFrom}
 
 -- no is not yes
 pub no-truth : false ≡ true → ⊥
 no-truth e = subst (λ (t : Bool). cond t ⊥ (Unit {0})) e tt
-
-pub both : (a b : Bool) → (a && b) ≡ true → (a ≡ true) × (b ≡ true)
-both true b e = (refl, e)
-both false b e = absurd (no-truth e)
-
-pub all-at : (n : ℕ) (t : ℕ → Bool) → all n t ≡ true → (i : ℕ) → i < n → t i ≡ true
-unfolding all
-all-at zero t e i h = absurd (nothing h)
-  where
-    nothing : i < 0 → ⊥
-    nothing h = omega arith
-all-at (suc n) t e i h =
-    let w = both (t n) (all n t) e in
-    elim (ℕ-discrete i n) [
-      | yes it ↦ rw it (w .0)
-      | no far ↦
-          elim (decLt i n) [
-            | yes l ↦ all-at n t (w .1) i l
-            | no l ↦ absurd (far (omega arith))
-          ]
-    ]
 
 -- ---- what a place is, and where its byte comes from
 
@@ -104,6 +77,24 @@ pub signalling-there : (i : ℕ) → i < 120 → Signalled i (256 * (i / 8 + 1) 
 signalling-there i h =
     let p = 256 * (i / 8 + 1) + 128 + i % 8 in
     from-signalling p i (omega arith) (kindAt p) refl (all-at 120 _ signalling-right i h)
+
+-- the tables by the byte of the frame: byte 0 of a frame with the word and of one without it, byte 16 of frame 0 and of any other
+module _ (p : ℕ) where
+  pub kind-word : p / 8 % 32 ≡ 0 → p / 256 % 2 ≡ 0 → kindAt p ≡ getD withWord (p % 8) (Fixed 0)
+  unfolding kindAt
+  kind-word b f = rw (eq-eqb (p / 8 % 32) 0 b, eq-eqb (p / 256 % 2) 0 f) refl
+
+  pub kind-other : p / 8 % 32 ≡ 0 → (p / 256 % 2 ≡ 0 → ⊥) → kindAt p ≡ getD withoutWord (p % 8) (Fixed 0)
+  unfolding kindAt
+  kind-other b f = rw (eq-eqb (p / 8 % 32) 0 b, ne-eqb (p / 256 % 2) 0 f) refl
+
+  pub kind-first : p / 8 % 32 ≡ 16 → p / 256 ≡ 0 → kindAt p ≡ getD multiframeByte (p % 8) (Fixed 0)
+  unfolding kindAt
+  kind-first b f = rw (ne-eqb (p / 8 % 32) 0 (λ e. omega arith), eq-eqb (p / 8 % 32) 16 b, eq-eqb (p / 256) 0 f) refl
+
+  pub kind-signalling : p / 8 % 32 ≡ 16 → (p / 256 ≡ 0 → ⊥) → kindAt p ≡ getD (signallingByte (p / 256)) (p % 8) (Fixed 0)
+  unfolding kindAt
+  kind-signalling b f = rw (ne-eqb (p / 8 % 32) 0 (λ e. omega arith), eq-eqb (p / 8 % 32) 16 b, ne-eqb (p / 256) 0 f) refl
 
 -- every other byte is a channel's
 pub kind-channel : (p : ℕ) → 0 < p / 8 % 16 → kindAt p ≡ Channel (channelOf (p / 8 % 32))

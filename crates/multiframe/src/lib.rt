@@ -1,6 +1,8 @@
 // The multiframe of 2048 kbit/s, request 3 of document 02: built from thirty channels, their signalling and the spare digits, and taken apart.
 // specs/Multiframe.antt says what each of its 4096 digits is; specs/Calls.antt, what the two calls answer and leave. Channels and signalling
 // are whole bytes on both sides and move as such; spare digits go through `digits`.
+pub mod kinds;
+
 use digits::digit_at;
 ghost use mathlib.Core.Path.{_≡_};
 ghost use mathlib.Core.Bool.{cond};

@@ -29,7 +29,7 @@ returns c =
     let l = c .before .before .before .loop in
     let s = c .before .before .before .before .args .signalling .now in
     let n : 16 - l .c ≡ suc (15 - l .c) = omega arith in
-    let here = stops s (l .c) (l .inv .0) (omega arith) (omega (arith, c .before .shared-slice-known .given (l .c - 1))) (15 - l .c) (c .if1 .taken) in
+    let here = stops s (l .c) (l .inv .0) (omega arith) (omega (arith, c .before .shared-slice-known .given (l .c - 1))) (15 - l .c) (omega (arith, c .if1 .taken)) in
     sym here ∙ rw n at (l .inv .3)
 
 add-c : tie.Need-add-c Inv-loop μ-loop
@@ -44,7 +44,7 @@ loop-again c =
     let s = c .before .before .before .before .args .signalling .now in
     let n : 16 - l .c ≡ suc (15 - l .c) = omega arith in
     let m : 16 - (l .c + 1) ≡ 15 - l .c = omega arith in
-    let on = goes-on s (l .c) (l .inv .0) (omega arith) (omega (arith, c .before .shared-slice-known .given (l .c - 1))) (15 - l .c) (c .if1 .left) in
+    let on = goes-on s (l .c) (l .inv .0) (omega arith) (omega (arith, c .before .shared-slice-known .given (l .c - 1))) (15 - l .c) (omega (arith, c .if1 .left)) in
     (omega arith, omega arith, l .inv .2, rw m (sym on ∙ rw n at (l .inv .3)))
 
 returns-2 : tie.Need-returns-2 Inv-loop μ-loop

@@ -30,8 +30,8 @@ returns c =
     let two = first .last .0 in
     let firsts : ColumnPut _ 0 (firstBytes (digitsOf (a .spare .now))) 16 two = rw (c10 .first-bytes .ensures) at (first .ensures) in
     let l : length s ≡ 15 = omega arith in
-    let done : ColumnPut (set two 16 (byte .result)) 48 s 15 _ = rw l at (c .before .before .put-column2 .ensures) in
-    all-laid (a .channels .now) s (a .spare .now) _ two _ (byte .result) (omega arith) (c10 .before .before .before .put-channels .ensures) firsts (byte .ensures) done
+    let done : ColumnPut (set two 16 (byte .result)) _ s 15 _ = rw l at (c .before .before .put-column2 .ensures) in
+    all-laid (a .channels .now) s (a .spare .now) _ two _ (byte .result) _ (omega arith) (c10 .before .before .before .put-channels .ensures) firsts (byte .ensures) done (omega arith)
 
 pub lay-spec : {M : Type 1} → statement M
 lay-spec =

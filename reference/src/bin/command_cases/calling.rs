@@ -2,10 +2,23 @@
 
 use crate::case::{words, Case};
 
-const COMMANDS: [&str; 8] = ["demo", "frame", "send", "take", "find", "keep", "show", "help"];
+const COMMANDS: [&str; 12] = [
+    "demo",
+    "frame",
+    "send",
+    "take",
+    "find",
+    "keep",
+    "show",
+    "multiframe",
+    "build",
+    "apart",
+    "hunt",
+    "help",
+];
 
 /// Wrong calls. The files that they name are there.
-const WRONG: [&str; 31] = [
+const WRONG: [&str; 44] = [
     "",
     "bogus",
     "sen 2 notes tributaries out",
@@ -37,6 +50,19 @@ const WRONG: [&str; 31] = [
     "keep 2 line out label more",
     "show",
     "show line out more",
+    "build",
+    "build notes tributaries line",
+    "build notes tributaries line out more",
+    "apart",
+    "apart line out more",
+    "apart line out more yet-more still-more",
+    "apart line out out more",
+    "apart line out more out",
+    "apart line more out out",
+    "hunt",
+    "hunt line more",
+    "multiframe picture.txt",
+    "multiframe picture.svg more",
 ];
 
 pub fn cases() -> Vec<Case> {

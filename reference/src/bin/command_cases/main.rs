@@ -19,8 +19,10 @@
 mod calling;
 mod case;
 mod finding;
+mod hunting;
 mod inputs;
 mod keeping;
+mod multiframes;
 mod pictures;
 mod sending;
 mod showing;
@@ -49,6 +51,8 @@ fn main() -> io::Result<()> {
     cases.extend(finding::cases());
     cases.extend(keeping::cases());
     cases.extend(showing::cases());
+    cases.extend(multiframes::cases());
+    cases.extend(hunting::cases());
     cases.extend(trips::cases());
     cases.extend(calling::cases());
     let mut list = String::new();
