@@ -1,0 +1,6 @@
+pub mod Listing
+pub mod Walking
+pub mod Files
+pub mod Picked
+pub mod Lists
+pub mod Answers

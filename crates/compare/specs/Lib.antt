@@ -1,0 +1,3 @@
+pub mod Compare
+pub mod Counting
+pub mod Promises
