@@ -4,3 +4,4 @@ pub mod Files
 pub mod Picked
 pub mod Lists
 pub mod Answers
+pub mod Growing

@@ -1,6 +1,7 @@
 // Where two recordings differ (request 6): two captures are read, held against each other and compared. specs/Compare.antt says what the comparison
 // answers and what it lists.
 pub mod counting;
+pub mod stretches;
 
 use captures::Part;
 use captures::Reading;
