@@ -2,10 +2,11 @@
 
 use crate::case::{words, Case};
 
-const COMMANDS: [&str; 8] = ["demo", "frame", "send", "take", "find", "keep", "show", "help"];
+const COMMANDS: [&str; 9] =
+    ["demo", "frame", "send", "take", "find", "keep", "show", "compare", "help"];
 
 /// Wrong calls. The files that they name are there.
-const WRONG: [&str; 31] = [
+const WRONG: [&str; 35] = [
     "",
     "bogus",
     "sen 2 notes tributaries out",
@@ -37,6 +38,10 @@ const WRONG: [&str; 31] = [
     "keep 2 line out label more",
     "show",
     "show line out more",
+    "compare",
+    "compare line",
+    "compare line line picture.txt",
+    "compare line line picture.svg more",
 ];
 
 pub fn cases() -> Vec<Case> {

@@ -18,6 +18,7 @@
 
 mod calling;
 mod case;
+mod comparing;
 mod finding;
 mod inputs;
 mod keeping;
@@ -49,6 +50,7 @@ fn main() -> io::Result<()> {
     cases.extend(finding::cases());
     cases.extend(keeping::cases());
     cases.extend(showing::cases());
+    cases.extend(comparing::cases());
     cases.extend(trips::cases());
     cases.extend(calling::cases());
     let mut list = String::new();
