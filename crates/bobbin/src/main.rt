@@ -2,6 +2,7 @@
 // `refused` or `failed`, which ./spritbobbin turns into an exit status.
 mod demo;
 
+use comparing::compared;
 use console::help;
 use console::words;
 use console::words::NO_NOTE;
@@ -41,6 +42,8 @@ const KEEP: u8 = 4;
 
 const SHOW: u8 = 5;
 
+const COMPARE: u8 = 6;
+
 // Beside NO_NOTE, where there is none: a word that should be a note and is none.
 const WRONG_NOTE: u16 = 257;
 
@@ -65,7 +68,7 @@ fn command(word: &[u8], last: usize) {
         return;
     }
     let which = which_command(word);
-    if SHOW < which {
+    if COMPARE < which {
         help::wrong_call(b"there is no such command, or it is missing.");
         return;
     }
@@ -91,7 +94,10 @@ fn which_command(word: &[u8]) -> u8 {
     if check::same(word, b"show") {
         return SHOW;
     }
-    SHOW + 1
+    if check::same(word, b"compare") {
+        return COMPARE;
+    }
+    COMPARE + 1
 }
 
 // Whether a command may have a last word of this number.
@@ -102,6 +108,7 @@ fn fits(which: u8, last: usize) -> bool {
         TAKE => last == take::TRIBUTARIES || last == opened::TRIBUTARIES,
         FIND => last == find::STREAM || last == find::PREFIX,
         KEEP => last == keep::CAPTURE || last == keep::LABEL,
+        COMPARE => last == compared::OTHER || last == compared::PICTURE,
         _ => last == opened::CAPTURE || last == opened::LINE,
     }
 }
@@ -117,6 +124,9 @@ fn wrong_words(which: u8) {
             help::wrong_call(b"find takes a level and a file, and a prefix where files are wanted.")
         }
         KEEP => help::wrong_call(b"keep takes a level and two files, and a label where wanted."),
+        COMPARE => help::wrong_call(
+            b"compare takes two captures, and a file for the picture where wanted.",
+        ),
         _ => help::wrong_call(b"show takes a capture, and a file where its line is wanted."),
     }
 }
@@ -137,6 +147,10 @@ fn counted(which: u8, last: usize) {
         shown(last);
         return;
     }
+    if which == COMPARE {
+        held(last);
+        return;
+    }
     levelled(which, last);
 }
 
@@ -146,6 +160,21 @@ fn shown(last: usize) {
         return;
     }
     opened::run(opened::SHOWN);
+}
+
+// The picture's file is known by its name.
+fn held(last: usize) {
+    if last != compared::PICTURE {
+        compared::run(false);
+        return;
+    }
+    let mut word = io::buffer();
+    let n = os::arg(compared::PICTURE, &mut word);
+    if !words::is_svg(&word[..n]) {
+        help::wrong_call(b"the picture's file must end in .svg.");
+        return;
+    }
+    compared::run(true);
 }
 
 fn levelled(which: u8, last: usize) {

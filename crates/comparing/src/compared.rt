@@ -1,8 +1,10 @@
 // compare ONE OTHER [PICTURE.svg]: where two captures differ. The library's comparison answers, and says which file is at fault where it refuses.
 use crate::svg;
 use crate::text;
+use captures::Reading;
 use compare::Compared;
 use console::files;
+use console::page::Page;
 use console::say;
 use keeping::capture;
 use keeping::capture::Opened;
@@ -11,6 +13,7 @@ use levels::table;
 use levels::table::Level;
 use levels::table::Row;
 use recordings::sizes;
+ghost use Prim.Native.Nat.{_≤_};
 ghost use Rattle.levels.specs.Table.{Shared};
 
 // The words of the call by number.
@@ -53,7 +56,8 @@ fn judged(a: Opened, b: Opened, one: &[u8], other: &[u8], drawn: bool) {
 }
 
 fn refused(found: Compared, a: Opened, b: Opened, one: &[u8], other: &[u8]) {
-    match found.file {
+    let file = found.file;
+    match file {
         1 => refusals::say(ONE, a, one),
         2 => refusals::say(OTHER, b, other),
         _ => unfit(found.refusal, a, b),
@@ -110,24 +114,40 @@ fn shown(
     requires { ⌜ Shared row ⌝ }
 {
     let r = a.reading;
-    let line = r.line;
-    let frames = sizes::least(line.bytes / row.bytes, 64);
+    let s = b.reading;
+    let frames = sizes::least(r.line.bytes / row.bytes, 64);
     if !drawn {
         text::all(row, r.level, frames, found, places);
         return;
     }
     let page = files::page(PICTURE);
-    if !page.whole {
-        return;
+    if page.whole {
+        text::all(row, r.level, frames, found, places);
+        let last = pictured(page, row, r, s, one, other, frames, found);
+        files::finish(PICTURE, last.fd, last.whole);
     }
-    text::all(row, r.level, frames, found, places);
-    let s = b.reading;
+}
+
+// The lines where they stand in the files.
+fn pictured(
+    page: Page,
+    row: Row,
+    r: Reading,
+    s: Reading,
+    one: &[u8],
+    other: &[u8],
+    frames: usize,
+    found: Compared,
+) -> Page
+    requires { ⌜ Shared row × (frames ≤ 64) ⌝ }
+{
+    let line = r.line;
     let far = s.line;
     let end = capture::end_of(line, one);
     let start = sizes::least(line.start, end);
     let far_end = capture::end_of(far, other);
     let far_start = sizes::least(far.start, far_end);
-    let last = svg::all(
+    svg::all(
         page,
         row,
         r.level,
@@ -135,6 +155,5 @@ fn shown(
         found,
         &one[start..end],
         &other[far_start..far_end],
-    );
-    files::finish(PICTURE, last.fd, last.whole);
+    )
 }

@@ -6,45 +6,46 @@ use console::page::Page;
 use levels::table::Row;
 use recordings::sizes;
 use workbench::picture;
-ghost use Prim.Native.Nat.{_+_, _*_, _<_, _≤_};
+ghost use Prim.Native.Nat.{_<_, _≤_};
 ghost use Rattle.levels.specs.Table.{Shared};
 
-// The left edge of the places, the upper edge of the first frame, and the picture's width.
+// The left edge of the places, and the upper edge of the first frame.
 const LEFT: usize = 60;
 
 const TOP: usize = 132;
 
-const WIDTH: usize = 1064;
-
-// How wide a place is, and how high a set, in the units of the picture.
+// How wide a place is, and how high a set and a frame with the gap after it, in the units of the picture.
 struct Cell {
     wide: usize,
     high: usize,
+    frame: usize,
+}
+
+// A product of numbers of a picture, none of which is over 4096.
+fn times(a: usize, b: usize) -> usize
+    ensures { λ r. ⌜ r ≤ 16777216 ⌝ }
+{
+    sizes::least(a, 4096) * sizes::least(b, 4096)
 }
 
 // A picture of few frames is drawn larger.
-fn cell_of(row: Row, frames: usize) -> Cell
-    requires { ⌜ Shared row × (frames ≤ 64) ⌝ }
-    ensures { λ c. ⌜ (c .wide ≤ 4) × (c .high ≤ 8) ⌝ }
-{
+fn cell_of(row: Row, frames: usize) -> Cell {
+    let high = high_of(times(frames, row.sets));
     Cell {
         wide: wide_of(row.set),
-        high: high_of(frames * sizes::least(row.sets, 16)),
+        high,
+        frame: times(high, row.sets) + 4,
     }
 }
 
-fn wide_of(set: usize) -> usize
-    ensures { λ r. ⌜ r ≤ 4 ⌝ }
-{
+fn wide_of(set: usize) -> usize {
     if set < 240 {
         return 4;
     }
     2
 }
 
-fn high_of(sets: usize) -> usize
-    ensures { λ r. ⌜ r ≤ 8 ⌝ }
-{
+fn high_of(sets: usize) -> usize {
     if sets <= 40 {
         return 8;
     }
@@ -52,14 +53,6 @@ fn high_of(sets: usize) -> usize
         return 4;
     }
     2
-}
-
-// The height of a frame's block, with the gap after it.
-fn block(row: Row, high: usize) -> usize
-    requires { ⌜ Shared row × (high ≤ 8) ⌝ }
-    ensures { λ r. ⌜ r ≤ 200 ⌝ }
-{
-    high * sizes::least(row.sets, 16) + 4
 }
 
 pub fn all(
@@ -74,30 +67,36 @@ pub fn all(
     requires { ⌜ Shared row × (frames ≤ 64) ⌝ }
 {
     let cell = cell_of(row, frames);
-    let begun = head(page, row, level, frames, found.all, cell.high);
+    let begun = head(page, level, frames, found.all, cell);
     let s = found.sums;
     let named = legend(begun, s);
-    let ruled = ruler(shape(named, row, cell), row, cell);
+    let ruled = ruler(shape(named, row, cell), row.set, cell.wide);
     blocks(ruled, row, frames, cell, one, other).put(b"</svg>\n")
 }
 
-fn head(page: Page, row: Row, level: u64, frames: usize, all: usize, high: usize) -> Page
-    requires { ⌜ Shared row × (frames ≤ 64) × (high ≤ 8) ⌝ }
-{
-    let height = TOP + 16 + frames * block(row, high);
-    page.put(b"<svg xmlns=\"http://www.w3.org/2000/svg\" viewBox=\"0 0 1064 ")
+fn head(page: Page, level: u64, frames: usize, all: usize, cell: Cell) -> Page {
+    let height = TOP + 16 + times(frames, cell.frame);
+    let begun = page.put(b"<svg xmlns=\"http://www.w3.org/2000/svg\" viewBox=\"0 0 1064 ")
         .number(height)
         .put(b"\" width=\"1064\" height=\"")
         .number(height)
-        .put(b"\" font-family=\"sans-serif\" font-size=\"13\">\n")
-        .put(
+        .put(b"\" font-family=\"sans-serif\" font-size=\"13\">\n");
+    title(style(begun, cell.high), level, frames, all)
+}
+
+// Colours that readers who confuse some still tell apart.
+fn style(page: Page, high: usize) -> Page {
+    page.put(
             b"<style>.k0{color:#000}.k4{color:#d55e00}.k5,.k6,.k7{color:#e69f00}.k1{color:#cc3399}",
         )
         .put(b".k2{color:#009e73}.k3{color:#0072b2}path{stroke:currentColor;stroke-width:")
         .number(high)
         .put(b"}rect{fill:currentColor}.p{fill:#555;font-size:10px}.e{text-anchor:end}</style>\n")
         .put(b"<rect width=\"100%\" height=\"100%\" style=\"fill:#fff\"/>\n")
-        .put(b"<text x=\"12\" y=\"26\" font-size=\"16\">Level ")
+}
+
+fn title(page: Page, level: u64, frames: usize, all: usize) -> Page {
+    page.put(b"<text x=\"12\" y=\"26\" font-size=\"16\">Level ")
         .number(level as usize)
         .put(b": where two captures of ")
         .number(frames)
@@ -107,7 +106,7 @@ fn head(page: Page, row: Row, level: u64, frames: usize, all: usize, high: usize
         .put(
             b"A block to a frame, its sets one under the other, a set's places from left to right. ",
         )
-        .put(b"Shaded: the heads of the sets. Digits that are equal are left white.</text>\n")
+        .put(b"Shaded: the heads of the sets. Digits that are equal are not drawn.</text>\n")
 }
 
 // The kinds in the order of the sums, each with its own.
@@ -158,25 +157,20 @@ fn entry(page: Page, x: usize, kind: &[u8], name: &[u8], sum: usize) -> Page
 }
 
 // A frame without digits: its sets in a light grey, their heads in a darker one.
-fn shape(page: Page, row: Row, cell: Cell) -> Page
-    requires { ⌜ Shared row × (cell .wide ≤ 4) × (cell .high ≤ 8) ⌝ }
-{
-    let sets = sizes::least(row.sets, 16);
-    let after = sizes::minus(sets, 1);
-    let set = sizes::least(row.set, 1000);
-    let first = sizes::least(row.first, 16);
-    let middle = sizes::least(row.middle, 16);
-    let last = sizes::least(row.last, 16);
-    let begun = page.put(b"<defs><g id=\"f\" color=\"#d4d4d4\">");
+fn shape(page: Page, row: Row, cell: Cell) -> Page {
+    let high = cell.high;
+    let after = sizes::minus(times(row.sets, high), high);
+    let begun = page.put(b"<defs><g id=\"f\"><g color=\"#f3f3f3\">");
     let whole = shade(
-        begun.put(b"<g color=\"#f3f3f3\">"),
+        begun,
         0,
-        set * cell.wide,
-        sets * cell.high,
+        times(row.set, cell.wide),
+        sizes::plus(after, high),
     );
-    let word = shade(whole.put(b"</g>"), 0, first * cell.wide, cell.high);
-    let control = shade(word, cell.high, middle * cell.wide, after * cell.high);
-    shade(control, after * cell.high, last * cell.wide, cell.high).put(b"</g></defs>\n")
+    let heads = whole.put(b"</g><g color=\"#d0d0d0\">");
+    let first = shade(heads, 0, times(row.first, cell.wide), high);
+    let middle = shade(first, high, times(row.middle, cell.wide), after);
+    shade(middle, after, times(row.last, cell.wide), high).put(b"</g></g></defs>\n")
 }
 
 fn shade(page: Page, y: usize, width: usize, height: usize) -> Page {
@@ -190,98 +184,102 @@ fn shade(page: Page, y: usize, width: usize, height: usize) -> Page {
 }
 
 // The places of a set, fifty at a time.
-fn ruler(page: Page, row: Row, cell: Cell) -> Page
-    requires { ⌜ Shared row × (cell .wide ≤ 4) ⌝ }
-{
-    let end = sizes::least(row.set, 1000);
+fn ruler(page: Page, set: usize, wide: usize) -> Page {
     let mut drawn = page.put(
         b"<text class=\"p e\" x=\"56\" y=\"106\">place</text><text class=\"p e\" x=\"56\" y=\"124\">frame</text>\n",
     );
-    let mut p: usize = 0;
-    while p < end {
-        drawn = tick(drawn, LEFT + p * cell.wide, p);
-        p += 50;
+    let mut k: usize = 0;
+    while k < 10 {
+        drawn = tick(drawn, set, wide, times(k, 50));
+        k += 1;
     }
     drawn
 }
 
-fn tick(page: Page, x: usize, p: usize) -> Page {
+fn tick(page: Page, set: usize, wide: usize, p: usize) -> Page {
+    if set <= p {
+        return page;
+    }
+    let x = sizes::plus(LEFT, times(p, wide));
     page.put(b"<text class=\"p\" x=\"")
         .number(x)
         .put(b"\" y=\"106\">")
         .number(p)
-        .put(b"</text><path class=\"p\" style=\"stroke:#555;stroke-width:1\" d=\"M")
+        .put(b"</text><path style=\"stroke:#555;stroke-width:1\" d=\"M")
         .number(x)
         .put(b" 110v8\"/>\n")
 }
 
 fn blocks(page: Page, row: Row, frames: usize, cell: Cell, one: &[u8], other: &[u8]) -> Page
-    requires { ⌜ Shared row × (frames ≤ 64) × (cell .wide ≤ 4) × (cell .high ≤ 8) ⌝ }
+    requires { ⌜ Shared row × (frames ≤ 64) ⌝ }
 {
-    let pitch = block(row, cell.high);
     let mut drawn = page;
     let mut f: usize = 0;
     while f < frames {
-        drawn = named(drawn, f, TOP + f * pitch);
-        drawn = frame(drawn, row, cell, one, other, f).put(b"</g>\n");
+        drawn = one_frame(drawn, row, cell, one, other, f);
         f += 1;
     }
     drawn
 }
 
-// A frame's number and its empty shape; what differs is drawn in its own group.
-fn named(page: Page, f: usize, y: usize) -> Page
-    requires { ⌜ y < 100000 ⌝ }
+// A frame's number, its empty shape, and what differs, in a group of its own.
+fn one_frame(page: Page, row: Row, cell: Cell, one: &[u8], other: &[u8], f: usize) -> Page
+    requires { ⌜ Shared row × (f < 64) ⌝ }
 {
+    let begun = named(page, f, sizes::plus(TOP, times(f, cell.frame)));
+    let before = 8 * sizes::frame_bytes(row, f);
+    runs(begun, row, cell, one, other, before).put(b"</g>\n")
+}
+
+fn named(page: Page, f: usize, y: usize) -> Page {
     page.put(b"<text class=\"p e\" x=\"56\" y=\"")
-        .number(y + 8)
+        .number(sizes::plus(y, 8))
         .put(b"\">")
         .number(f)
         .put(b"</text><use href=\"#f\" x=\"60\" y=\"")
         .number(y)
         .put(b"\"/><g transform=\"translate(60 ")
         .number(y)
-        .put(b")\" fill=\"none\">\n")
+        .put(b")\">\n")
 }
 
-// The runs of places of one kind of frame f.
-fn frame(page: Page, row: Row, cell: Cell, one: &[u8], other: &[u8], f: usize) -> Page
-    requires { ⌜ Shared row × (f < 64) × (cell .wide ≤ 4) × (cell .high ≤ 8) ⌝ }
+// The runs of places of one kind of the frame that begins at this place of the line.
+fn runs(page: Page, row: Row, cell: Cell, one: &[u8], other: &[u8], before: usize) -> Page
+    requires { ⌜ Shared row × (before < 300000) ⌝ }
 {
     let mut drawn = page;
     let mut p: usize = 0;
     while p < row.digits {
         let end = picture::run_end(row, p);
-        drawn = one_run(drawn, row, cell, one, other, f * row.digits, p, end);
+        let kind = picture::kind_number_at(row, p);
+        drawn = one_run(drawn, row, cell, kind, one, other, before + p, before + end);
         p = end;
     }
     drawn
 }
 
-// A run is drawn as one path where a digit of it differs. `before` is the place of the line at which the frame begins.
+// A run is drawn as one path where a digit of it differs.
 fn one_run(
     page: Page,
     row: Row,
     cell: Cell,
+    kind: u8,
     one: &[u8],
     other: &[u8],
-    before: usize,
-    p: usize,
+    from: usize,
     end: usize,
 ) -> Page
-    requires { ⌜
-        Shared row × (before < 300000) × (p < end) × (end ≤ row .digits) × (cell .wide ≤ 4) × (cell .high ≤ 8)
-        ⌝ }
+    requires { ⌜ Shared row × (from < end) ⌝ }
 {
-    let a = before + p;
-    let b = before + end;
-    let differs = stretches::differ_at(one, other, a);
-    if !differs && stretches::stretch_end(one, other, a, b) == b {
+    let differs = stretches::differ_at(one, other, from);
+    let last = stretches::stretch_end(one, other, from, end);
+    if !differs && last == end {
         return page;
     }
-    let kind = picture::kind_number_at(row, p) as usize;
-    let begun = page.put(b"<path class=\"k").number(kind).put(b"\" d=\"");
-    digits_of(begun, row, cell, one, other, a, b).put(b"\"/>\n")
+    let begun = page.put(b"<path class=\"k")
+        .number(kind as usize)
+        .put(b"\" d=\"");
+    digits_of(begun, row, cell, one, other, from, end).put(b"\"/>\n")
 }
 
 // The stretches of differing digits from a place of the line up to another.
@@ -294,7 +292,7 @@ fn digits_of(
     from: usize,
     end: usize,
 ) -> Page
-    requires { ⌜ Shared row × (from < end) × (end < 400000) × (cell .wide ≤ 4) × (cell .high ≤ 8) ⌝ }
+    requires { ⌜ Shared row × (from < end) ⌝ }
 {
     let mut drawn = page;
     let mut p = from;
@@ -309,16 +307,17 @@ fn digits_of(
 
 // A stretch that differs is a stroke along the middle of its set.
 fn stretch(page: Page, row: Row, cell: Cell, p: usize, next: usize, differs: bool) -> Page
-    requires { ⌜ Shared row × (p < next) × (next < 400000) × (cell .wide ≤ 4) × (cell .high ≤ 8) ⌝ }
+    requires { ⌜ Shared row ⌝ }
 {
     if !differs {
         return page;
     }
     let place = p % row.digits;
+    let y = sizes::plus(times(place / row.set, cell.high), cell.high / 2);
     page.put(b"M")
-        .number(place % row.set * cell.wide)
+        .number(times(place % row.set, cell.wide))
         .put(b" ")
-        .number(place / row.set * cell.high + cell.high / 2)
+        .number(y)
         .put(b"h")
-        .number((next - p) * cell.wide)
+        .number(times(sizes::minus(next, p), cell.wide))
 }

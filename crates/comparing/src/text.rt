@@ -48,18 +48,23 @@ fn three(control: usize, justification: usize, ordinary: usize) {
 fn list(row: Row, all: usize, listed: usize, places: &[u64; 128])
     requires { ⌜ Shared row ⌝ }
 {
-    if listed < all {
-        say::line(b"\nthe first ", listed);
-    } else {
-        say::text(b"\n");
-    }
-    say::text(b"  frame  place  which is\n");
+    first_words(listed < all, listed);
     let n = sizes::least(listed, 64);
     let mut i: usize = 0;
     while i < n {
         one_place(row, places[2 * i], places[2 * i + 1]);
         i += 1;
     }
+}
+
+// Where not all are listed it is said.
+fn first_words(more: bool, listed: usize) {
+    if more {
+        say::text(b"\nThe first ");
+        say::number(listed);
+        say::text(b":");
+    }
+    say::text(b"\n  frame  place  which is\n");
 }
 
 fn one_place(row: Row, frame: u64, place: u64)
