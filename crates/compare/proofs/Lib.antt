@@ -5,3 +5,4 @@ pub mod Picked
 pub mod Lists
 pub mod Answers
 pub mod Growing
+pub mod StretchAnswers
