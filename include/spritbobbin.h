@@ -1,6 +1,6 @@
 /*
  * spritbobbin.h: frames of 8448, 34368 and 139264 kbit/s (G.742, G.751), built, taken apart,
- * found in a stream of digits, and kept in files.
+ * found in a stream of digits, kept in files and compared.
  *
  * Link with libspritbobbin.a, which is for x86-64 Linux and asks for memcpy, memset and the like
  * and nothing else.
@@ -78,9 +78,10 @@
  *
  * Where several apply, the first in this order is returned: 1, 2, 3, 4, 5 for the two multiplex
  * calls, 6, 2, 7 for a piece, 1, 2, 9, 4 for writing a capture, 9, 1, 2 for reading one, 2, 11
- * for building a multiframe. A refused call writes nothing that it was lent, but the answer: all
- * its numbers are 0, except the named frame under 5, the named byte under 9 and the named channel
- * under 11. (A fresh state is an answer too.)
+ * for building a multiframe; for a comparison see spritbobbin_compare. A refused call writes
+ * nothing that it was lent, but the answer: all its numbers are 0, except the named frame under 5,
+ * the named byte under 9, the named channel under 11 and the file at fault of a comparison. (A
+ * fresh state and the places of a comparison are answers too.)
  *
  *
  * EXAMPLE
@@ -199,6 +200,22 @@ enum {
     SPRITBOBBIN_NATIONAL_2 = 64,   /* level 4 only */
     SPRITBOBBIN_NATIONAL_3 = 128   /* level 4 only */
 };
+
+/* What stands where in the answer of a comparison: the sums, by the kind of place, tributary being
+   1 to 4. */
+enum {
+    SPRITBOBBIN_FAULTY_FILE = 0,       /* 1 or 2, or 0 where the two do not fit each other */
+    SPRITBOBBIN_FAULTY_BYTE = 1,       /* the byte that refusal 9 names */
+    SPRITBOBBIN_WORD_DIFFERS = 2,
+    SPRITBOBBIN_REMOTE_ALARM_DIFFERS = 3,
+    SPRITBOBBIN_NATIONAL_DIFFERS = 4,
+    SPRITBOBBIN_ALL_DIFFER = 17,
+    SPRITBOBBIN_LISTED = 18,
+    SPRITBOBBIN_MOST_LISTED = 64
+};
+#define SPRITBOBBIN_CONTROL_DIFFERS(tributary) (2 + 3 * (tributary))
+#define SPRITBOBBIN_JUSTIFICATION_DIFFERS(tributary) (3 + 3 * (tributary))
+#define SPRITBOBBIN_ORDINARY_DIFFERS(tributary) (4 + 3 * (tributary))
 
 /* What stands where in the answers. The four digit counts, of tributaries 1 to 4, are elements 0
    to 3 of the answers of the two multiplex calls. */
@@ -369,6 +386,23 @@ uint64_t spritbobbin_capture_write(uint64_t level, const uint8_t *line, size_t l
  * label, its bytes (both 0 without one), named byte. Returns 0, 9, 1 or 2.
  */
 uint64_t spritbobbin_capture_read(const uint8_t *file, size_t file_bytes, uint64_t answer[7]);
+
+/*
+ * Where two captures differ: how many digits in each kind of place, and where the first 64 are.
+ * Kinds go by the layout of the level: no control digit decides what a justification place is.
+ *
+ * A bad file is refused as by spritbobbin_capture_read, all of the first (9, 1, 2) before the
+ * second, and the answer says which; then 1 if the levels are not the same, and 2 if the lines do
+ * not have the same length. Labels are not compared.
+ *
+ * answer: file at fault (0, 1, 2), named byte; the sums of the digits that differ: word, remote
+ * alarm, national, then control, justification, ordinary of tributary 1, of 2, of 3, of 4; all
+ * differing digits, which is what the fifteen add up to; how many are listed. places: frame and
+ * place in it of each of the first 64, in order, and zeros after them; it is an answer and
+ * written also under a refusal. Returns 0, 9, 1 or 2.
+ */
+uint64_t spritbobbin_compare(const uint8_t *one, size_t one_bytes, const uint8_t *other,
+                             size_t other_bytes, uint64_t answer[19], uint64_t places[128]);
 
 /*
  * Builds a multiframe of 2048 kbit/s: sixteen frames of 32 bytes.

@@ -10,6 +10,7 @@
 
 pub mod alarm;
 mod captures;
+mod comparison;
 pub mod digits;
 mod finder;
 pub mod frame;
@@ -21,6 +22,7 @@ pub mod random;
 mod receiver;
 
 pub use captures::{read_capture, write_capture, Read, Written};
+pub use comparison::{compare, sum, Differences, MOST_LISTED};
 pub use finder::{finder_feed, finder_refusal, FinderState, Found};
 pub use finder::{FRAME_DIGITS, SECOND_PLACE, WORD, WORD_PLACE};
 pub use multiframe::{build_multiframe, multiframe_refusal, take_multiframe_apart};

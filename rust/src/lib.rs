@@ -11,6 +11,7 @@
 //! - A [`Finder`] finds the frames of a 2048 kbit/s line.
 //! - [`digits`] walks over the digits of a line.
 //! - [`write_capture`] keeps a line in a file, [`read_capture`] reads it back.
+//! - [`compare`] says where two captures differ, by the kind of place and the tributary.
 //! - [`Multiframe::build`] builds a multiframe of 2048 kbit/s, [`Multiframe::apart`] takes one apart.
 //!
 //! # Digits, quarters, notes
@@ -61,6 +62,7 @@
 #![warn(missing_docs)]
 
 mod capture;
+mod comparison;
 mod finder;
 mod level;
 mod line;
@@ -72,6 +74,9 @@ mod refusal;
 mod stream;
 
 pub use capture::{capture_bytes, read_capture, write_capture, Capture, MOST_LABEL_BYTES};
+pub use comparison::{
+    compare, Differences, FileOf, LinePlace, NotCompared, OfTributary, MOST_LISTED,
+};
 pub use finder::{Finder, FinderMode, FinderState, FinderTaken, Turn, Turns};
 pub use level::{Level, MOST_BYTES, MOST_FRAMES};
 pub use line::{digits, line_digit, Digits};

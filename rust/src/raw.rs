@@ -91,6 +91,17 @@ extern "C" {
         answer: &mut [u64; 7],
     ) -> u64;
 
+    /// Answer: file at fault, named byte, the fifteen sums, all differing digits, how many are
+    /// listed. Places: frame and place of each.
+    pub fn spritbobbin_compare(
+        one: *const u8,
+        one_bytes: usize,
+        other: *const u8,
+        other_bytes: usize,
+        answer: &mut [u64; 19],
+        places: &mut [u64; 128],
+    ) -> u64;
+
     /// Answer: named channel.
     pub fn spritbobbin_multiframe_build(
         multiframe: *mut u8,

@@ -1,6 +1,6 @@
 /*
  * Calls every function of the library through its header, from C: worked cases 1, 9, 10 and 11
- * of the specification, each refusal, the digits of a line, captures, multiframes and frames of 2048 kbit/s. Prints "face: ok", or what failed.
+ * of the specification, each refusal, the digits of a line, captures, comparisons, multiframes and frames of 2048 kbit/s. Prints "face: ok", or what failed.
  *
  * All bytes that are lent come from malloc in their exact number, so that valgrind sees a read or
  * a write of the library one byte beside them.
@@ -206,6 +206,46 @@ static void line_digits(void)
     free(line);
 }
 
+/* Compares two captures; answer and places hold 0xA5 before, so that what is not written is seen. */
+static uint64_t compared(const uint8_t *one, size_t one_bytes, const uint8_t *other, size_t other_bytes,
+                         uint64_t answer[19], uint64_t places[128])
+{
+    memset(answer, 0xA5, 19 * sizeof *answer);
+    memset(places, 0xA5, 128 * sizeof *places);
+    return spritbobbin_compare(one, one_bytes, other, other_bytes, answer, places);
+}
+
+/* Two captures of a frame of level 2 that differ in the word, a control and a justification digit and the last digit; files that
+   do not fit each other, and bad ones. */
+static void comparisons(void)
+{
+    static const uint8_t head[7] = {0x01, 0x00, 0x01, 0x02, 0x02, 0x00, 0x6A}, empty[7] = {1, 0, 1, 2, 2}, other_level[7] = {1, 0, 1, 3, 2};
+    uint8_t *one = lend(113, 0), *other = lend(113, 0);
+    uint64_t answer[19], places[128];
+
+    memcpy(one, head, 7);
+    memcpy(other, head, 7);
+    check(compared(one, 113, other, 113, answer, places) == 0 && all_zero(answer, 19) && all_zero(places, 128), "equal captures");
+    other[7] = 0x80;        /* place 0: the word */
+    other[7 + 26] = 0x04;   /* place 213: the control digit of tributary 2 */
+    other[7 + 80] = 0x10;   /* place 643: the justification digit of tributary 4 */
+    other[7 + 105] = 0x01;  /* place 847: tributary 4 */
+    check(compared(one, 113, other, 113, answer, places) == SPRITBOBBIN_ACCEPTED, "two captures are compared");
+    check(answer[SPRITBOBBIN_WORD_DIFFERS] == 1 && answer[SPRITBOBBIN_CONTROL_DIFFERS(2)] == 1, "word and control");
+    check(answer[SPRITBOBBIN_JUSTIFICATION_DIFFERS(4)] == 1 && answer[SPRITBOBBIN_ORDINARY_DIFFERS(4)] == 1, "justification and ordinary");
+    check(answer[SPRITBOBBIN_ALL_DIFFER] == 4 && answer[SPRITBOBBIN_LISTED] == 4, "all that differ");
+    check(places[1] == 0 && places[3] == 213 && places[5] == 643 && places[6] == 0 && places[7] == 847, "their places");
+    check(all_zero(places + 8, 120), "zeros after them");
+    check(compared(one, 113, other, 112, answer, places) == SPRITBOBBIN_REFUSED_FIELD, "the second file is cut off");
+    check(answer[SPRITBOBBIN_FAULTY_FILE] == 2 && answer[SPRITBOBBIN_FAULTY_BYTE] == 4 && all_zero(answer + 2, 17), "it is named");
+    check(all_zero(places, 128), "and nothing is listed");
+    check(compared(NULL, 0, other, 112, answer, places) == SPRITBOBBIN_REFUSED_FIELD && answer[0] == 1 && answer[1] == 0, "the first file first");
+    check(compared(one, 113, other_level, 7, answer, places) == SPRITBOBBIN_REFUSED_LEVEL && all_zero(answer, 19), "unequal level before length");
+    check(compared(one, 113, empty, 7, answer, places) == SPRITBOBBIN_REFUSED_LINE && all_zero(answer, 19), "unequal length");
+    free(one);
+    free(other);
+}
+
 /* Writes a capture of a line of one value into a file that holds 0xA5, and reads it back. A label
    of SIZE_MAX bytes is none. */
 static void capture(uint64_t level, size_t line_bytes, size_t label_bytes, size_t file_bytes, uint64_t refusal)
@@ -391,6 +431,7 @@ int main(void)
     finder();
     line_digits();
     captures();
+    comparisons();
     multiframes();
     if (failures)
         return 1;

@@ -2,6 +2,7 @@
 // `refused` or `failed`, which ./spritbobbin turns into an exit status.
 mod demo;
 
+use comparing::compared;
 use console::help;
 use console::words;
 use console::words::NO_NOTE;
@@ -45,16 +46,18 @@ const KEEP: u8 = 4;
 
 const SHOW: u8 = 5;
 
+const COMPARE: u8 = 6;
+
 // Those of 2048 kbit/s, which take no level.
-const BUILD: u8 = 6;
+const BUILD: u8 = 7;
 
-const APART: u8 = 7;
+const APART: u8 = 8;
 
-const HUNT: u8 = 8;
+const HUNT: u8 = 9;
 
-const MULTIFRAME: u8 = 9;
+const MULTIFRAME: u8 = 10;
 
-const NO_COMMAND: u8 = 10;
+const NO_COMMAND: u8 = 11;
 
 // Beside NO_NOTE, where there is none: a word that should be a note and is none.
 const WRONG_NOTE: u16 = 257;
@@ -106,6 +109,9 @@ fn which_command(word: &[u8]) -> u8 {
     if check::same(word, b"show") {
         return SHOW;
     }
+    if check::same(word, b"compare") {
+        return COMPARE;
+    }
     which_of_2048(word)
 }
 
@@ -134,6 +140,7 @@ fn fits(which: u8, last: usize) -> bool {
         FIND => last == find::STREAM || last == find::PREFIX,
         KEEP => last == keep::CAPTURE || last == keep::LABEL,
         SHOW => last == opened::CAPTURE || last == opened::LINE,
+        COMPARE => last == compared::OTHER || last == compared::PICTURE,
         BUILD => last == build::MULTIFRAMES,
         APART => last == apart::SPARE,
         HUNT => last == hunt::RECORDING,
@@ -153,6 +160,9 @@ fn wrong_words(which: u8) {
         }
         KEEP => help::wrong_call(b"keep takes a level and two files, and a label where wanted."),
         SHOW => help::wrong_call(b"show takes a capture, and a file where its line is wanted."),
+        COMPARE => help::wrong_call(
+            b"compare takes two captures, and a file for the picture where wanted.",
+        ),
         _ => wrong_words_of_2048(which),
     }
 }
@@ -189,6 +199,7 @@ fn counted(which: u8, last: usize) {
 fn unlevelled(which: u8, last: usize) {
     match which {
         SHOW => shown(last),
+        COMPARE => held(last),
         BUILD => build::run(),
         APART => taken_apart(),
         HUNT => hunt::run(),
@@ -222,6 +233,21 @@ fn shown(last: usize) {
         return;
     }
     opened::run(opened::SHOWN);
+}
+
+// The picture's file is known by its name.
+fn held(last: usize) {
+    if last != compared::PICTURE {
+        compared::run(false);
+        return;
+    }
+    let mut word = io::buffer();
+    let n = os::arg(compared::PICTURE, &mut word);
+    if !words::is_svg(&word[..n]) {
+        help::wrong_call(b"the picture's file must end in .svg.");
+        return;
+    }
+    compared::run(true);
 }
 
 fn levelled(which: u8, last: usize) {

@@ -35,6 +35,10 @@ pub fn forms() {
         b"show CAPTURE [LINE]               ",
         b"what a capture holds; LINE: writes its line out",
     );
+    form(
+        b"compare ONE OTHER [PICTURE.svg]   ",
+        b"where two captures differ, by kind and tributary",
+    );
     forms_of_2048();
     form(b"help                              ", b"these forms");
 }

@@ -2,5 +2,5 @@
 pub mod capture;
 pub mod keep;
 pub mod opened;
-mod refusals;
+pub mod refusals;
 mod show;

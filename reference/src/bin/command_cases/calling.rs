@@ -2,7 +2,7 @@
 
 use crate::case::{words, Case};
 
-const COMMANDS: [&str; 12] = [
+const COMMANDS: [&str; 13] = [
     "demo",
     "frame",
     "send",
@@ -10,6 +10,7 @@ const COMMANDS: [&str; 12] = [
     "find",
     "keep",
     "show",
+    "compare",
     "multiframe",
     "build",
     "apart",
@@ -18,7 +19,7 @@ const COMMANDS: [&str; 12] = [
 ];
 
 /// Wrong calls. The files that they name are there.
-const WRONG: [&str; 44] = [
+const WRONG: [&str; 48] = [
     "",
     "bogus",
     "sen 2 notes tributaries out",
@@ -50,6 +51,10 @@ const WRONG: [&str; 44] = [
     "keep 2 line out label more",
     "show",
     "show line out more",
+    "compare",
+    "compare line",
+    "compare line line picture.txt",
+    "compare line line picture.svg more",
     "build",
     "build notes tributaries line",
     "build notes tributaries line out more",

@@ -18,6 +18,7 @@
 
 mod calling;
 mod case;
+mod comparing;
 mod finding;
 mod hunting;
 mod inputs;
@@ -51,6 +52,7 @@ fn main() -> io::Result<()> {
     cases.extend(finding::cases());
     cases.extend(keeping::cases());
     cases.extend(showing::cases());
+    cases.extend(comparing::cases());
     cases.extend(multiframes::cases());
     cases.extend(hunting::cases());
     cases.extend(trips::cases());

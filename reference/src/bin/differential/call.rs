@@ -1,6 +1,7 @@
 //! A call with its inputs, what came of it, and what the reference says of it.
 
 use reference::{build_multiframe, take_multiframe_apart};
+use reference::{compare, Differences, MOST_LISTED};
 use reference::{demultiplex, feed, fresh, line_digit, multiplex, State};
 use reference::{finder_feed, FinderState};
 use reference::{read_capture, write_capture};
@@ -62,10 +63,11 @@ pub enum Call {
     MultiframeApart(Whole),
     FinderFresh,
     FinderFeed(Hunt),
+    Compare(Vec<u8>, Vec<u8>),
 }
 
 /// The names of the calls, in the order of their numbers.
-pub const NAMES: [&str; 11] = [
+pub const NAMES: [&str; 12] = [
     "multiplex",
     "demultiplex",
     "receiver_fresh",
@@ -77,6 +79,7 @@ pub const NAMES: [&str; 11] = [
     "multiframe_apart",
     "finder_fresh",
     "finder_feed",
+    "compare",
 ];
 
 /// All that a call answers and leaves: two outcomes are equal or there is a disagreement.
@@ -107,6 +110,7 @@ impl Call {
             Call::MultiframeApart(_) => 8,
             Call::FinderFresh => 9,
             Call::FinderFeed(_) => 10,
+            Call::Compare(..) => 11,
         }
     }
 
@@ -128,6 +132,7 @@ impl Call {
             Call::MultiframeApart(_) => "none",
             Call::FinderFresh => "window, seen, mode, place",
             Call::FinderFeed(_) => "taken, aligned; window, seen, mode, place",
+            Call::Compare(..) => "file, byte, fifteen sums, all, listed; frame and place of each",
         }
     }
 
@@ -174,6 +179,9 @@ impl Call {
                 hunt.first,
                 hunt.count
             ),
+            Call::Compare(one, other) => {
+                format!("one {}; other {}", in_short(one), in_short(other))
+            }
         }
     }
 
@@ -201,6 +209,10 @@ impl Call {
                 outcome(0, finder_numbers(&FinderState::default()).to_vec(), vec![])
             }
             Call::FinderFeed(hunt) => hunted(hunt),
+            Call::Compare(one, other) => {
+                let (refusal, numbers) = compared_numbers(&compare(one, other));
+                outcome(refusal, numbers, vec![("one", one.clone()), ("other", other.clone())])
+            }
         }
     }
 }
@@ -292,6 +304,20 @@ pub fn read_numbers(file: &[u8]) -> (u64, [u64; 7]) {
     let line = [wide(read.line.start), wide(read.line.len())];
     let label = [wide(label.start), wide(label.len())];
     (read.refusal, [read.level, line[0], line[1], labelled, label[0], label[1], read.byte])
+}
+
+/// What the reference finds, in the face's order: the answer, then the list with its zeros.
+pub fn compared_numbers(found: &Differences) -> (u64, Vec<u64>) {
+    let all = found.places.len();
+    let listed = all.min(MOST_LISTED);
+    let mut numbers = vec![found.file, found.byte];
+    numbers.extend(found.sums);
+    numbers.extend([all as u64, listed as u64]);
+    for (frame, place) in &found.places[..listed] {
+        numbers.extend([*frame as u64, *place as u64]);
+    }
+    numbers.resize(19 + 2 * MOST_LISTED, 0);
+    (found.refusal, numbers)
 }
 
 /// A slice in a few words: its length and its first bytes.

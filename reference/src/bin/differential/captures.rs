@@ -28,7 +28,7 @@ pub fn part(run: &mut Run) {
     }
 }
 
-fn levels() -> impl Iterator<Item = &'static Row> {
+pub fn levels() -> impl Iterator<Item = &'static Row> {
     [2, 3, 4].into_iter().filter_map(row)
 }
 
@@ -134,7 +134,7 @@ fn hostile_files(run: &mut Run, frames: usize, label: Option<usize>) {
 }
 
 /// A file of fields whose tags and lengths are often right, cut or not, or of random bytes.
-fn any_file(random: &mut Random) -> Vec<u8> {
+pub fn any_file(random: &mut Random) -> Vec<u8> {
     if random.once_in(8) {
         let bytes = random.index(30);
         return (0..bytes).map(|_| random.pick(&[0, 0, 1, 1, 2, 2, 3, 4, 33, 106, 255])).collect();

@@ -1,6 +1,8 @@
 //! The product's C face, and the calls made through it with guards around all that is lent.
 
-use crate::call::{finder_numbers, state_numbers, Call, Hunt, Lending, Outcome, Piece, Whole, Writing};
+use crate::call::{
+    finder_numbers, state_numbers, Call, Hunt, Lending, Outcome, Piece, Whole, Writing,
+};
 
 #[rustfmt::skip]
 extern "C" {
@@ -36,6 +38,10 @@ extern "C" {
     pub fn spritbobbin_finder_feed(
         state: *mut u64, piece: *const u8, piece_bytes: usize, first: u64, count: u64,
         answer: *mut u64,
+    ) -> u64;
+    pub fn spritbobbin_compare(
+        one: *const u8, one_bytes: usize, other: *const u8, other_bytes: usize,
+        answer: *mut u64, places: *mut u64,
     ) -> u64;
 }
 
@@ -101,6 +107,7 @@ pub fn by_face(call: &Call) -> Outcome {
         Call::MultiframeApart(with) => multiframe_apart(with),
         Call::FinderFresh => finder_fresh(),
         Call::FinderFeed(hunt) => finder_feed(hunt),
+        Call::Compare(one, other) => compare(one, other),
     }
 }
 
@@ -242,4 +249,16 @@ fn finder_feed(hunt: &Hunt) -> Outcome {
         spritbobbin_finder_feed(s, p, slice.count(), hunt.first, hunt.count, a)
     };
     outcome(refusal, &[answer, state], &[slice])
+}
+
+fn compare(one: &[u8], other: &[u8]) -> Outcome {
+    let (mut one, mut other) = (bytes("one", one), bytes("other", other));
+    let mut answer = numbers("answer", &[UNWRITTEN; 19]);
+    let mut places = numbers("places", &[UNWRITTEN; 128]);
+    // Sound as above.
+    let refusal = unsafe {
+        let (o, p, a, l) = (one.pointer(), other.pointer(), answer.pointer(), places.pointer());
+        spritbobbin_compare(o, one.count(), p, other.count(), a, l)
+    };
+    outcome(refusal, &[answer, places], &[one, other])
 }

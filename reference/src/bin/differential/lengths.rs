@@ -1,8 +1,8 @@
 //! Lengths far beyond what a call accepts, which a cut to 32 bits would make small, and
 //! then pointers and lengths that lend no memory at all.
 
-use crate::call::read_numbers;
-use crate::face::{self, spritbobbin_capture_read, spritbobbin_capture_write};
+use crate::call::{compared_numbers, read_numbers};
+use crate::face::{self, spritbobbin_capture_read, spritbobbin_capture_write, spritbobbin_compare};
 use crate::face::{spritbobbin_demultiplex, spritbobbin_finder_feed, spritbobbin_line_digit};
 use crate::face::{spritbobbin_multiplex, spritbobbin_receiver_feed, UNWRITTEN};
 use crate::multiframes;
@@ -130,10 +130,31 @@ fn long_capture(run: &mut Run, level: u64, long: &mut [u8]) {
     run.expect(5, &inputs, &written(level, 0, bytes, 1), &raw_write(level, [empty, at], 1, room));
     let (refusal, numbers) = read_numbers(long);
     run.expect(6, &inputs, &[&[refusal], &numbers[..]].concat(), &raw_read(at.0, at.1));
+    long_comparison(run, &inputs, long);
     let room = (long.as_mut_ptr(), long.len());
     run.expect(5, &inputs, &written(level, 0, 0, 0), &raw_write(level, [empty; 2], 0, room));
     long[..7].fill(0);
     untouched(run, &inputs, long);
+}
+
+/// A long file first, second, and twice.
+fn long_comparison(run: &mut Run, inputs: &str, long: &[u8]) {
+    let good = [1, 0, 1, 2, 2, 0, 0];
+    for (one, other) in [(long, &good[..]), (&good[..], long), (long, long)] {
+        let (refusal, numbers) = compared_numbers(&reference::compare(one, other));
+        let received = raw_compare((one.as_ptr(), one.len()), (other.as_ptr(), other.len()));
+        run.expect(11, inputs, &[&[refusal], &numbers[..]].concat(), &received);
+    }
+}
+
+fn raw_compare(one: (*const u8, usize), other: (*const u8, usize)) -> Vec<u64> {
+    let (mut answer, mut places) = ([UNWRITTEN; 19], [UNWRITTEN; 128]);
+    // Sound as above.
+    let refusal = unsafe {
+        let (a, l) = (answer.as_mut_ptr(), places.as_mut_ptr());
+        spritbobbin_compare(one.0, one.1, other.0, other.1, a, l)
+    };
+    [&[refusal], &answer[..], &places[..]].concat()
 }
 
 /// A call through the face whose slices are only given by pointer and length.
@@ -295,6 +316,14 @@ fn null_pointers(run: &mut Run) {
         }
     }
     run.expect(6, "null file", &[9, 0, 0, 0, 0, 0, 0, 0], &raw_read(null, 0));
+    let good = [1, 0, 1, 2, 2, 0, 0];
+    let good = (good.as_ptr(), good.len());
+    for (one, other, file) in
+        [((null, 0), good, 1), (good, (null, 0), 2), ((null, 0), (null, 0), 1)]
+    {
+        let expected = [&[9, file], &[0; 146][..]].concat();
+        run.expect(11, "null file", &expected, &raw_compare(one, other));
+    }
     for (first, count) in [(0, 0), (0, 1), (1, 0), (u64::MAX, 1)] {
         let expected = [feed_refusal(&fresh(2).1, 0, first, count), 0, 0, 0];
         run.expect(3, "null piece", &expected, &raw_feed(null, 0, first, count));

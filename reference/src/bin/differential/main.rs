@@ -11,6 +11,7 @@
 
 mod call;
 mod captures;
+mod comparisons;
 mod face;
 mod finder;
 mod lengths;
@@ -29,7 +30,7 @@ pub struct Run {
     lent_only: bool,
     trace: bool,
     random: Random,
-    calls: [u64; 11],
+    calls: [u64; 12],
 }
 
 impl Run {
@@ -98,7 +99,7 @@ fn print_difference(name: &str, ours: &[u8], theirs: &[u8]) {
 }
 
 fn arguments() -> Run {
-    let (seed, calls) = (1, [0; 11]);
+    let (seed, calls) = (1, [0; 12]);
     let random = Random::new(seed);
     let mut run = Run { seed, times: 1, lent_only: false, trace: false, random, calls };
     for argument in std::env::args().skip(1) {
@@ -129,6 +130,7 @@ fn main() {
         captures::part(&mut run);
         multiframes::part(&mut run);
         finder::part(&mut run);
+        comparisons::part(&mut run);
     }
     lengths::part(&mut run);
     println!("{}; no disagreement", run.summary());

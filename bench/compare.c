@@ -1,0 +1,95 @@
+/* The comparison of two captures of 64 frames, beside memcmp of the same lines: equal lines, one digit in every frame, and a digit in two of all. Before
+   timing, its sums are held against a count of the digits that differ. Prints a table; usage: compare REPEATS. */
+#define _POSIX_C_SOURCE 199309L
+#include <stdio.h>
+#include <stdlib.h>
+#include <string.h>
+#include <time.h>
+#include "spritbobbin.h"
+
+enum { FRAMES = 64, MOST = FRAMES * SPRITBOBBIN_FRAME_BYTES_4 };
+
+static const size_t frame_bytes[] = {SPRITBOBBIN_FRAME_BYTES_2, SPRITBOBBIN_FRAME_BYTES_3, SPRITBOBBIN_FRAME_BYTES_4};
+static uint8_t line[MOST], other[MOST], one_file[MOST + 7], other_file[MOST + 7];
+static uint64_t answer[19], places[128];
+static volatile uint64_t seen;
+
+static double now(void)
+{
+    struct timespec t;
+
+    clock_gettime(CLOCK_MONOTONIC, &t);
+    return (double)t.tv_sec * 1e9 + (double)t.tv_nsec;
+}
+
+static uint64_t next(uint64_t *state)
+{
+    *state ^= *state << 13;
+    *state ^= *state >> 7;
+    *state ^= *state << 17;
+    return *state;
+}
+
+static void fail(const char *what)
+{
+    fprintf(stderr, "bench: %s\n", what);
+    exit(1);
+}
+
+/* Lines of a level: `how` 0 equal, 1 a digit of each frame, 2 random digits. */
+static void fill(int level, int how)
+{
+    size_t bytes = FRAMES * frame_bytes[level - 2], i;
+    uint64_t state = 88172645463325252u, wrote[2], differing = 0, sums = 0;
+
+    for (i = 0; i < bytes; i++) {
+        line[i] = (uint8_t)next(&state);
+        other[i] = how == 2 ? (uint8_t)next(&state) : line[i];
+        if (how == 1 && i % frame_bytes[level - 2] == 40)
+            other[i] ^= 4;
+        differing += (uint64_t)__builtin_popcount((unsigned)(line[i] ^ other[i]));
+    }
+    if (spritbobbin_capture_write((uint64_t)level, line, bytes, NULL, 0, 0, one_file, sizeof one_file, wrote)
+        || spritbobbin_capture_write((uint64_t)level, other, bytes, NULL, 0, 0, other_file, sizeof other_file, wrote)
+        || spritbobbin_compare(one_file, bytes + 7, other_file, bytes + 7, answer, places))
+        fail("the captures are refused");
+    for (i = SPRITBOBBIN_WORD_DIFFERS; i < SPRITBOBBIN_ALL_DIFFER; i++)
+        sums += answer[i];
+    if (sums != differing || answer[SPRITBOBBIN_ALL_DIFFER] != differing)
+        fail("the sums are wrong");
+}
+
+/* The best of so many times, in nanoseconds a digit; memcmp looks at the lines alone. */
+static double timed(int level, int library, int repeats)
+{
+    size_t bytes = FRAMES * frame_bytes[level - 2];
+    double best = 1e18;
+    int r;
+
+    for (r = 0; r < repeats; r++) {
+        double start = now(), took;
+
+        if (library)
+            seen += spritbobbin_compare(one_file, bytes + 7, other_file, bytes + 7, answer, places);
+        else
+            seen += (uint64_t)(memcmp(one_file + 7, other_file + 7, bytes) != 0);
+        took = now() - start;
+        if (took < best)
+            best = took;
+    }
+    return best / (8.0 * (double)bytes);
+}
+
+int main(int argc, char **argv)
+{
+    static const char *const names[] = {"equal lines", "a digit a frame", "random digits"};
+    int repeats = argc > 1 ? atoi(argv[1]) : 100, level, how;
+
+    puts("| compare           | level | library, ns a digit | memcmp, ns a digit |\n|---|---|---:|---:|");
+    for (how = 0; how < 3; how++)
+        for (level = 2; level <= 4; level++) {
+            fill(level, how);
+            printf("| %-17s | %5d | %19.4f | %18.4f |\n", names[how], level, timed(level, 1, repeats), timed(level, 0, repeats));
+        }
+    return 0;
+}

@@ -1,0 +1,4 @@
+pub mod Compare
+pub mod Counting
+pub mod Promises
+pub mod Stretches

@@ -1,0 +1,76 @@
+//! Comparisons: each kind of place, the first 64, and every refusal in its order.
+
+use spritbobbin::{
+    compare, write_capture, Differences, FileOf, Level, LinePlace, NotCompared, Refusal,
+};
+
+fn capture(level: Level, line: &[u8], label: Option<&[u8]>) -> Vec<u8> {
+    let mut file = vec![0; 60 + line.len()];
+    let bytes = write_capture(level, line, label, &mut file).unwrap();
+    file.truncate(bytes);
+    file
+}
+
+/// What differs between a line of zeros and the same with ones at these places.
+fn turned(level: Level, frames: usize, places: &[usize]) -> Differences {
+    let zeros = vec![0; frames * level.frame_bytes()];
+    let mut ones = zeros.clone();
+    for place in places {
+        ones[place / 8] |= 0x80 >> (place % 8);
+    }
+    let (one, other) = (capture(level, &zeros, None), capture(level, &ones, Some(b"south")));
+    let found = compare(&one, &other).unwrap();
+    assert_eq!(found, compare(&other, &one).unwrap(), "exchanged");
+    found
+}
+
+#[test]
+fn each_kind() {
+    let found = turned(Level::Two, 1, &[9, 10, 11, 12, 212, 640, 647, 843]);
+    assert_eq!((found.word, found.remote_alarm, found.national), (1, 1, 1));
+    let of = found.tributaries.map(|of| [of.control, of.justification, of.ordinary]);
+    assert_eq!(of, [[1, 1, 1], [0, 0, 0], [0, 0, 0], [0, 0, 2]]);
+    let found = turned(Level::Four, 2, &[12, 13, 14, 15, 2928 + 15, 2928 + 2445, 2928 + 2443]);
+    assert_eq!((found.word, found.remote_alarm, found.national), (0, 1, 4));
+    let of = found.tributaries.map(|of| [of.control, of.justification, of.ordinary]);
+    assert_eq!(of, [[0, 0, 0], [0, 1, 0], [0, 0, 0], [1, 0, 0]]);
+    assert_eq!(found.first[6], LinePlace { frame: 1, place: 2445 });
+}
+
+#[test]
+fn the_first_64() {
+    let places: Vec<usize> = (0..65).map(|k| 100 + 7 * k).collect();
+    for some in [0, 1, 63, 64, 65] {
+        let found = turned(Level::Three, 1, &places[..some]);
+        assert_eq!((found.all, found.first.len()), (some, some.min(64)));
+        let expected = places[..some.min(64)].iter().map(|&place| LinePlace { frame: 0, place });
+        assert!(found.first.iter().copied().eq(expected));
+    }
+}
+
+#[test]
+fn refusals_in_their_order() {
+    let good = capture(Level::Two, &[0; 106], None);
+    let cut = &good[..50];
+    let field = |file| NotCompared::BadFile { file, why: Refusal::Field { byte: 4 } };
+    assert_eq!(compare(cut, &[]), Err(field(FileOf::One)));
+    assert_eq!(compare(&good, cut), Err(field(FileOf::Other)));
+    let mut level = good.clone();
+    level[3] = 9;
+    let why = Refusal::Level { number: 9 };
+    assert_eq!(compare(&level, cut), Err(NotCompared::BadFile { file: FileOf::One, why }));
+    let other = capture(Level::Three, &[], None);
+    let levels = NotCompared::Levels { one: Level::Two, other: Level::Three };
+    assert_eq!(compare(&good, &other), Err(levels));
+    assert_eq!(
+        levels.to_string(),
+        "the captures are of level 2 and level 3: compare two of one level"
+    );
+    let other = capture(Level::Two, &[], None);
+    assert_eq!(compare(&good, &other), Err(NotCompared::Lines { one: 106, other: 0 }));
+    assert_eq!(
+        compare(cut, &good).unwrap_err().to_string(),
+        "the first file: this is no capture: a field is wrong, missing or cut off at byte 4 \
+         (counted from 0), or bytes follow there"
+    );
+}
