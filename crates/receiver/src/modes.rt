@@ -7,7 +7,7 @@ ghost use lib.ListN.{length};
 ghost use Rattle.levels.specs.Table.{Shared};
 ghost use Rattle.receiver.specs.Modes.{missed, windowOf, seenOf, good, asks, judged, placeAfter, stepOf};
 ghost use Rattle.receiver.specs.Feed.{Valid};
-ghost use Rattle.receiver.specs.Hunt.{stillHunting, Hunted};
+ghost use Rattle.receiver.specs.Hunt.{stillHunting, testedIn, testedInto, Hunted};
 
 // A state without its level and its frame: what goes round in the loop.
 pub struct Core {
@@ -143,10 +143,43 @@ pub fn step(row: Row, mask: usize, c: Core, d: u8) -> Core
     }
 }
 
-// Where a stretch of the hunt ended: the core, and the place of the next digit in the piece.
+// How many words the digit tested that made this core: one or none. The place tells, so that outside hunting nothing is counted.
+pub fn tested_into(row: Row, c: Core) -> usize
+    ensures { λ r. ⌜ (r ≡ testedInto row c) × (r ≤ 1) ⌝ }
+{
+    if c.place == 0 {
+        if row.len <= c.seen {
+            return 1;
+        }
+        return 0;
+    }
+    0
+}
+
+// How many of so many digits came from the L-th on.
+fn from_the_word(row: Row, came: usize) -> usize
+    requires { ⌜ came < 1000000 ⌝ }
+    ensures { λ r. ⌜ r ≡ came + 1 - row .len ⌝ }
+{
+    if came + 1 < row.len {
+        return 0;
+    }
+    came + 1 - row.len
+}
+
+// How many words the hunt tests while the digits that came grow so.
+fn tested_in(row: Row, seen: usize, came: usize) -> usize
+    requires { ⌜ (seen ≤ came) × (came < 1000000) ⌝ }
+    ensures { λ r. ⌜ r ≡ testedIn row seen came ⌝ }
+{
+    from_the_word(row, came) - from_the_word(row, seen)
+}
+
+// Where a stretch of the hunt ended: the core, the place of the next digit in the piece, and how many words were tested.
 pub struct Hunt {
     pub core: Core,
     pub at: usize,
+    pub words: usize,
 }
 
 // A core that hunts after so many digits, of which all but L are forgotten.
@@ -173,11 +206,15 @@ fn still_hunting(row: Row, window: usize, came: usize) -> Core
 // hunt, or the last one, to `step`.
 pub fn hunt_on(row: Row, mask: usize, c: Core, piece: &[u8], first: usize, end: usize) -> Hunt
     requires { ⌜ Shared row × (mask ≡ 2 ^ row .len - 1) × Valid row c × (length (now piece) ≤ 65536) × (first < end) × (end ≤ 8 * length (now piece)) ⌝ }
-    ensures { λ r. ⌜ Hunted row (now (piece .entry)) end first c (r .at) (r .core) ⌝ }
+    ensures { λ r. ⌜ Hunted row (now (piece .entry)) end first c (r .at) (r .words) (r .core) ⌝ }
 {
     let mode = c.mode;
     if !crate::is_hunting(mode) {
-        return Hunt { core: c, at: first };
+        return Hunt {
+            core: c,
+            at: first,
+            words: 0,
+        };
     }
     let seen = c.seen;
     let last = end - 1;
@@ -189,6 +226,7 @@ pub fn hunt_on(row: Row, mask: usize, c: Core, piece: &[u8], first: usize, end: 
             return Hunt {
                 core: still_hunting(row, window, seen + (at - first)),
                 at,
+                words: tested_in(row, seen, seen + (at - first)),
             };
         }
         window = next;
@@ -197,5 +235,6 @@ pub fn hunt_on(row: Row, mask: usize, c: Core, piece: &[u8], first: usize, end: 
     Hunt {
         core: still_hunting(row, window, seen + (at - first)),
         at,
+        words: tested_in(row, seen, seen + (at - first)),
     }
 }
