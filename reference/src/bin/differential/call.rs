@@ -117,7 +117,7 @@ impl Call {
             Call::Demultiplex(_) => "four counts, frame, alignment, dissent of four",
             Call::Fresh(_) => "level, window, seen, mode, place, digits, zeros, few before, alarm",
             Call::Feed(_) => {
-                "taken, ready, alarm; level, window, seen, mode, place, digits, zeros, few before, alarm"
+                "taken, ready, alarm, words; level, window, seen, mode, place, digits, zeros, few before, alarm"
             },
             Call::LineDigit(..) => "none",
             Call::CaptureWrite(_) => "bytes, named byte",

@@ -230,7 +230,7 @@ fn long_piece(run: &mut Run, slice: &[u8]) {
         let state = fresh(2).1;
         let expected = feed(&state, slice, first, count);
         let received = raw_feed(slice.as_ptr(), slice.len(), first, count);
-        run.expect(3, &inputs, &[expected.refusal, 0, 0, 0], &received);
+        run.expect(3, &inputs, &[expected.refusal, 0, 0, 0, 0], &received);
         let expected = finder_feed(&FinderState::default(), slice, first, count);
         let received = raw_hunt(slice.as_ptr(), slice.len(), first, count);
         run.expect(8, &inputs, &[expected.refusal, 0, 0], &received);
@@ -246,7 +246,7 @@ fn long_piece(run: &mut Run, slice: &[u8]) {
 fn raw_feed(piece: *const u8, piece_bytes: usize, first: u64, count: u64) -> Vec<u64> {
     let mut state = face::numbers("state", &FRESH);
     let mut frame = face::bytes("frame store", &[0; 366]);
-    let mut answer = face::numbers("answer", &[UNWRITTEN; 3]);
+    let mut answer = face::numbers("answer", &[UNWRITTEN; 4]);
     // Sound as above; where the length is false the call must be refused unread.
     let refusal = unsafe {
         let (s, f, a) = (state.pointer(), frame.pointer(), answer.pointer());
