@@ -80,12 +80,12 @@ aligned-held TwoFound e = refl
 aligned-held (Aligned m) e = refl
 
 -- a step's window and digits seen do not depend on the mode
-step-window : (row : Row) (c : Core) (d : ℕ) → stepOf row c d .window ≡ windowOf row (c .window) d
+pub step-window : (row : Row) (c : Core) (d : ℕ) → stepOf row c d .window ≡ windowOf row (c .window) d
 unfolding stepOf afterDigit
 step-window row c d =
     cond-told (λ (c′ : Core). c′ .window ≡ windowOf row (c .window) d) (asks row (seenOf row (c .seen)) (c .mode) (c .place)) (λ _. refl) (λ _. refl)
 
-step-seen : (row : Row) (c : Core) (d : ℕ) → stepOf row c d .seen ≡ seenOf row (c .seen)
+pub step-seen : (row : Row) (c : Core) (d : ℕ) → stepOf row c d .seen ≡ seenOf row (c .seen)
 unfolding stepOf afterDigit
 step-seen row c d =
     cond-told (λ (c′ : Core). c′ .seen ≡ seenOf row (c .seen)) (asks row (seenOf row (c .seen)) (c .mode) (c .place)) (λ _. refl) (λ _. refl)

@@ -1,0 +1,4 @@
+pub mod Deadline
+pub mod Recovery
+pub mod ZeroLines
+pub mod Near
