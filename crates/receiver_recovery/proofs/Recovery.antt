@@ -159,8 +159,8 @@ module _ (row : Row) (sh : Shared row) (o : ℕ) (past : List ℕ) where
       let upto : take (suc (length xs)) (xs ++ d ∷ es) ≡ xs ++ (d ∷ []) = rw (← here, ← l) (take-append-seam (xs ++ (d ∷ [])) es) in
       let inside : suc (length xs) ≤ length (xs ++ d ∷ es) = omega (arith, length-append xs (d ∷ es)) in
       let one = nearing-more n xs s t d (rw (getD-append-seam xs d es 0) at (line .binary (length xs))) room
-          (λ z. rw upto at (line .comes (suc (length xs)) room inside z))
-          (λ w. line .only (suc (length xs)) inside (rw upto w)) in
+      (λ z. rw upto at (line .comes (suc (length xs)) room inside z))
+      (λ w. line .only (suc (length xs)) inside (rw upto w)) in
       let count : n - 1 - length es ≡ n - suc (length es) = omega arith in
       rw (here, count) at (nearing-on es (n - 1) (xs ++ (d ∷ [])) (afterOf row s d) one (omega arith) (rw here line))
 

@@ -2,20 +2,20 @@
 -- enough that the word moved by some places is not the word.
 use mathlib.Core.Path.{_≡_, sym, ap, subst, _∙_}
 use mathlib.Core.List.{List}
-use Prim.Native.Nat.{ℕ, zero, suc, _+_, _*_, _%_, _≤_, _<_}
+use Prim.Native.Nat.{ℕ, zero, suc, _+_, _≤_, _<_}
 use native.Mathlib.Omega.{arith}
 use native.Mathlib.Decide.{decLt}
 use native.Mathlib.Nat.{mod-lt, mod-eq-of-lt, mod-add-mod}
 use lib.Dec.{eqb}
 use lib.ListN.{length, getD, take, drop}
 use lib.Seq.{getD-take, getD-drop}
-use Rattle.digits.specs.Digits.{Binary, written}
+use Rattle.digits.specs.Digits.{written}
 use Rattle.digits.proofs.Laws.{tab-length, tab-at, tab-binary}
 use Rattle.digits.proofs.Written.{written-binary}
 use Rattle.levels.specs.declared.table.Row.{Row}
 use Rattle.levels.specs.declared.table.Level.{Level}
 use Rattle.levels.specs.declared.table.Level.the-variants.{Of, NoSuchLevel}
-use Rattle.levels.specs.Table.{Shared, row2, row3, row4, levelOf}
+use Rattle.levels.specs.Table.{Shared, levelOf}
 use Rattle.levels.proofs.Choice.{cond-by}
 use Rattle.levels.proofs.Rows.{shared-row}
 use Rattle.receiver_promises.specs.Line.{inFrame}
