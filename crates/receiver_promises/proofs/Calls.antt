@@ -19,7 +19,8 @@ use Rattle.receiver.specs.Modes.{testedAt}
 use Rattle.receiver.specs.Frame.{readyOf}
 use Rattle.receiver.specs.Feed.{coreOf, freshState, refusalOf, afterOf, accepted, runOf, feedRow, ValidState}
 use Rattle.receiver_promises.specs.History.{heard, testedBy, since}
-use Rattle.receiver_promises.specs.Calls.{Delivered, handedAt, streamed, Piece, digitsIn, answerTo, leftBy, takenBy, wordsBy, handedIn, handedBy, restOf, callsFor, callsForAll, digitsInAll, Lent, AllLent}
+use Rattle.receiver_promises.specs.Calls.{Delivered, handedAt, streamed, Piece, digitsIn, answerTo, leftBy, takenBy, wordsBy, handedIn, handedBy}
+use Rattle.receiver_promises.specs.Calls.{restOf, callsFor, callsForAll, digitsInAll, Lent, AllLent}
 use Rattle.receiver.proofs.Validity.{cond-told}
 use Rattle.receiver_promises.proofs.Pieces.{heard-append, tested-append, heard-state, heard-level, Ran, ran, feed-run, fresh-state}
 

@@ -13,7 +13,7 @@ use Rattle.levels.specs.declared.table.Row.{Row}
 use Rattle.receiver.specs.declared.Mode.{Mode}
 use Rattle.receiver.specs.declared.Mode.the-variants.{Hunting, OneFound, TwoFound, Aligned}
 use Rattle.receiver.specs.Modes.{hunting, missed, judged, placeAfter}
-use Rattle.receiver_recovery.specs.Line.{truePlace}
+use Rattle.receiver_recovery.specs.Line.{frameEnd, truePlace}
 
 -- the place after the next digit, outside hunting and on the line
 abbrev pub next : ℕ → ℕ → ℕ
@@ -135,8 +135,8 @@ module _ (row : Row) where
   pub true-up : (o k : ℕ) → 0 < row .digits → truePlace row o (suc k) ≡ next (row .digits) (truePlace row o k)
   unfolding truePlace
   true-up o k some =
-      let x = o + k + (row .digits - row .len) in
-      let e : o + suc k + (row .digits - row .len) ≡ suc x = omega arith in
+      let x = o + k + frameEnd row in
+      let e : o + suc k + frameEnd row ≡ suc x = omega arith in
       rw (e, suc-mod x (row .digits))
       (cond-told (λ (y : ℕ). suc (x % row .digits) % row .digits ≡ y) (eqb (x % row .digits + 1) (row .digits))
       (λ q. let f : suc (x % row .digits) ≡ row .digits = omega (arith, eqb-true (x % row .digits + 1) (row .digits) q) in rw f (mod-self (row .digits)))
@@ -147,4 +147,4 @@ module _ (row : Row) where
 
   pub true-lt : (o k : ℕ) → 0 < row .digits → truePlace row o k < row .digits
   unfolding truePlace
-  true-lt o k some = mod-lt (o + k + (row .digits - row .len)) some
+  true-lt o k some = mod-lt (o + k + frameEnd row) some

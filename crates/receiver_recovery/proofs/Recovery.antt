@@ -34,7 +34,7 @@ use Rattle.receiver_promises.proofs.Calls.{as-the-stream}
 use Rattle.receiver_promises.proofs.Alarms.{some-digits}
 use Rattle.receiver_promises.proofs.Alignment.{after-on, after-turn, asked-at, asks-held}
 use Rattle.receiver_promises.proofs.Traces.{step-window, step-seen}
-use Rattle.receiver_recovery.specs.Line.{wordOf, CorrectLine, truePlace, AlignedAfter}
+use Rattle.receiver_recovery.specs.Line.{wordOf, CorrectLine, frameEnd, truePlace, AlignedAfter}
 use Rattle.receiver_recovery.proofs.Deadline.{next, Due, due-any, due-none, due-up, due-turn, true-up, true-lt}
 
 -- ---- along the line
@@ -241,7 +241,7 @@ module _ (row : Row) (sh : Shared row) (o : ℕ) (ds : List ℕ) (line : Correct
   begins : (k : ℕ) → row .len ≤ k → truePlace row o k ≡ inFrame row o (k - row .len)
   unfolding truePlace
   begins k h =
-      let e : o + k + (row .digits - row .len) ≡ o + (k - row .len) + row .digits = omega (arith, word-within row sh) in
+      let e : o + k + frameEnd row ≡ o + (k - row .len) + row .digits = omega (arith, word-within row sh) in
       rw e (add-mod-right (o + (k - row .len)) (row .digits))
 
   line-words : Words row o ds

@@ -40,7 +40,8 @@ apart-10 n (suc (suc (suc (suc (suc (suc zero)))))) room lo hi same = one-zero (
 apart-10 n (suc (suc (suc (suc (suc (suc (suc zero))))))) room lo hi same = one-zero (same 0 7 (omega arith) (omega arith) (omega arith))
 apart-10 n (suc (suc (suc (suc (suc (suc (suc (suc zero)))))))) room lo hi same = one-zero (same 0 8 (omega arith) (omega arith) (omega arith))
 apart-10 n (suc (suc (suc (suc (suc (suc (suc (suc (suc zero))))))))) room lo hi same = one-zero (same 0 9 (omega arith) (omega arith) (omega arith))
-apart-10 n (suc (suc (suc (suc (suc (suc (suc (suc (suc (suc r)))))))))) room lo hi same = one-zero (same 0 (suc (suc (suc (suc (suc (suc (suc (suc (suc (suc r)))))))))) (omega arith) (omega arith) hi)
+apart-10 n (suc (suc (suc (suc (suc (suc (suc (suc (suc (suc r)))))))))) room lo hi same =
+    one-zero (same 0 (suc (suc (suc (suc (suc (suc (suc (suc (suc (suc r)))))))))) (omega arith) (omega arith) hi)
 
 apart-12 : (n r : ℕ) → 12 ≤ n → 0 < r → r < n
     → ((j p : ℕ) → j < 12 → p ≡ r + j → p < n → getD (written 12 0b111110100000) j 0 ≡ getD (written 12 0b111110100000) p 0) → ⊥
@@ -57,7 +58,8 @@ apart-12 n (suc (suc (suc (suc (suc (suc (suc (suc zero)))))))) room lo hi same 
 apart-12 n (suc (suc (suc (suc (suc (suc (suc (suc (suc zero))))))))) room lo hi same = one-zero (same 0 9 (omega arith) (omega arith) (omega arith))
 apart-12 n (suc (suc (suc (suc (suc (suc (suc (suc (suc (suc zero)))))))))) room lo hi same = one-zero (same 0 10 (omega arith) (omega arith) (omega arith))
 apart-12 n (suc (suc (suc (suc (suc (suc (suc (suc (suc (suc (suc zero))))))))))) room lo hi same = one-zero (same 0 11 (omega arith) (omega arith) (omega arith))
-apart-12 n (suc (suc (suc (suc (suc (suc (suc (suc (suc (suc (suc (suc r)))))))))))) room lo hi same = one-zero (same 0 (suc (suc (suc (suc (suc (suc (suc (suc (suc (suc (suc (suc r)))))))))))) (omega arith) (omega arith) hi)
+apart-12 n (suc (suc (suc (suc (suc (suc (suc (suc (suc (suc (suc (suc r)))))))))))) room lo hi same =
+    one-zero (same 0 (suc (suc (suc (suc (suc (suc (suc (suc (suc (suc (suc (suc r)))))))))))) (omega arith) (omega arith) hi)
 
 -- the word stands alone in its frame: moved by r places it is not what stands there
 abbrev Alone : Row → Type 0

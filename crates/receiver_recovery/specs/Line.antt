@@ -21,9 +21,13 @@ pub record CorrectLine (row : Row) (o : ℕ) (ds : List ℕ) : Type 0 where
   pub framed : Framed row o ds
   pub no-others : (i : ℕ) → i + row .len ≤ length ds → take (row .len) (drop i ds) ≡ wordOf row → inFrame row o i ≡ 0
 
--- "the true place" after k digits of the line: 0 where the last of them is a true word's last digit, and 1 more with each digit after it
+-- "its last digit, place N−L": places are counted from the word's last digit, which is place 0, so that a frame's last digit is this one
+abbrev pub frameEnd : Row → ℕ
+frameEnd row = row .digits - row .len
+
+-- "the true place" after k digits of the line: after a frame's last digit came the o digits that the line does not have, and then k
 unfoldable pub truePlace : Row → ℕ → ℕ → ℕ
-truePlace row o k = (o + k + (row .digits - row .len)) % row .digits
+truePlace row o k = (o + k + frameEnd row) % row .digits
 
 -- after k digits of the line "the receiver is aligned at the true place", and no word is missed
 pub record AlignedAfter (row : Row) (o k : ℕ) (s : State) : Type 0 where

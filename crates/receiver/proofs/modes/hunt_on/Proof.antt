@@ -91,7 +91,9 @@ loop-again c =
       omega arith,
       l .inv .1,
       l .inv .2,
-      rw n (hunted-more (b .args .row) (b .pre .0) _ _ _ _ (b .args .c .seen) (l .at) (l .window) came _ _ (l .inv .3) (omega arith) (omega arith) (b .pre .5) (c3 .digit-at .ensures .0) (c2 .window-of .ensures) bad),
+      rw n
+          (hunted-more (b .args .row) (b .pre .0) _ _ _ _ (b .args .c .seen) (l .at) (l .window) came _ _ (l .inv .3) (omega arith) (omega arith)
+          (b .pre .5) (c3 .digit-at .ensures .0) (c2 .window-of .ensures) bad),
     )
 
 sub-still-hunting-2 : tie.Need-sub-still-hunting-2 Inv-loop μ-loop
