@@ -8,7 +8,7 @@ use native.Mathlib.Omega.{arith}
 use native.Mathlib.Nat.{mod-eq-of-lt, add-mod-right, mod-add-mod}
 use borrow.Author.Tests.{eqb-true, eqb-false, eq-eqb, le-leb, ltb-true, ltb-false}
 use lib.Dec.{ltb}
-use lib.ListN.{length, getD, take, drop, length-append, length-drop, take-append-drop}
+use lib.ListN.{length, getD, take, drop, length-append, length-take, length-drop, take-append-drop}
 use lib.Seq.{take-append-seam, take-take, take-all, append-snoc, getD-append-seam, length-take-le, ext-getD, getD-take, getD-drop}
 use Rattle.digits.specs.Digits.{Binary, written}
 use Rattle.digits.specs.Histories.{Came}
@@ -20,20 +20,21 @@ use Rattle.levels.specs.declared.table.Row.{Row}
 use Rattle.levels.specs.declared.table.Level.the-variants.{Of}
 use Rattle.levels.specs.Table.{Shared, levelOf}
 use Rattle.levels.proofs.Rows.{shared-row}
-use Rattle.receiver.specs.declared.Mode.the-variants.{Aligned}
+use Rattle.receiver.specs.declared.Mode.{Mode}
+use Rattle.receiver.specs.declared.Mode.the-variants.{Hunting, OneFound, TwoFound, Aligned}
 use Rattle.receiver.specs.declared.State.{State}
 use Rattle.receiver.specs.Modes.{hunting, windowOf, seenOf, good, asks}
-use Rattle.receiver.specs.Feed.{coreOf, afterOf, Valid, ValidState}
+use Rattle.receiver.specs.Feed.{coreOf, freshState, afterOf, Valid, ValidState}
 use Rattle.receiver.proofs.Holding.{word-within}
 use Rattle.receiver.proofs.Validity.{step-valid}
-use Rattle.receiver_promises.specs.History.{heard}
+use Rattle.receiver_promises.specs.History.{heard, since}
 use Rattle.receiver_promises.specs.Calls.{Piece, leftBy, callsForAll, digitsInAll, AllLent}
 use Rattle.receiver_promises.specs.Line.{inFrame}
 use Rattle.receiver_promises.proofs.Pieces.{heard-append}
 use Rattle.receiver_promises.proofs.Calls.{as-the-stream}
 use Rattle.receiver_promises.proofs.Alarms.{some-digits}
 use Rattle.receiver_promises.proofs.Alignment.{after-on, after-turn, asked-at, asks-held}
-use Rattle.receiver_promises.proofs.Traces.{step-window, step-seen}
+use Rattle.receiver_promises.proofs.Traces.{Traced, traced-fresh, traced, step-window, step-seen}
 use Rattle.receiver_recovery.specs.Line.{wordOf, CorrectLine, frameEnd, truePlace, AlignedAfter}
 use Rattle.receiver_recovery.proofs.Deadline.{next, Due, due-any, due-none, due-up, due-turn, true-up, true-lt}
 
@@ -180,9 +181,10 @@ came-on row sh (d ∷ es) past s n v t h bin =
     one : min (suc n) (row .len) ≤ afterOf row s d .seen
     one = rw (after-seen row s d) (seen-least row (s .seen) n h)
 
--- after 7 N + L - 2 digits it is aligned at the true place
-module _ (row : Row) (sh : Shared row) (o : ℕ) (s : State) (v : Valid row (coreOf s)) (ds : List ℕ) (line : Words row o ds) where
-  aligned-by : 7 * row .digits + row .len ≤ length ds + 2 → AlignedAfter row o (length ds) (heard row s ds)
+-- where after L - 1 digits at most n more are due, it is aligned at the true place after them
+module _ (row : Row) (sh : Shared row) (o : ℕ) (s : State) (v : Valid row (coreOf s)) (ds : List ℕ) (line : Words row o ds) (n : ℕ)
+    (due : Due row n (truePlace row o (row .len - 1)) (heard row s (take (row .len - 1) ds) .mode) (heard row s (take (row .len - 1) ds) .place)) where
+  aligned-by : n + row .len ≤ length ds + 1 → AlignedAfter row o (length ds) (heard row s ds)
   aligned-by enough = record { mode = end .0; place = end .1 }
     where
       past : List ℕ
@@ -209,16 +211,16 @@ module _ (row : Row) (sh : Shared row) (o : ℕ) (s : State) (v : Valid row (cor
       some-row : 0 < row .digits
       some-row = some-digits row sh
 
-      start : Nearing row sh o past (7 * row .digits - 1) xs (heard row s xs)
+      start : Nearing row sh o past n xs (heard row s xs)
       start =
           record {
             valid = came .0;
             recent = came .1;
             seen = omega (arith, came .2);
-            due = due-any row (truePlace row o (length xs)) (heard row s xs .mode) (heard row s xs .place) some-row;
+            due = rw xs-length due;
           }
 
-      none : 7 * row .digits - 1 - length es ≡ 0
+      none : n - length es ≡ 0
       none = omega (arith, length-drop first ds, sh .word-some)
 
       whole : heard row (heard row s xs) es ≡ heard row s ds
@@ -227,7 +229,7 @@ module _ (row : Row) (sh : Shared row) (o : ℕ) (s : State) (v : Valid row (cor
       last : Nearing row sh o past 0 ds (heard row s ds)
       last =
           rw (none, both, whole) at
-          (nearing-on row sh o past es (7 * row .digits - 1) xs (heard row s xs) start (omega (arith, xs-length)) (rw both line))
+          (nearing-on row sh o past es n xs (heard row s xs) start (omega (arith, xs-length)) (rw both line))
 
       end : (heard row s ds .mode ≡ Aligned 0) × (heard row s ds .place ≡ truePlace row o (length ds))
       end =
@@ -302,11 +304,41 @@ module _ (row : Row) (sh : Shared row) (s : State) (v : Valid row (coreOf s)) (o
   -- sharper: after 7 N + L - 2 digits
   pub recovers-sooner : (k : ℕ) → 7 * row .digits + row .len ≤ k + 2 → k ≤ length ds → AlignedAfter row o k (heard row s (take k ds))
   recovers-sooner k enough h =
-      let n : length (take k ds) ≡ k = length-take-le k ds h in
-      rw n at (aligned-by row sh o s v (take k ds) (line-take row o ds k (line-words row sh o ds line) h) (omega arith))
+      let size : length (take k ds) ≡ k = length-take-le k ds h in
+      let first = heard row s (take (row .len - 1) (take k ds)) in
+      rw size at
+      (aligned-by row sh o s v (take k ds) (line-take row o ds k (line-words row sh o ds line) h) (7 * row .digits - 1)
+      (due-any row (truePlace row o (row .len - 1)) (first .mode) (first .place) (some-digits row sh)) (omega (arith, some-digits row sh)))
 
   pub recovers : (k : ℕ) → 8 * row .digits ≤ k → k ≤ length ds → AlignedAfter row o k (heard row s (take k ds))
   recovers k enough h = recovers-sooner k (omega (arith, word-within row sh)) h
+
+-- from reset three words are enough: after at most 3 N + L - 1 digits. Before the L-th it hunts
+pub found-from-fresh : (row : Row) → Shared row → (level o : ℕ) (ds : List ℕ) → CorrectLine row o ds
+    → (k : ℕ) → 3 * row .digits + row .len ≤ k + 1 → k ≤ length ds → AlignedAfter row o k (since row level (take k ds))
+found-from-fresh row sh level o ds line k enough h =
+    let size : length (take k ds) ≡ k = length-take-le k ds h in
+    rw size at
+    (aligned-by row sh o (freshState level) (traced-fresh row sh level .valid) (take k ds) (line-take row o ds k (line-words row sh o ds line) h) (3 * row .digits)
+    (still (first .mode) (first .place) (t .valid .came)) (omega arith))
+  where
+    xs : List ℕ
+    xs = take (row .len - 1) (take k ds)
+
+    first : State
+    first = since row level xs
+
+    t : Traced row xs first
+    t = traced row sh level xs (binary-take (row .len - 1) (take k ds) (binary-take k ds (line .binary)))
+
+    short : row .len ≤ first .seen → ⊥
+    short q = omega (arith, t .seen, length-take (row .len - 1) (take k ds), sh .word-some)
+
+    still : (mode : Mode) (p : ℕ) → (hunting mode ≡ false → row .len ≤ first .seen) → Due row (3 * row .digits) (truePlace row o (row .len - 1)) mode p
+    still Hunting p came = omega arith
+    still OneFound p came = absurd (short (came refl))
+    still TwoFound p came = absurd (short (came refl))
+    still (Aligned m) p came = absurd (short (came refl))
 
 -- the line alone decides: whatever two states it came upon, mode and place are then the same
 pub forgets : (row : Row) → Shared row → (s t : State) → Valid row (coreOf s) → Valid row (coreOf t) → (o : ℕ) (ds : List ℕ) → CorrectLine row o ds
