@@ -9,7 +9,7 @@ use native.Mathlib.Nat.{mod-eq-of-lt, add-mod-right, mod-add-mod}
 use borrow.Author.Tests.{eqb-true, eqb-false, eq-eqb, le-leb, ltb-true, ltb-false}
 use lib.Dec.{ltb}
 use lib.ListN.{length, getD, take, drop, length-append, length-take, length-drop, take-append-drop}
-use lib.Seq.{take-append-seam, take-take, take-all, append-snoc, getD-append-seam, length-take-le, ext-getD, getD-take, getD-drop}
+use lib.Seq.{take-append-seam, take-take, append-snoc, getD-append-seam, length-take-le, ext-getD, getD-take, getD-drop}
 use Rattle.digits.specs.Digits.{Binary, written}
 use Rattle.digits.specs.Histories.{Came}
 use Rattle.digits.proofs.Tests.{cond-told}
@@ -349,12 +349,14 @@ forgets row sh s t v w o ds line k enough h =
     let other = recovers row sh t w o ds line k enough h in
     (one .mode ∙ sym (other .mode), one .place ∙ sym (other .place))
 
--- ---- the same of the public call, whatever pieces the line's digits come in: after the calls for these pieces, each with its rest after a frame
-pub calls-recover : (row : Row) (s : State) → levelOf (s .level) ≡ Of row → ValidState row s → (ps : List Piece) → AllLent ps
-    → (o : ℕ) → CorrectLine row o (digitsInAll ps) → 8 * row .digits ≤ length (digitsInAll ps)
+-- ---- the same of the public call, whatever pieces the line's digits come in: after the calls for these pieces, each with its rest after a frame, whatever
+-- digits of the line are still to come
+pub calls-recover : (row : Row) (s : State) → levelOf (s .level) ≡ Of row → ValidState row s → (ps : List Piece) → AllLent ps → (rest : List ℕ)
+    → (o : ℕ) → CorrectLine row o (digitsInAll ps ++ rest) → 8 * row .digits ≤ length (digitsInAll ps)
     → AlignedAfter row o (length (digitsInAll ps)) (leftBy s (callsForAll s ps))
-calls-recover row s known v ps lent o line enough =
+calls-recover row s known v ps lent rest o line enough =
     let ds = digitsInAll ps in
-    let whole : take (length ds) ds ≡ ds = take-all (length ds) ds (omega arith) in
+    let k = length ds in
     rw (as-the-stream row s known v ps lent .0)
-    (rw whole at (recovers row (shared-row (s .level) row known) s (v .0) o ds line (length ds) enough (omega arith)))
+    (rw (take-append-seam ds rest) at
+    (recovers row (shared-row (s .level) row known) s (v .0) o (ds ++ rest) line k enough (omega (arith, length-append ds rest))))
