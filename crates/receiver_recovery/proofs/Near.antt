@@ -1,7 +1,7 @@
 -- How near the sharper bound is: 7 N + L - 2 digits, that is 5,944, 10,760 and 20,506. Here are, at each level, a valid state and a line with which it takes
--- 7 N + 3 = 5,939 and 10,755, and 7 N + 4 = 20,500. The window ends with the first digits of the word, up to its second 1 after the ones; the line begins
--- with the word's last digits but one of its zeros, then a 0 that is no word's; and a check is due there. Window and line together make a false word at
--- that very check, one digit after a true one. So four frames pass until it is lost, the next true word comes N - 1 digits after that, and two frames more.
+-- 7 N + 3 = 5,939 and 10,755, and 7 N + 4 = 20,500. The window ends with the word's first digits, up to the 1 behind its first 0; the line begins with all but
+-- one of the zeros that end the word, and then a 0 that is no word's; and a check is due there. Window and line together make a false word at that very
+-- check, one digit after a true one. So four frames pass until it is lost, the next true word comes N - 1 digits after that, and two frames more.
 use mathlib.Core.Path.{_≡_, refl, sym}
 use mathlib.Core.Bool.{true≢false}
 use Prim.Native.Nat.{ℕ, _+_, _^_, _<_}

@@ -34,7 +34,7 @@ pub record AlignedAfter (row : Row) (o k : ℕ) (s : State) : Type 0 where
   pub mode : s .mode ≡ Aligned 0
   pub place : s .place ≡ truePlace row o k
 
--- such a line, n digits of it: the words, and 0 at every other place. It is what multiplexing makes of zeros: proofs/ZeroLines.antt
+-- such a line, n digits of it: the words, and 0 at every other place (proofs/ZeroLines.antt). Multiplexing makes it of zeros (proofs/Multiplexed.antt)
 abbrev pub zeroDigit : Row → ℕ → ℕ
 zeroDigit row place = getD (wordOf row) place 0
 

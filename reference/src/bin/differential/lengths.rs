@@ -296,7 +296,7 @@ fn null_pointers(run: &mut Run) {
     }
     run.expect(6, "null file", &[9, 0, 0, 0, 0, 0, 0, 0], &raw_read(null, 0));
     for (first, count) in [(0, 0), (0, 1), (1, 0), (u64::MAX, 1)] {
-        let expected = [feed_refusal(&fresh(2).1, 0, first, count), 0, 0, 0];
+        let expected = [feed_refusal(&fresh(2).1, 0, first, count), 0, 0, 0, 0];
         run.expect(3, "null piece", &expected, &raw_feed(null, 0, first, count));
         let expected = [finder_refusal(&FinderState::default(), 0, first, count), 0, 0];
         run.expect(8, "null piece", &expected, &raw_hunt(null, 0, first, count));
@@ -321,7 +321,7 @@ fn false_lengths(run: &mut Run) {
     }
     let memory = [0; 4096];
     for long in lengths {
-        let expected = [feed_refusal(&fresh(2).1, long, 0, 8), 0, 0, 0];
+        let expected = [feed_refusal(&fresh(2).1, long, 0, 8), 0, 0, 0, 0];
         let fed = raw_feed(memory.as_ptr(), long as usize, 0, 8);
         run.expect(3, &format!("slice of {long} bytes"), &expected, &fed);
         let expected = [finder_refusal(&FinderState::default(), long, 0, 8), 0, 0];
