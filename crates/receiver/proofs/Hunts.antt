@@ -1,12 +1,12 @@
 -- Laws of the hunt in a hurry: a digit that does not end the hunt only moves the window, and what is left to do stays the same.
-use mathlib.Core.Path.{_≡_, refl, sym, ap, subst, _∙_}
-use mathlib.Core.Bool.{Bool, cond, true, false, _&&_, true≢false}
+use mathlib.Core.Path.{_≡_, refl, sym, subst, _∙_}
+use mathlib.Core.Bool.{true, false, true≢false}
 use mathlib.Core.List.{List}
 use Prim.Native.Nat.{ℕ, suc, _+_, _*_, _-_, _≤_, _<_, min}
 use native.Mathlib.Omega.{arith}
 use native.Mathlib.Nat.{add-assoc}
-use borrow.Author.Tests.{ltb-true, ltb-false, leb-true, leb-false, le-leb, ne-eqb}
-use lib.Dec.{eqb, leb, ltb}
+use borrow.Author.Tests.{ltb-true, ltb-false, leb-true, leb-false}
+use lib.Dec.{leb, ltb}
 use lib.ListN.{length, getD}
 use Rattle.digits.specs.Digits.{digitsOf, between}
 use Rattle.levels.specs.declared.table.Row.{Row}
@@ -19,8 +19,8 @@ use Rattle.receiver.specs.Alarm.{countOf, counted}
 use Rattle.receiver.specs.Modes.{hunting, windowOf, seenOf, good, asks, testedAt, placeAfter, afterDigit, stepOf}
 use Rattle.receiver.specs.Frame.{keepOf, readyOf}
 use Rattle.receiver.specs.Feed.{stateOf, afterOf, runOf, pieceOf, Valid}
-use Rattle.receiver.specs.Hunt.{stillHunting, testedIn, testedInto, Hunted}
-use Rattle.receiver.proofs.Validity.{cond-told, step-valid, asked-came}
+use Rattle.receiver.specs.Hunt.{stillHunting, testedIn, Hunted}
+use Rattle.receiver.proofs.Validity.{cond-told, step-valid}
 use Rattle.receiver.proofs.Counts.{counted-none, counted-one}
 use Rattle.receiver.proofs.Runs.{piece-step}
 
@@ -96,26 +96,6 @@ tested-more row w seen came h =
 
 most-more : (x y t at p : ℕ) → y ≡ x + t → t ≤ 1 → x ≤ at - p → p ≤ at → y ≤ at + 1 - p
 most-more x y t at p e one h from = omega arith
-
--- the core that a digit makes tells whether the digit tested a word
-tested-into : (row : Row) → Shared row → (c : Core) → Valid row c → (d : ℕ) → testedInto row (stepOf row c d) ≡ testedAt row c
-unfolding testedInto testedAt stepOf afterDigit asks placeAfter
-tested-into row sh c v d = by-asked (asks row (seenOf row (c .seen)) (c .mode) (c .place)) refl
-  where
-    seen : ℕ
-    seen = seenOf row (c .seen)
-
-    by-hunt : (h : Bool) → cond h (leb (row .len) seen) (eqb (c .place + 1) (row .digits)) ≡ false
-        → _≡_ {A = ℕ} (cond (eqb (cond h 0 (c .place + 1)) 0 && leb (row .len) seen) 1 0) 0
-    by-hunt true e = rw e
-    by-hunt false e = rw (ne-eqb (c .place + 1) 0 (λ q. omega arith))
-
-    by-asked : (b : Bool) → asks row seen (c .mode) (c .place) ≡ b → testedInto row (stepOf row c d) ≡ testedAt row c
-    by-asked true e = rw (e, le-leb (row .len) seen (asked-came row sh c v d e))
-    by-asked false e = rw e (by-hunt (hunting (c .mode)) e)
-
-pub tested-now : (row : Row) → Shared row → (c : Core) → Valid row c → (d : ℕ) (c′ : Core) (n : ℕ) → c′ ≡ stepOf row c d → n ≡ testedInto row c′ → n ≡ testedAt row c
-tested-now row sh c v d c′ n ec en = en ∙ ap (testedInto row) ec ∙ tested-into row sh c v d
 
 -- ---- the hunt
 

@@ -1,9 +1,7 @@
 -- The hunt in a hurry: what an inner function of the run promises. What is left to do after it is what was to do before.
 use mathlib.Core.Path.{_≡_}
-use mathlib.Core.Bool.{cond, _&&_}
 use mathlib.Core.List.{List}
 use Prim.Native.Nat.{ℕ, _+_, _-_, _≤_, _<_, min}
-use lib.Dec.{eqb, leb}
 use Rattle.levels.specs.declared.table.Row.{Row}
 use Rattle.receiver.specs.declared.Mode.the-variants.{Hunting}
 use Rattle.digits.specs.Digits.{between}
@@ -18,10 +16,6 @@ stillHunting row w came = record { window = w; seen = min came (row .len); mode 
 -- hunting, every digit from the L-th since reset on tests a word: so many while the digits that came grow from seen to came
 abbrev pub testedIn : Row → ℕ → ℕ → ℕ
 testedIn row seen came = came + 1 - row .len - (seen + 1 - row .len)
-
--- the digit that made this core tested a word: its place is 0, which in hunting it is before the L-th digit too
-unfoldable pub testedInto : Row → Core → ℕ
-testedInto row c = cond (eqb (c .place) 0 && leb (row .len) (c .seen)) 1 0
 
 -- from core c at digit p of a slice, of which the digits before `end` are to be taken, it went to core c′ at digit at, and tested so
 -- many words

@@ -236,8 +236,9 @@ fn run(row: Row, s: State, piece: &[u8], first: usize, count: usize) -> Fed
         words += h.words;
         p = h.at;
         let d = digits::digit_at(piece, p);
-        c = modes::step(row, mask, h.core, d);
-        words += modes::tested_into(row, c);
+        let next = modes::step(row, mask, h.core, d);
+        c = next.core;
+        words += next.words;
         frame::keep(row, shift, c, d, &mut f);
         p += 1;
         if frame::is_ready(row, c) {

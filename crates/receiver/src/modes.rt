@@ -5,9 +5,9 @@ ghost use mathlib.Core.Path.{_≡_};
 ghost use Prim.Native.Nat.{_+_, _*_, _-_, _^_, _<_, _≤_};
 ghost use lib.ListN.{length};
 ghost use Rattle.levels.specs.Table.{Shared};
-ghost use Rattle.receiver.specs.Modes.{missed, windowOf, seenOf, good, asks, judged, placeAfter, stepOf};
+ghost use Rattle.receiver.specs.Modes.{missed, windowOf, seenOf, good, asks, testedAt, judged, placeAfter, stepOf};
 ghost use Rattle.receiver.specs.Feed.{Valid};
-ghost use Rattle.receiver.specs.Hunt.{stillHunting, testedIn, testedInto, Hunted};
+ghost use Rattle.receiver.specs.Hunt.{stillHunting, testedIn, Hunted};
 
 // A state without its level and its frame: what goes round in the loop.
 pub struct Core {
@@ -117,43 +117,42 @@ fn place_after(mode: Mode, place: usize) -> usize
     place + 1
 }
 
-// What one digit makes of a core.
-pub fn step(row: Row, mask: usize, c: Core, d: u8) -> Core
+// What one digit makes of a core, and how many words it tests: one or none.
+pub struct Stepped {
+    pub core: Core,
+    pub words: usize,
+}
+
+// One digit. A word is counted where it is judged, so that no other digit costs anything for it.
+pub fn step(row: Row, mask: usize, c: Core, d: u8) -> Stepped
     requires { ⌜ Shared row × (mask ≡ 2 ^ row .len - 1) × Valid row c × (d < 2) ⌝ }
-    ensures { λ r. ⌜ r ≡ stepOf row c d ⌝ }
+    ensures { λ r. ⌜ (r .core ≡ stepOf row c d) × (r .words ≡ testedAt row c) × (r .words ≤ 1) ⌝ }
 {
     let mode = c.mode;
     let window = window_of(row, mask, c.window, d);
     let seen = seen_of(row, c.seen);
     if asks_word(row, seen, mode, c.place) {
         let judged = judge(mode, is_good(row, window));
-        return Core {
-            window,
-            seen,
-            mode: judged,
-            place: 0,
+        return Stepped {
+            core: Core {
+                window,
+                seen,
+                mode: judged,
+                place: 0,
+            },
+            words: 1,
         };
     }
     let place = place_after(mode, c.place);
-    Core {
-        window,
-        seen,
-        mode,
-        place,
+    Stepped {
+        core: Core {
+            window,
+            seen,
+            mode,
+            place,
+        },
+        words: 0,
     }
-}
-
-// How many words the digit tested that made this core: one or none. The place tells, so that outside hunting nothing is counted.
-pub fn tested_into(row: Row, c: Core) -> usize
-    ensures { λ r. ⌜ (r ≡ testedInto row c) × (r ≤ 1) ⌝ }
-{
-    if c.place == 0 {
-        if row.len <= c.seen {
-            return 1;
-        }
-        return 0;
-    }
-    0
 }
 
 // How many of so many digits came from the L-th on.

@@ -4,7 +4,6 @@ use mathlib.Core.Path.{sym, _∙_}
 use Prim.Native.Nat.{_-_}
 use native.Mathlib.Omega.{arith}
 use Rattle.receiver.proofs.Validity.{step-valid}
-use Rattle.receiver.proofs.Hunts.{tested-now}
 use Rattle.receiver.proofs.Runs.{Going, going, going-on, run-end, run-on, run-ready}
 use Rattle.receiver.proofs.run.Statement.{statement}
 use Rattle.receiver.proofs.run.Tie as tie
@@ -59,93 +58,89 @@ step-requires c κs =
 
 add-words-2 : tie.Need-add-words-2 Inv-loop μ-loop
 add-words-2 c =
-    let c4 = c .before .before .before .before in
-    let c6 = c4 .before .before in
-    let g = c6 .loop .inv in
-    let h = c4 .hunt-on .ensures in
-    omega (arith, g .most, g .from, g .within, g .small, h .most, h .before, c .tested-into .ensures .1)
+    let c2 = c .before .before in
+    let c5 = c2 .before .before .before in
+    let c7 = c5 .before .before in
+    let g = c7 .loop .inv in
+    let h = c5 .hunt-on .ensures in
+    omega (arith, g .most, g .from, g .within, g .small, h .most, h .before, c2 .step .ensures .2)
 
 keep-requires : tie.Need-keep-requires Inv-loop μ-loop
 keep-requires c κs =
-    let c2 = c .before .before in
-    let c3 = c2 .before in
-    let c5 = c3 .before .before in
-    let b = c5 .before .before .before .before .before .before .before .before .before in
-    (b .pre .0, omega (arith, b .pre .0 .word-short), rw (c2 .step .ensures) (step-valid (b .args .row) (b .pre .0) _ (c5 .hunt-on .ensures .valid) (c3 .digit-at .result)), c3 .digit-at .ensures .1)
+    let c3 = c .before .before .before in
+    let c4 = c3 .before in
+    let c6 = c4 .before .before in
+    let b = c6 .before .before .before .before .before .before .before .before .before in
+    (b .pre .0, omega (arith, b .pre .0 .word-short), rw (c3 .step .ensures .0) (step-valid (b .args .row) (b .pre .0) _ (c6 .hunt-on .ensures .valid) (c4 .digit-at .result)), c4 .digit-at .ensures .1)
 
 add-p : tie.Need-add-p Inv-loop μ-loop
 add-p c =
-    let c6 = c .before .before .before .before .before .before in
-    let c8 = c6 .before .before in
-    omega (arith, c6 .hunt-on .ensures .before, c8 .loop .inv .within, c8 .loop .inv .small)
+    let c7 = c .before .before .before .before .before .before .before in
+    let c9 = c7 .before .before in
+    omega (arith, c7 .hunt-on .ensures .before, c9 .loop .inv .within, c9 .loop .inv .small)
 
 is-ready-requires : tie.Need-is-ready-requires Inv-loop μ-loop
 is-ready-requires c κs =
-    let b = c .before .before .before .before .before .before .before .before .before .before .before .before .before .before .before in
+    let b = c .before .before .before .before .before .before .before .before .before .before .before .before .before .before .before .before in
     b .pre .0
 
 count-requires : tie.Need-count-requires Inv-loop μ-loop
 count-requires c κs =
-    let c8 = c .before .before .before .before .before .before .before .before in
-    let c10 = c8 .before .before in
-    let b = c10 .before .before .before .before .before .before .before in
-    let h = c8 .hunt-on .ensures in
-    (b .pre .0, b .pre .2, omega (arith, c10 .loop .inv .from, h .from), omega (arith, h .before, c10 .loop .inv .within), b .pre .3)
+    let c9 = c .before .before .before .before .before .before .before .before .before in
+    let c11 = c9 .before .before in
+    let b = c11 .before .before .before .before .before .before .before in
+    let h = c9 .hunt-on .ensures in
+    (b .pre .0, b .pre .2, omega (arith, c11 .loop .inv .from, h .from), omega (arith, h .before, c11 .loop .inv .within), b .pre .3)
 
 sub-accept : tie.Need-sub-accept Inv-loop μ-loop
 sub-accept c =
-    let c9 = c .before .before .before .before .before .before .before .before .before in
-    let c11 = c9 .before .before in
-    omega (arith, c11 .loop .inv .from, c9 .hunt-on .ensures .from)
+    let c10 = c .before .before .before .before .before .before .before .before .before .before in
+    let c12 = c10 .before .before in
+    omega (arith, c12 .loop .inv .from, c10 .hunt-on .ensures .from)
 
 returns : tie.Need-returns Inv-loop μ-loop
 returns c =
     let c2 = c .before .before in
     let c3 = c2 .before in
     let c4 = c3 .before in
-    let c6 = c4 .before .before in
-    let c7 = c6 .before in
-    let c8 = c7 .before in
-    let c10 = c8 .before .before in
-    let c12 = c10 .before .before in
-    let c15 = c12 .before .before .before in
-    let b = c15 .before .before .before .before in
-    let h = c10 .hunt-on .ensures in
-    let g = going-on _ _ _ _ _ _ _ _ _ _ _ _ _ _ _ _ (c12 .loop .inv) h in
-    let tested = tested-now (b .args .row) (b .pre .0) _ (h .valid) (c8 .digit-at .result) _ _ (c7 .step .ensures) (c6 .tested-into .ensures .0) in
+    let c8 = c4 .before .before .before .before in
+    let c9 = c8 .before in
+    let c11 = c9 .before .before in
+    let c13 = c11 .before .before in
+    let c16 = c13 .before .before .before in
+    let h = c11 .hunt-on .ensures in
+    let g = going-on _ _ _ _ _ _ _ _ _ _ _ _ _ _ _ _ (c13 .loop .inv) h in
     let ready = sym (c3 .is-ready .ensures) ∙ c2 .if1 .taken in
-    let whole = run-ready _ _ _ _ _ _ _ _ _ _ _ _ _ g (h .before) _ _ _ _ (c8 .digit-at .ensures .0) (c7 .step .ensures) tested (c4 .keep .ensures) _ (c .before .count .ensures) ready in
-    c .accept .ensures ∙ (rw (c15 .core-of .ensures) at whole)
+    let whole = run-ready _ _ _ _ _ _ _ _ _ _ _ _ _ g (h .before) _ _ _ _ (c9 .digit-at .ensures .0) (c8 .step .ensures .0) (c8 .step .ensures .1) (c4 .keep .ensures) _ (c .before .count .ensures) ready in
+    c .accept .ensures ∙ (rw (c16 .core-of .ensures) at whole)
 
 loop-less : tie.Need-loop-less Inv-loop μ-loop
 loop-less c =
-    let c8 = c .before .before .before .before .before .before .before .before in
-    let h = c8 .hunt-on .ensures in
+    let c9 = c .before .before .before .before .before .before .before .before .before in
+    let h = c9 .hunt-on .ensures in
     omega (arith, h .from, h .before)
 
 loop-again : tie.Need-loop-again Inv-loop μ-loop
 loop-again c =
     let c2 = c .before .before in
-    let c4 = c2 .before .before in
-    let c5 = c4 .before in
-    let c6 = c5 .before in
-    let c8 = c6 .before .before in
-    let c10 = c8 .before .before in
-    let b = c10 .before .before .before .before .before .before .before in
-    let h = c8 .hunt-on .ensures in
-    let g = going-on _ _ _ _ _ _ _ _ _ _ _ _ _ _ _ _ (c10 .loop .inv) h in
-    let tested = tested-now (b .args .row) (b .pre .0) _ (h .valid) (c6 .digit-at .result) _ _ (c5 .step .ensures) (c4 .tested-into .ensures .0) in
+    let c6 = c2 .before .before .before .before in
+    let c7 = c6 .before in
+    let c9 = c7 .before .before in
+    let c11 = c9 .before .before in
+    let b = c11 .before .before .before .before .before .before .before in
+    let h = c9 .hunt-on .ensures in
+    let g = going-on _ _ _ _ _ _ _ _ _ _ _ _ _ _ _ _ (c11 .loop .inv) h in
     let on = sym (c .before .is-ready .ensures) ∙ c .if1 .left in
     record {
-      valid = rw (c5 .step .ensures) (step-valid (b .args .row) (b .pre .0) _ (g .valid) (c6 .digit-at .result));
+      valid = rw (c6 .step .ensures .0) (step-valid (b .args .row) (b .pre .0) _ (g .valid) (c7 .digit-at .result));
       counting = g .counting;
       from = omega (arith, g .from);
       upto = omega (arith, h .before);
       ends = g .ends;
       within = g .within;
       small = g .small;
-      most = omega (arith, g .most, g .from, c4 .tested-into .ensures .1);
-      same = run-on _ _ _ _ _ _ _ _ _ _ _ _ _ g (h .before) _ _ _ _ (c6 .digit-at .ensures .0) (c5 .step .ensures) tested (c2 .keep .ensures) on;
+      most = omega (arith, g .most, g .from, c6 .step .ensures .2);
+      same = run-on _ _ _ _ _ _ _ _ _ _ _ _ _ g (h .before) _ _ _ _ (c7 .digit-at .ensures .0) (c6 .step .ensures .0) (c6 .step .ensures .1) (c2 .keep .ensures) on;
     }
 
 count-requires-2 : tie.Need-count-requires-2 Inv-loop μ-loop
@@ -170,5 +165,5 @@ pub run-spec : {M : Type 1} → statement M
 run-spec =
     tie.close
     (tie.spec Inv-loop μ-loop mask-of-requires sub-shift (λ c κs. search needs) add-end loop-holds hunt-on-requires add-words digit-at-requires
-    step-requires (λ c κs. search needs) add-words-2 keep-requires add-p is-ready-requires count-requires sub-accept (λ c κs. search needs) returns
+    step-requires add-words-2 keep-requires add-p is-ready-requires count-requires sub-accept (λ c κs. search needs) returns
     loop-less loop-again count-requires-2 sub-accept-2 (λ c κs. search needs) returns-2)
