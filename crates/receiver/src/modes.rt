@@ -155,23 +155,23 @@ pub fn step(row: Row, mask: usize, c: Core, d: u8) -> Stepped
     }
 }
 
-// How many of so many digits came from the L-th on.
-fn from_the_word(row: Row, came: usize) -> usize
-    requires { ⌜ came < 1000000 ⌝ }
-    ensures { λ r. ⌜ r ≡ came + 1 - row .len ⌝ }
+// How many of so many digits came after so many others.
+fn after(others: usize, came: usize) -> usize
+    ensures { λ r. ⌜ r ≡ came - others ⌝ }
 {
-    if came + 1 < row.len {
+    if came < others {
         return 0;
     }
-    came + 1 - row.len
+    came - others
 }
 
-// How many words the hunt tests while the digits that came grow so.
+// How many words the hunt tests while the digits that came grow so: those of its digits that come after the first L - 1.
 fn tested_in(row: Row, seen: usize, came: usize) -> usize
-    requires { ⌜ (seen ≤ came) × (came < 1000000) ⌝ }
+    requires { ⌜ Shared row × (seen ≤ came) ⌝ }
     ensures { λ r. ⌜ r ≡ testedIn row seen came ⌝ }
 {
-    from_the_word(row, came) - from_the_word(row, seen)
+    let others = row.len - 1;
+    after(others, came) - after(others, seen)
 }
 
 // Where a stretch of the hunt ended: the core, the place of the next digit in the piece, and how many words were tested.

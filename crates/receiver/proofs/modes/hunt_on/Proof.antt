@@ -59,8 +59,7 @@ tested-in-requires : tie.Need-tested-in-requires Inv-loop μ-loop
 tested-in-requires c κs =
     let c6 = c .before .before .before .before .before .before in
     let b = c6 .before .before .before .before in
-    let i = c6 .loop .inv in
-    (omega arith, omega (arith, i .0, i .1, i .2, b .pre .0 .word-short, b .pre .3, b .pre .5))
+    (b .pre .0, omega arith)
 
 returns-2 : tie.Need-returns-2 Inv-loop μ-loop
 returns-2 c =
@@ -116,8 +115,7 @@ tested-in-requires-2 : tie.Need-tested-in-requires-2 Inv-loop μ-loop
 tested-in-requires-2 c κs =
     let c2 = c .before .before in
     let b = c2 .before .before .before .before in
-    let i = c2 .loop .inv in
-    (omega arith, omega (arith, i .0, i .1, i .2, b .pre .0 .word-short, b .pre .3, b .pre .5))
+    (b .pre .0, omega arith)
 
 returns-3 : tie.Need-returns-3 Inv-loop μ-loop
 returns-3 c =
