@@ -127,7 +127,7 @@ static void make_input(struct input *input, const struct row *row)
 static unsigned feed_all(feed_call *feed, uint64_t state[9], uint8_t frame[366], const uint8_t *bytes, size_t length,
                          uint64_t first, uint64_t count)
 {
-    uint64_t answer[3];
+    uint64_t answer[4];
     unsigned frames = 0;
 
     for (; count; first += answer[0], count -= answer[0]) {
@@ -233,7 +233,7 @@ static void compare_demultiplexing(const struct input *input, const uint8_t *lin
 /* Feeds the same pieces, cut anywhere, to all engines; compares every answer and every state. */
 static void compare_receiving(const struct input *input, const uint8_t *line, uint64_t longest)
 {
-    uint64_t place = 0, end = 8 * (uint64_t)input->line_bytes, answer[ENGINES][3], state[ENGINES][9] = {{0}};
+    uint64_t place = 0, end = 8 * (uint64_t)input->line_bytes, answer[ENGINES][4], state[ENGINES][9] = {{0}};
     uint8_t frame[ENGINES][366] = {{0}};
 
     for (unsigned e = 0; e < ENGINES; e++)

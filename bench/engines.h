@@ -16,7 +16,7 @@ typedef uint64_t multiplex_call(uint64_t level, uint8_t *line, size_t line_bytes
 typedef uint64_t demultiplex_call(uint64_t level, const uint8_t *line, size_t line_bytes, uint8_t *notes, size_t notes_bytes,
                                   uint8_t *buffer, size_t buffer_bytes, uint64_t answer[10]);
 typedef uint64_t feed_call(uint64_t state[9], uint8_t frame[366], const uint8_t *piece, size_t piece_bytes,
-                           uint64_t first, uint64_t count, uint64_t answer[3]);
+                           uint64_t first, uint64_t count, uint64_t answer[4]);
 
 multiplex_call plain_multiplex, quick_multiplex;
 demultiplex_call plain_demultiplex, quick_demultiplex;

@@ -156,10 +156,10 @@ static void count_digit(const struct row *row, uint64_t stretch[4], unsigned dig
 
 /* A shift register, digit by digit. */
 uint64_t plain_receiver_feed(uint64_t state[9], uint8_t frame[366], const uint8_t *piece, size_t piece_bytes,
-                             uint64_t first, uint64_t count, uint64_t answer[3])
+                             uint64_t first, uint64_t count, uint64_t answer[4])
 {
     const struct row *row = row_of(state[0]);
-    uint64_t window = state[1], seen = state[2], mode = state[3], place = state[4], taken = 0;
+    uint64_t window = state[1], seen = state[2], mode = state[3], place = state[4], taken = 0, words = 0;
     const uint64_t end = row->frame_digits, last = end - row->word_digits;
 
     (void)piece_bytes;
@@ -173,6 +173,7 @@ uint64_t plain_receiver_feed(uint64_t state[9], uint8_t frame[366], const uint8_
         seen += seen < row->word_digits;
         good = window == row->word;
         if (mode == 0) {
+            words += seen == row->word_digits;
             if (good && seen == row->word_digits) {
                 mode = 1;
                 begin_frame(row, frame, window);
@@ -185,6 +186,7 @@ uint64_t plain_receiver_feed(uint64_t state[9], uint8_t frame[366], const uint8_
         if (place == last && mode >= 3)
             answer[1] = 1;
         if (place == end) {
+            words++;
             mode = judged(mode, good);
             place = 0;
             if (mode)
@@ -197,6 +199,7 @@ uint64_t plain_receiver_feed(uint64_t state[9], uint8_t frame[366], const uint8_
     state[4] = place;
     answer[0] = taken;
     answer[2] = state[8];
+    answer[3] = words;
     return 0;
 }
 

@@ -491,15 +491,20 @@ static size_t follow(const struct row *row, uint64_t state[9], uint8_t *frame, c
 }
 
 uint64_t quick_receiver_feed(uint64_t state[9], uint8_t frame[366], const uint8_t *piece, size_t piece_bytes,
-                             uint64_t first, uint64_t count, uint64_t answer[3])
+                             uint64_t first, uint64_t count, uint64_t answer[4])
 {
     const struct row *row = row_of(state[0]);
-    uint64_t taken = 0;
+    uint64_t taken = 0, words = 0;
 
     answer[1] = 0;
     while (taken < count && !answer[1]) {
         if (state[3] == 0) {
-            taken += hunt(row, state, piece, piece_bytes, first + taken, count - taken);
+            uint64_t unseen = row->word_digits - state[2], now = hunt(row, state, piece, piece_bytes, first + taken, count - taken);
+
+            /* Every digit tests a word, but for those before the L-th. */
+            unseen -= unseen > 0;
+            words += now > unseen ? now - unseen : 0;
+            taken += now;
             if (state[3])
                 begin_frame(row, frame, state[1]);
             continue;
@@ -508,6 +513,7 @@ uint64_t quick_receiver_feed(uint64_t state[9], uint8_t frame[366], const uint8_
         if (state[4] == row->frame_digits - row->word_digits && state[3] >= 3)
             answer[1] = 1;
         if (state[4] == row->frame_digits) {
+            words++;
             state[3] = judged(state[3], state[1] == row->word);
             state[4] = 0;
             if (state[3])
@@ -517,5 +523,6 @@ uint64_t quick_receiver_feed(uint64_t state[9], uint8_t frame[366], const uint8_
     count_digits(row, state + 5, piece, piece_bytes, first, taken);
     answer[0] = taken;
     answer[2] = state[8];
+    answer[3] = words;
     return 0;
 }

@@ -97,7 +97,7 @@
  *
  *     static void receive(const uint8_t *bytes, size_t length)
  *     {
- *         uint64_t state[9], answer[3], first = 0, digits = 8 * (uint64_t)length;
+ *         uint64_t state[9], answer[4], first = 0, digits = 8 * (uint64_t)length;
  *         uint8_t frame[366];
  *
  *         spritbobbin_receiver_fresh(2, state, frame);
@@ -226,6 +226,7 @@ enum {
     SPRITBOBBIN_TAKEN = 0,       /* receiver: digits taken */
     SPRITBOBBIN_READY = 1,       /* receiver: 1 if a frame is ready */
     SPRITBOBBIN_ALARM = 2,       /* receiver: 1 if alarm indication stands at the end */
+    SPRITBOBBIN_WORDS = 3,       /* receiver: words tested */
     SPRITBOBBIN_FILE_BYTES = 0,  /* writing a capture: bytes of the file; then the named byte, 0 */
     SPRITBOBBIN_FILE_LEVEL = 0,  /* reading a capture: the level */
     SPRITBOBBIN_LINE_START = 1,  /* the line's first byte in the file */
@@ -307,11 +308,16 @@ uint64_t spritbobbin_receiver_fresh(uint64_t level, uint64_t state[9], uint8_t f
  * A stream may be cut into pieces anywhere; a piece of no digits changes nothing. The state may be
  * looked at, copied and put back; the frame in hand belongs to it.
  *
- * answer: digits taken, 1 if a frame is ready, 1 if alarm indication stands at the end. Returns
- * 0, 6, 2 or 7.
+ * From any state it is aligned after at most eight frames of a line of correct frames, begun
+ * anywhere in a frame, in which no other digits look like the word. The words tested measure the
+ * work: the digits taken at which the last digits are compared with the word. In hunting that is
+ * every digit from the L-th since the fresh state on, else the digit where a word is due.
+ *
+ * answer: digits taken, 1 if a frame is ready, 1 if alarm indication stands at the end, words
+ * tested. Returns 0, 6, 2 or 7.
  */
 uint64_t spritbobbin_receiver_feed(uint64_t state[9], uint8_t frame[366], const uint8_t *piece, size_t piece_bytes,
-                                   uint64_t first, uint64_t count, uint64_t answer[3]);
+                                   uint64_t first, uint64_t count, uint64_t answer[4]);
 
 /* What stands where in the answer and the state of the finder of 2048 kbit/s frames, its mode
    numbers, and its places. */

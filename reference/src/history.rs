@@ -15,14 +15,14 @@ pub struct HandedOver {
     pub bytes: [u8; STORE_BYTES],
 }
 
-/// All frames that the stream hands over, and the state that it leaves. A level that is
-/// not 2, 3 or 4 takes no digits.
-pub fn whole(level: u64, stream: &[u8]) -> (Vec<HandedOver>, State) {
+/// All frames that the stream hands over, how many words it tests, and the state that it
+/// leaves. A level that is not 2, 3 or 4 takes no digits.
+pub fn whole(level: u64, stream: &[u8]) -> (Vec<HandedOver>, usize, State) {
     let (_, mut state) = fresh(level);
-    let mut frames = Vec::new();
+    let (mut frames, mut words) = (Vec::new(), 0);
     let row = match row(level) {
         Some(row) => row,
-        None => return (frames, state),
+        None => return (frames, words, state),
     };
     let length = row.word_length();
     state.seen = stream.len().min(length) as u64;
@@ -31,6 +31,8 @@ pub fn whole(level: u64, stream: &[u8]) -> (Vec<HandedOver>, State) {
     let mut from = length;
     while let Some(found) = next_word(row, stream, from) {
         let run = follow(row, stream, found);
+        // The search compared at each digit up to this one, and the run at each of its checks.
+        words += found + 1 - from + run.modes.len() - 1 + usize::from(run.lost.is_some());
         frames.extend(run.handed_over(row, stream));
         state.frame = run.in_hand(row, stream);
         let lost = match run.lost {
@@ -38,13 +40,13 @@ pub fn whole(level: u64, stream: &[u8]) -> (Vec<HandedOver>, State) {
             None => {
                 state.mode = *run.modes.last().unwrap_or(&0);
                 state.place = (stream.len() - run.last_word(row)) as u64;
-                break;
+                return (frames, words, state);
             }
         };
         // The digit of the failed check is not looked at again, the digits before it are.
         from = lost + 1;
     }
-    (frames, state)
+    (frames, words + (stream.len() + 1).saturating_sub(from), state)
 }
 
 /// The stretches of the stream: the alarm is what the last two neighbours that were alike

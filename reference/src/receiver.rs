@@ -30,6 +30,8 @@ pub struct Fed {
     pub ready: bool,
     /// Whether the alarm stands at the end.
     pub alarm: bool,
+    /// At how many of the digits the rule asked for a good word.
+    pub words: u64,
     pub state: State,
 }
 
@@ -59,17 +61,18 @@ pub fn feed(state: &State, piece: &[u8], first: u64, count: u64) -> Fed {
         Some(row) => row,
         None => {
             let state = state.clone();
-            return Fed { refusal, taken: 0, ready: false, alarm: false, state };
+            return Fed { refusal, taken: 0, ready: false, alarm: false, words: 0, state };
         }
     };
     let mut receiver = Receiver::of(row, state);
-    let (mut taken, mut ready) = (0, false);
+    let (mut taken, mut words, mut ready) = (0, 0, false);
     while taken < count && !ready {
-        receiver.digit(line_digit(piece, first + taken) as u8);
+        words += u64::from(receiver.digit(line_digit(piece, first + taken) as u8));
         taken += 1;
         ready = receiver.hands_over();
     }
-    Fed { refusal: 0, taken, ready, alarm: receiver.stretches.alarm, state: receiver.state() }
+    let (alarm, state) = (receiver.stretches.alarm, receiver.state());
+    Fed { refusal: 0, taken, ready, alarm, words, state }
 }
 
 /// The digit at a place of the line, or 2 where the line has ended.
@@ -183,8 +186,10 @@ impl Receiver<'_> {
         }
     }
 
-    /// One digit: the window first, then the row of the table, then the frame in hand.
-    fn digit(&mut self, digit: u8) {
+    /// One digit: the window first, then the row of the table, then the frame in hand. Answers
+    /// whether the rule of the mode asked for a good word: in hunting from the L-th digit since
+    /// reset on, else where the place comes to N.
+    fn digit(&mut self, digit: u8) -> bool {
         self.stretches.digit(self.row, digit);
         let length = self.row.word_length();
         self.window.remove(0);
@@ -192,15 +197,23 @@ impl Receiver<'_> {
         self.seen = length.min(self.seen + 1);
         let good = self.window == self.word;
         match self.mode {
-            Mode::Hunting if good && self.seen >= length => self.go(Mode::OneFound),
-            Mode::Hunting => {}
+            Mode::Hunting if self.seen < length => false,
+            Mode::Hunting => {
+                if good {
+                    self.go(Mode::OneFound);
+                }
+                true
+            }
             _ => {
                 self.place += 1;
                 if self.place == self.row.frame_digits {
                     self.go(self.next_mode(good));
-                } else if self.place <= self.last_place() {
+                    return true;
+                }
+                if self.place <= self.last_place() {
                     self.store[length - 1 + self.place] = digit;
                 }
+                false
             }
         }
     }

@@ -43,7 +43,7 @@ extern "C" {
         frame: &mut [u8; STORE],
     ) -> u64;
 
-    /// Answer: digits taken, 1 if a frame is ready, 1 if the alarm stands at the end.
+    /// Answer: digits taken, 1 if a frame is ready, 1 if the alarm stands at the end, words tested.
     pub fn spritbobbin_receiver_feed(
         state: &mut [u64; 9],
         frame: &mut [u8; STORE],
@@ -51,7 +51,7 @@ extern "C" {
         piece_bytes: usize,
         first: u64,
         count: u64,
-        answer: &mut [u64; 3],
+        answer: &mut [u64; 4],
     ) -> u64;
 
     /// 0 or 1, or 2 where the line has ended.

@@ -93,6 +93,9 @@ pub struct Taken {
     pub frame: Option<Frame>,
     /// Whether alarm indication stands after the last of them.
     pub alarm: bool,
+    /// At how many of them the last digits were compared with the word: while hunting at every
+    /// digit, once as many came as the word has, else where a word is due.
+    pub words: usize,
 }
 
 impl Receiver {
@@ -205,14 +208,14 @@ impl Receiver {
     /// let mut receiver = Receiver::new(Level::Two);
     /// let piece = [0b0011_1101, 0b0000_1111]; // 00, the word, 1111
     /// let taken = receiver.take(&piece, 2, 10)?;
-    /// assert_eq!(taken.digits, 10);
+    /// assert_eq!((taken.digits, taken.words), (10, 1));
     /// assert_eq!(taken.frame, None);
     /// assert_eq!(receiver.mode(), Mode::OneFound);
     /// # Ok(())
     /// # }
     /// ```
     pub fn take(&mut self, piece: &[u8], first: usize, count: usize) -> Result<Taken, Refusal> {
-        let mut answer = [0; 3];
+        let mut answer = [0; 4];
         // Sound: the arrays have the lengths that the library reads and writes, the pointer comes
         // with its slice's length, and what may be written is borrowed exclusively.
         let number = unsafe {
@@ -235,9 +238,14 @@ impl Receiver {
         }
     }
 
-    fn taken(&self, [digits, ready, alarm]: [u64; 3]) -> Taken {
+    fn taken(&self, [digits, ready, alarm, words]: [u64; 4]) -> Taken {
         let frame = Frame { level: self.level, store: self.store };
-        Taken { digits: count(digits), frame: (ready == 1).then_some(frame), alarm: alarm == 1 }
+        Taken {
+            digits: count(digits),
+            frame: (ready == 1).then_some(frame),
+            alarm: alarm == 1,
+            words: count(words),
+        }
     }
 
     /// The next frame that a piece completes from a digit on, which is moved past what was taken;

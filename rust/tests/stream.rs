@@ -42,6 +42,34 @@ fn pieces_of_any_size_give_the_same_frames() {
     }
 }
 
+/// The words that a receiver tests in pieces of at most so many digits.
+fn words(level: Level, stream: &[u8], size: usize) -> usize {
+    let (mut receiver, mut first, mut words) = (Receiver::new(level), 0, 0);
+    while first < 8 * stream.len() {
+        let count = size.min(8 * stream.len() - first);
+        let taken = receiver.take(stream, first, count).unwrap();
+        first += taken.digits;
+        words += taken.words;
+    }
+    words
+}
+
+#[test]
+fn words_tested_add_up() {
+    // Fewer digits than a word has test none, eleven test two of ten.
+    assert_eq!(words(Level::Two, &[0], 8), 0);
+    assert_eq!(Receiver::new(Level::Two).take(&[0, 0], 0, 11).unwrap().words, 2);
+    for level in Level::ALL {
+        // One word to a frame, from the first digits on.
+        assert_eq!(words(level, &line(level, 8), usize::MAX), 8);
+        let stream = [&[0x5B; 33][..], &line(level, 8)].concat();
+        let whole = words(level, &stream, usize::MAX);
+        for size in [1, 7, 1000] {
+            assert_eq!(words(level, &stream, size), whole, "{level}, pieces of {size} digits");
+        }
+    }
+}
+
 #[test]
 fn a_slice_longer_than_one_piece() {
     let line = line(Level::Four, 64).repeat(10); // over three pieces of 65,536 bytes

@@ -125,14 +125,14 @@ static void names_the_frame(void)
 static void refused_piece(uint64_t state[9], uint8_t frame[366], const uint8_t *piece, size_t piece_bytes,
                           uint64_t first, uint64_t count, uint64_t refusal)
 {
-    uint64_t before[9], answer[3];
+    uint64_t before[9], answer[4];
     uint8_t frame_before[366];
 
     memcpy(before, state, sizeof before);
     memcpy(frame_before, frame, sizeof frame_before);
     memset(answer, 0xA5, sizeof answer);
     check(spritbobbin_receiver_feed(state, frame, piece, piece_bytes, first, count, answer) == refusal, "the refusal of a piece");
-    check(all_zero(answer, 3), "of a refused piece nothing is taken");
+    check(all_zero(answer, 4), "of a refused piece nothing is taken, and no word is tested");
     check(!memcmp(before, state, sizeof before) && !memcmp(frame_before, frame, 366), "a refused piece changes nothing");
 }
 
@@ -140,11 +140,12 @@ static void refused_piece(uint64_t state[9], uint8_t frame[366], const uint8_t *
 static void alarm(uint64_t state[9], uint8_t frame[366])
 {
     uint8_t *ones = lend(2 * SPRITBOBBIN_FRAME_BYTES_2, 0xFF);
-    uint64_t answer[3];
+    uint64_t answer[4];
 
     spritbobbin_receiver_fresh(2, state, frame);
     check(spritbobbin_receiver_feed(state, frame, ones, 212, 0, 1695, answer) == 0, "ones are taken");
     check(answer[SPRITBOBBIN_TAKEN] == 1695 && answer[SPRITBOBBIN_ALARM] == 0, "no alarm a digit before");
+    check(answer[SPRITBOBBIN_WORDS] == 1686, "a word tested at every digit from the tenth on");
     check(state[SPRITBOBBIN_STATE_DIGITS] == 847 && state[SPRITBOBBIN_STATE_ZEROS] == 0, "the stretch");
     check(spritbobbin_receiver_feed(state, frame, ones, 212, 1695, 1, answer) == 0, "the last digit");
     check(answer[SPRITBOBBIN_ALARM] == 1 && state[SPRITBOBBIN_STATE_ALARM] == 1, "alarm indication");
@@ -160,7 +161,7 @@ static void receiver(void)
 {
     size_t length = 4 * SPRITBOBBIN_FRAME_BYTES_2, i;
     uint8_t *stream = lend(length, 0), *frame = lend(366, 0xA5), *long_one = lend(SPRITBOBBIN_MOST_BYTES + 1, 0);
-    uint64_t state[9], answer[3];
+    uint64_t state[9], answer[4];
 
     for (i = 0; i < length; i += SPRITBOBBIN_FRAME_BYTES_2)
         stream[i] = 0xF4;
@@ -169,13 +170,14 @@ static void receiver(void)
 
     check(spritbobbin_receiver_feed(state, frame, stream, length, 0, 3392, answer) == 0, "case 11 is accepted");
     check(answer[SPRITBOBBIN_TAKEN] == 2544 && answer[SPRITBOBBIN_READY] == 1, "the first frame of case 11");
+    check(answer[SPRITBOBBIN_WORDS] == 3, "three words tested");
     check(frame[0] == 0xF4 && all(frame + 1, 365, 0) && answer[SPRITBOBBIN_ALARM] == 0, "case 1's bytes");
     check(spritbobbin_receiver_feed(state, frame, stream, length, 2544, 848, answer) == 0, "case 11 goes on");
     check(answer[SPRITBOBBIN_TAKEN] == 848 && answer[SPRITBOBBIN_READY] == 1, "the second frame of case 11");
     check(frame[0] == 0xF4 && all(frame + 1, 365, 0), "the same bytes");
     check(state[SPRITBOBBIN_STATE_MODE] == SPRITBOBBIN_ALIGNED && state[SPRITBOBBIN_STATE_PLACE] == 838, "aligned");
 
-    check(spritbobbin_receiver_feed(state, frame, NULL, 0, 0, 0, answer) == 0 && all_zero(answer, 3), "an empty piece");
+    check(spritbobbin_receiver_feed(state, frame, NULL, 0, 0, 0, answer) == 0 && all_zero(answer, 4), "an empty piece");
     refused_piece(state, frame, stream, length, 1, 3392, SPRITBOBBIN_REFUSED_DIGITS);
     refused_piece(state, frame, stream, length, UINT64_MAX, 2, SPRITBOBBIN_REFUSED_DIGITS);
     refused_piece(state, frame, long_one, SPRITBOBBIN_MOST_BYTES + 1, 0, 1, SPRITBOBBIN_REFUSED_LINE);

@@ -26,10 +26,12 @@ pub const STREAM: usize = 3;
 
 pub const PREFIX: usize = 4;
 
-// How far it is: the receiver, the digits it has taken, whether alignment was ever found, the frames held, and those taken apart.
+// How far it is: the receiver, the digits it has taken and the words it has tested, whether alignment was ever found, the frames held, and
+// those taken apart.
 pub struct Finding {
     pub state: State,
     pub digits: usize,
+    pub words: usize,
     pub found: bool,
     pub held: usize,
     pub passage: Passage,
@@ -76,6 +78,7 @@ fn start(level: u64, open: OpenFiles) -> Finding {
     Finding {
         state,
         digits: 0,
+        words: 0,
         found: false,
         held: 0,
         passage: passage::start(open),
@@ -178,6 +181,7 @@ fn after(row: Row, level: u64, heard: Heard, line: &mut [u8], t: Finding) -> Fin
     let u = Finding {
         state,
         digits,
+        words: sizes::plus(t.words, fed.words),
         found: t.found || found,
         held: t.held,
         passage: t.passage,
@@ -280,6 +284,7 @@ fn end(row: Row, t: Finding, writes: bool) {
     say_found(row, t.found);
     say::line(b"frames handed over: ", totals.frames);
     passage::say_totals(totals);
+    say::line(b"words tested: ", t.words);
     say_mode(mode);
     if writes {
         keep();

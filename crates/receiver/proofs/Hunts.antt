@@ -4,8 +4,9 @@ use mathlib.Core.Bool.{true, false, true≢false}
 use mathlib.Core.List.{List}
 use Prim.Native.Nat.{ℕ, suc, _+_, _*_, _-_, _≤_, _<_, min}
 use native.Mathlib.Omega.{arith}
-use borrow.Author.Tests.{ltb-true, ltb-false}
-use lib.Dec.{ltb}
+use native.Mathlib.Nat.{add-assoc}
+use borrow.Author.Tests.{ltb-true, ltb-false, leb-true, leb-false}
+use lib.Dec.{leb, ltb}
 use lib.ListN.{length, getD}
 use Rattle.digits.specs.Digits.{digitsOf, between}
 use Rattle.levels.specs.declared.table.Row.{Row}
@@ -15,10 +16,10 @@ use Rattle.receiver.specs.declared.Mode.the-variants.{Hunting, OneFound,
 use Rattle.receiver.specs.declared.modes.Core.{Core}
 use Rattle.receiver.specs.declared.alarm.Stretch.{Stretch}
 use Rattle.receiver.specs.Alarm.{countOf, counted}
-use Rattle.receiver.specs.Modes.{hunting, windowOf, seenOf, good, asks, placeAfter, afterDigit, stepOf}
+use Rattle.receiver.specs.Modes.{hunting, windowOf, seenOf, good, asks, testedAt, placeAfter, afterDigit, stepOf}
 use Rattle.receiver.specs.Frame.{keepOf, readyOf}
 use Rattle.receiver.specs.Feed.{stateOf, afterOf, runOf, pieceOf, Valid}
-use Rattle.receiver.specs.Hunt.{stillHunting, Hunted}
+use Rattle.receiver.specs.Hunt.{stillHunting, testedIn, Hunted}
 use Rattle.receiver.proofs.Validity.{cond-told, step-valid}
 use Rattle.receiver.proofs.Counts.{counted-none, counted-one}
 use Rattle.receiver.proofs.Runs.{piece-step}
@@ -64,47 +65,88 @@ unfolding readyOf stillHunting
 ready-still row w came = refl
 
 -- such a digit is the first of a piece, and no frame is ready after it
-run-still : (row : Row) (slice : List ℕ) (at end w came d level taken : ℕ) (f : List ℕ) (st : Stretch)
+run-still : (row : Row) (slice : List ℕ) (at end w came d level taken words : ℕ) (f : List ℕ) (st : Stretch)
     → at < end → end ≤ 8 * length slice → d ≡ getD (digitsOf slice) at 0 → good row (windowOf row w d) ≡ false
-    → runOf row (pieceOf slice at (end - at)) taken (stateOf level (stillHunting row w came) f st)
-    ≡ runOf row (pieceOf slice (at + 1) (end - (at + 1))) (suc taken)
+    → runOf row (pieceOf slice at (end - at)) taken words (stateOf level (stillHunting row w came) f st)
+    ≡ runOf row (pieceOf slice (at + 1) (end - (at + 1))) (suc taken) (words + testedAt row (stillHunting row w came))
     (stateOf level (stillHunting row (windowOf row w d) (came + 1)) f (countOf row st d))
 unfolding runOf
-run-still row slice at end w came d level taken f st h within ed bad =
+run-still row slice at end w came d level taken words f st h within ed bad =
     rw (piece-step slice at end h within, ← ed, after-still row w came d level f st bad, ready-still row (windowOf row w d) (came + 1))
 
+-- ---- the words that the hunt tests, one digit more
+
+tested-still : (row : Row) (w came : ℕ) → came + 1 + 1 - row .len ≡ came + 1 - row .len + testedAt row (stillHunting row w came)
+unfolding testedAt stillHunting asks
+tested-still row w came =
+    rw (seen-one row came)
+    (cond-told (λ (n : ℕ). came + 1 + 1 - row .len ≡ came + 1 - row .len + n) (leb (row .len) (min (came + 1) (row .len)))
+    (λ e. omega (arith, leb-true (row .len) (min (came + 1) (row .len)) e)) (λ e. omega (arith, leb-false (row .len) (min (came + 1) (row .len)) e)))
+
+tested-one : (row : Row) (c : Core) → testedAt row c ≤ 1
+unfolding testedAt
+tested-one row c = cond-told (λ (n : ℕ). n ≤ 1) (asks row (seenOf row (c .seen)) (c .mode) (c .place)) (λ _. omega arith) (λ _. omega arith)
+
+tested-more : (row : Row) (w seen came : ℕ) → seen ≤ came → testedIn row seen (came + 1) ≡ testedIn row seen came + testedAt row (stillHunting row w came)
+tested-more row w seen came h =
+    grown (came + 1 - row .len) (came + 1 + 1 - row .len) (seen + 1 - row .len) (testedAt row (stillHunting row w came)) (tested-still row w came) (omega arith)
+  where
+    grown : (x y b t : ℕ) → y ≡ x + t → b ≤ x → y - b ≡ x - b + t
+    grown x y b t e h = omega arith
+
+most-more : (x y t at p : ℕ) → y ≡ x + t → t ≤ 1 → x ≤ at - p → p ≤ at → y ≤ at + 1 - p
+most-more x y t at p e one h from = omega arith
+
+-- ---- the hunt
+
 module _ (row : Row) (sh : Shared row) (slice : List ℕ) (end p : ℕ) where
-  pub hunted-none : (c : Core) → Valid row c → p < end → Hunted row slice end p c p c
+  pub hunted-none : (c : Core) → Valid row c → p < end → Hunted row slice end p c p 0 c
   hunted-none c v h =
       let none : p - p ≡ 0 = omega arith in
-      record { valid = v; from = omega arith; before = h; same = λ level taken f st. rw (← counted-none row slice st p, none, nothing taken) }
+      record {
+        valid = v;
+        from = omega arith;
+        before = h;
+        most = omega arith;
+        same = λ level taken words f st. rw (← counted-none row slice st p, none, nothing taken, nothing words);
+      }
     where
       nothing : (t : ℕ) → t + 0 ≡ t
       nothing t = omega arith
 
   pub hunted-begin : (c : Core) → Valid row c → hunting (c .mode) ≡ true → p < end
-      → Hunted row slice end p (stillHunting row (c .window) (c .seen)) p (stillHunting row (c .window) (c .seen + (p - p)))
+      → Hunted row slice end p (stillHunting row (c .window) (c .seen)) p (testedIn row (c .seen) (c .seen + (p - p)))
+      (stillHunting row (c .window) (c .seen + (p - p)))
   hunted-begin c v e h =
       let none : c .seen + (p - p) ≡ c .seen = omega arith in
-      rw none (hunted-none (stillHunting row (c .window) (c .seen)) (subst (Valid row) (hunting-core row c v e) v) h)
+      let none-tested : c .seen + 1 - row .len - (c .seen + 1 - row .len) ≡ 0 = omega arith in
+      rw (none, none-tested) (hunted-none (stillHunting row (c .window) (c .seen)) (subst (Valid row) (hunting-core row c v e) v) h)
 
   -- equal cores, equal answers
-  pub hunted-is : (c c₀ : Core) (at : ℕ) (r c′ : Core) → c ≡ c₀ → r ≡ c′ → Hunted row slice end p c₀ at c′ → Hunted row slice end p c at r
-  hunted-is c c₀ at r c′ e e′ h = rw (e, e′) h
+  pub hunted-is : (c c₀ : Core) (at n n′ : ℕ) (r c′ : Core) → c ≡ c₀ → r ≡ c′ → n ≡ n′
+      → Hunted row slice end p c₀ at n′ c′ → Hunted row slice end p c at n r
+  hunted-is c c₀ at n n′ r c′ e e′ e″ h = rw (e, e′, e″) h
 
-  pub hunted-more : (c₀ : Core) (at w came d next : ℕ) → Hunted row slice end p c₀ at (stillHunting row w came)
-      → at + 1 < end → end ≤ 8 * length slice → d ≡ getD (digitsOf slice) at 0 → next ≡ windowOf row w d → good row next ≡ false
-      → Hunted row slice end p c₀ (at + 1) (stillHunting row next (came + 1))
-  hunted-more c₀ at w came d next h room within ed en bad =
+  pub hunted-more : (c₀ : Core) (seen at w came d next : ℕ) → Hunted row slice end p c₀ at (testedIn row seen came) (stillHunting row w came)
+      → seen ≤ came → at + 1 < end → end ≤ 8 * length slice → d ≡ getD (digitsOf slice) at 0 → next ≡ windowOf row w d → good row next ≡ false
+      → Hunted row slice end p c₀ (at + 1) (testedIn row seen (came + 1)) (stillHunting row next (came + 1))
+  hunted-more c₀ seen at w came d next h grows room within ed en bad =
       let bad′ : good row (windowOf row w d) ≡ false = rw en at bad in
       let step = still-step row w came d bad′ in
+      let tests = testedAt row (stillHunting row w came) in
+      let one = tested-more row w seen came grows in
       record {
         valid = rw (en, ← step) (step-valid row sh (stillHunting row w came) (h .valid) d);
         from = omega (arith, h .from);
         before = room;
-        same = λ level taken f st.
+        most =
+            most-more (testedIn row seen came) (testedIn row seen (came + 1)) tests at p one (tested-one row (stillHunting row w came))
+            (h .most) (h .from);
+        same = λ level taken words f st.
             let t : taken + (at + 1 - p) ≡ suc (taken + (at - p)) = omega (arith, h .from) in
-            h .same level taken f st
-            ∙ rw (en, t, counted-one row slice st p at d (h .from) (omega arith) ed)
-            (run-still row slice at end w came d level (taken + (at - p)) f (counted row st (between slice p at)) (omega arith) within ed bad′);
+            let n : words + testedIn row seen (came + 1) ≡ words + testedIn row seen came + tests =
+            rw one (sym (add-assoc words (testedIn row seen came) tests)) in
+            h .same level taken words f st
+            ∙ rw (en, t, n, counted-one row slice st p at d (h .from) (omega arith) ed)
+            (run-still row slice at end w came d level (taken + (at - p)) (words + testedIn row seen came) f (counted row st (between slice p at)) (omega arith) within ed bad′);
       }

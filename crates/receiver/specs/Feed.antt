@@ -1,5 +1,5 @@
 -- The two calls: a fresh state, and a piece fed to a state. Document 01, "Finding frames in a stream" and "Refusal numbers", and
--- document 02, request 4.
+-- document 02, requests 4 and 8.
 use mathlib.Core.Path.{_≡_}
 use mathlib.Core.Bool.{Bool, cond, true, false, not, _&&_, _||_}
 use mathlib.Core.List.{List, [], _∷_}
@@ -17,7 +17,7 @@ use Rattle.receiver.specs.declared.alarm.Stretch.{Stretch}
 use Rattle.receiver.specs.declared.State.{State}
 use Rattle.receiver.specs.declared.Made.{Made}
 use Rattle.receiver.specs.declared.Fed.{Fed}
-use Rattle.receiver.specs.Modes.{hunting, missed, stepOf}
+use Rattle.receiver.specs.Modes.{hunting, missed, stepOf, testedAt}
 use Rattle.receiver.specs.Frame.{keepOf, readyOf}
 use Rattle.receiver.specs.Alarm.{countOf, freshStretch, uncounted, Counting}
 
@@ -66,9 +66,10 @@ unfoldable pub refusalOf : Row → Core → Stretch → ℕ → ℕ → ℕ → 
 refusalOf row c st bytes first count =
     cond (invalid row c || uncounted row st) 6 (cond (ltb 65536 bytes) 2 (cond (ltb (8 * bytes) (first + count)) 7 0))
 
--- "Under a refusal .. digits taken are 0, no frame is ready, a state comes back equal"; the alarm "under a refusal none"
+-- "Under a refusal .. digits taken are 0, no frame is ready, a state comes back equal"; the alarm "under a refusal none", and no word
+-- is tested
 abbrev pub refused : ℕ → State → Fed
-refused number s = record { refusal = number; taken = 0; ready = false; alarm = false; state = s }
+refused number s = record { refusal = number; taken = 0; ready = false; alarm = false; words = 0; state = s }
 
 -- ---- the run over a piece
 
@@ -78,16 +79,17 @@ afterOf row s d =
     stateOf (s .level) (stepOf row (coreOf s) d) (keepOf row (stepOf row (coreOf s) d) d (s .frame))
     (countOf row (s .stretch) d)
 
--- "It reports digits taken, whether a frame is ready", and "the alarm at its end"
-abbrev pub accepted : State → ℕ → Bool → Fed
-accepted s taken ready = record { refusal = 0; taken = taken; ready = ready; alarm = s .stretch .alarm; state = s }
+-- "It reports digits taken, whether a frame is ready", "the alarm at its end", and the words tested
+abbrev pub accepted : State → ℕ → ℕ → Bool → Fed
+accepted s taken words ready = record { refusal = 0; taken = taken; ready = ready; alarm = s .stretch .alarm; words = words; state = s }
 
--- these digits, where so many were taken before: it "stops after the digit that completes a frame, or at the end of the piece"
-unfoldable pub runOf : Row → List ℕ → ℕ → State → Fed
-runOf row [] taken s = accepted s taken false
-runOf row (d ∷ ds) taken s =
-    cond (readyOf row (coreOf (afterOf row s d))) (accepted (afterOf row s d) (suc taken) true)
-    (runOf row ds (suc taken) (afterOf row s d))
+-- these digits, where so many were taken and so many words tested before: it "stops after the digit that completes a frame, or at
+-- the end of the piece", and each digit taken tests a word or none
+unfoldable pub runOf : Row → List ℕ → ℕ → ℕ → State → Fed
+runOf row [] taken words s = accepted s taken words false
+runOf row (d ∷ ds) taken words s =
+    cond (readyOf row (coreOf (afterOf row s d))) (accepted (afterOf row s d) (suc taken) (words + testedAt row (coreOf s)) true)
+    (runOf row ds (suc taken) (words + testedAt row (coreOf s)) (afterOf row s d))
 
 -- the digits of a piece: so many of a slice, from a first one on
 abbrev pub pieceOf : List ℕ → ℕ → ℕ → List ℕ
@@ -95,7 +97,7 @@ pieceOf slice first count = take count (drop first (digitsOf slice))
 
 unfoldable pub feedRow : Row → State → List ℕ → ℕ → ℕ → Fed
 feedRow row s slice first count =
-    cond (eqb (refusalOf row (coreOf s) (s .stretch) (length slice) first count) 0) (runOf row (pieceOf slice first count) 0 s)
+    cond (eqb (refusalOf row (coreOf s) (s .stretch) (length slice) first count) 0) (runOf row (pieceOf slice first count) 0 0 s)
     (refused (refusalOf row (coreOf s) (s .stretch) (length slice) first count) s)
 
 -- "level wrong" is the first item of 6

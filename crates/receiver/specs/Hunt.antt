@@ -13,11 +13,17 @@ use Rattle.receiver.specs.Feed.{stateOf, runOf, pieceOf, Valid}
 unfoldable pub stillHunting : Row → ℕ → ℕ → Core
 stillHunting row w came = record { window = w; seen = min came (row .len); mode = Hunting; place = 0 }
 
--- from core c at digit p of a slice, of which the digits before `end` are to be taken, it went to core c′ at digit at
-pub record Hunted (row : Row) (slice : List ℕ) (end p : ℕ) (c : Core) (at : ℕ) (c′ : Core) : Type 0 where
+-- hunting, every digit from the L-th since reset on tests a word: so many while the digits that came grow from seen to came
+abbrev pub testedIn : Row → ℕ → ℕ → ℕ
+testedIn row seen came = came + 1 - row .len - (seen + 1 - row .len)
+
+-- from core c at digit p of a slice, of which the digits before `end` are to be taken, it went to core c′ at digit at, and tested so
+-- many words
+pub record Hunted (row : Row) (slice : List ℕ) (end p : ℕ) (c : Core) (at tested : ℕ) (c′ : Core) : Type 0 where
   pub valid : Valid row c′
   pub from : p ≤ at
   pub before : at < end
-  pub same : (level taken : ℕ) (f : List ℕ) (st : Stretch)
-      → runOf row (pieceOf slice p (end - p)) taken (stateOf level c f st)
-      ≡ runOf row (pieceOf slice at (end - at)) (taken + (at - p)) (stateOf level c′ f (counted row st (between slice p at)))
+  pub most : tested ≤ at - p
+  pub same : (level taken words : ℕ) (f : List ℕ) (st : Stretch)
+      → runOf row (pieceOf slice p (end - p)) taken words (stateOf level c f st)
+      ≡ runOf row (pieceOf slice at (end - at)) (taken + (at - p)) (words + tested) (stateOf level c′ f (counted row st (between slice p at)))

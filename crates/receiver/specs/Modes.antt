@@ -42,6 +42,10 @@ good row w = eqb w (row .word)
 unfoldable pub asks : Row → ℕ → Mode → ℕ → Bool
 asks row seen mode place = cond (hunting mode) (leb (row .len) seen) (eqb (place + 1) (row .digits))
 
+-- "Words tested": 1 at a digit at which the rule of the mode, as it is before the digit, asks for good; 0 at any other
+unfoldable pub testedAt : Row → Core → ℕ
+testedAt row c = cond (asks row (seenOf row (c .seen)) (c .mode) (c .place)) 1 0
+
 -- the rows of the table at such a digit: the mode if the word is good, and else. The place is then 0
 abbrev pub judged : Mode → Bool → Mode
 judged Hunting g = cond g OneFound Hunting

@@ -66,12 +66,14 @@ pub struct Made {
     pub state: State,
 }
 
-// What a piece gives: digits taken, whether a frame is ready (it is in the state), and whether the alarm stands at its end.
+// What a piece gives: digits taken, whether a frame is ready (it is in the state), whether the alarm stands at its end, and how many
+// words were tested.
 pub struct Fed {
     pub refusal: u64,
     pub taken: usize,
     pub ready: bool,
     pub alarm: bool,
+    pub words: usize,
     pub state: State,
 }
 
@@ -178,12 +180,21 @@ pub fn refuse(refusal: u64, s: State) -> Fed
         taken: 0,
         ready: false,
         alarm: false, // whatever the state says
+        words: 0,
         state: s,
     }
 }
 
-fn accept(level: u64, c: Core, f: [u8; 366], st: Stretch, taken: usize, ready: bool) -> Fed
-    ensures { λ r. ⌜ r ≡ accepted (stateOf level c f st) taken ready ⌝ }
+fn accept(
+    level: u64,
+    c: Core,
+    f: [u8; 366],
+    st: Stretch,
+    taken: usize,
+    words: usize,
+    ready: bool,
+) -> Fed
+    ensures { λ r. ⌜ r ≡ accepted (stateOf level c f st) taken words ready ⌝ }
 {
     let mode = c.mode;
     let alarm = st.alarm;
@@ -192,6 +203,7 @@ fn accept(level: u64, c: Core, f: [u8; 366], st: Stretch, taken: usize, ready: b
         taken,
         ready,
         alarm,
+        words,
         state: State {
             level,
             window: c.window,
@@ -205,10 +217,10 @@ fn accept(level: u64, c: Core, f: [u8; 366], st: Stretch, taken: usize, ready: b
 }
 
 // The run over an accepted piece. The core goes round by value, the array is lent; the zeros are counted at the end, over the
-// digits taken.
+// digits taken. The words that the hunt tests in its hurry are added first, then the word that the digit after it tests.
 fn run(row: Row, s: State, piece: &[u8], first: usize, count: usize) -> Fed
     requires { ⌜ Shared row × Valid row (coreOf s) × Counting row (s .stretch) × (length (now piece) ≤ 65536) × (first + count ≤ 8 * length (now piece)) ⌝ }
-    ensures { λ r. ⌜ r ≡ runOf row (pieceOf (now (piece .entry)) first count) 0 s ⌝ }
+    ensures { λ r. ⌜ r ≡ runOf row (pieceOf (now (piece .entry)) first count) 0 0 s ⌝ }
 {
     let level = s.level;
     let mask = modes::mask_of(row);
@@ -216,22 +228,26 @@ fn run(row: Row, s: State, piece: &[u8], first: usize, count: usize) -> Fed
     let mut c = core_of(s);
     let mut f = s.frame;
     let st = s.stretch;
+    let mut words: usize = 0;
     let end = first + count;
     let mut p = first;
     while p < end {
         let h = modes::hunt_on(row, mask, c, piece, p, end);
+        words += h.words;
         p = h.at;
         let d = digits::digit_at(piece, p);
-        c = modes::step(row, mask, h.core, d);
+        let next = modes::step(row, mask, h.core, d);
+        c = next.core;
+        words += next.words;
         frame::keep(row, shift, c, d, &mut f);
         p += 1;
         if frame::is_ready(row, c) {
             let counted = alarm::count(row, st, piece, first, p);
-            return accept(level, c, f, counted, p - first, true);
+            return accept(level, c, f, counted, p - first, words, true);
         }
     }
     let counted = alarm::count(row, st, piece, first, p); // whatever the mode
-    accept(level, c, f, counted, p - first, false)
+    accept(level, c, f, counted, p - first, words, false)
 }
 
 fn feed_row(row: Row, s: State, piece: &[u8], first: usize, count: usize) -> Fed

@@ -5,9 +5,9 @@ ghost use mathlib.Core.Path.{_≡_};
 ghost use Prim.Native.Nat.{_+_, _*_, _-_, _^_, _<_, _≤_};
 ghost use lib.ListN.{length};
 ghost use Rattle.levels.specs.Table.{Shared};
-ghost use Rattle.receiver.specs.Modes.{missed, windowOf, seenOf, good, asks, judged, placeAfter, stepOf};
+ghost use Rattle.receiver.specs.Modes.{missed, windowOf, seenOf, good, asks, testedAt, judged, placeAfter, stepOf};
 ghost use Rattle.receiver.specs.Feed.{Valid};
-ghost use Rattle.receiver.specs.Hunt.{stillHunting, Hunted};
+ghost use Rattle.receiver.specs.Hunt.{stillHunting, testedIn, Hunted};
 
 // A state without its level and its frame: what goes round in the loop.
 pub struct Core {
@@ -117,36 +117,68 @@ fn place_after(mode: Mode, place: usize) -> usize
     place + 1
 }
 
-// What one digit makes of a core.
-pub fn step(row: Row, mask: usize, c: Core, d: u8) -> Core
+// What one digit makes of a core, and how many words it tests: one or none.
+pub struct Stepped {
+    pub core: Core,
+    pub words: usize,
+}
+
+// One digit. A word is counted where it is judged, so that no other digit costs anything for it.
+pub fn step(row: Row, mask: usize, c: Core, d: u8) -> Stepped
     requires { ⌜ Shared row × (mask ≡ 2 ^ row .len - 1) × Valid row c × (d < 2) ⌝ }
-    ensures { λ r. ⌜ r ≡ stepOf row c d ⌝ }
+    ensures { λ r. ⌜ (r .core ≡ stepOf row c d) × (r .words ≡ testedAt row c) × (r .words ≤ 1) ⌝ }
 {
     let mode = c.mode;
     let window = window_of(row, mask, c.window, d);
     let seen = seen_of(row, c.seen);
     if asks_word(row, seen, mode, c.place) {
         let judged = judge(mode, is_good(row, window));
-        return Core {
-            window,
-            seen,
-            mode: judged,
-            place: 0,
+        return Stepped {
+            core: Core {
+                window,
+                seen,
+                mode: judged,
+                place: 0,
+            },
+            words: 1,
         };
     }
     let place = place_after(mode, c.place);
-    Core {
-        window,
-        seen,
-        mode,
-        place,
+    Stepped {
+        core: Core {
+            window,
+            seen,
+            mode,
+            place,
+        },
+        words: 0,
     }
 }
 
-// Where a stretch of the hunt ended: the core, and the place of the next digit in the piece.
+// How many of so many digits came after so many others.
+fn after(others: usize, came: usize) -> usize
+    ensures { λ r. ⌜ r ≡ came - others ⌝ }
+{
+    if came < others {
+        return 0;
+    }
+    came - others
+}
+
+// How many words the hunt tests while the digits that came grow so: those of its digits that come after the first L - 1.
+fn tested_in(row: Row, seen: usize, came: usize) -> usize
+    requires { ⌜ Shared row × (seen ≤ came) ⌝ }
+    ensures { λ r. ⌜ r ≡ testedIn row seen came ⌝ }
+{
+    let others = row.len - 1;
+    after(others, came) - after(others, seen)
+}
+
+// Where a stretch of the hunt ended: the core, the place of the next digit in the piece, and how many words were tested.
 pub struct Hunt {
     pub core: Core,
     pub at: usize,
+    pub words: usize,
 }
 
 // A core that hunts after so many digits, of which all but L are forgotten.
@@ -173,11 +205,15 @@ fn still_hunting(row: Row, window: usize, came: usize) -> Core
 // hunt, or the last one, to `step`.
 pub fn hunt_on(row: Row, mask: usize, c: Core, piece: &[u8], first: usize, end: usize) -> Hunt
     requires { ⌜ Shared row × (mask ≡ 2 ^ row .len - 1) × Valid row c × (length (now piece) ≤ 65536) × (first < end) × (end ≤ 8 * length (now piece)) ⌝ }
-    ensures { λ r. ⌜ Hunted row (now (piece .entry)) end first c (r .at) (r .core) ⌝ }
+    ensures { λ r. ⌜ Hunted row (now (piece .entry)) end first c (r .at) (r .words) (r .core) ⌝ }
 {
     let mode = c.mode;
     if !crate::is_hunting(mode) {
-        return Hunt { core: c, at: first };
+        return Hunt {
+            core: c,
+            at: first,
+            words: 0,
+        };
     }
     let seen = c.seen;
     let last = end - 1;
@@ -189,6 +225,7 @@ pub fn hunt_on(row: Row, mask: usize, c: Core, piece: &[u8], first: usize, end: 
             return Hunt {
                 core: still_hunting(row, window, seen + (at - first)),
                 at,
+                words: tested_in(row, seen, seen + (at - first)),
             };
         }
         window = next;
@@ -197,5 +234,6 @@ pub fn hunt_on(row: Row, mask: usize, c: Core, piece: &[u8], first: usize, end: 
     Hunt {
         core: still_hunting(row, window, seen + (at - first)),
         at,
+        words: tested_in(row, seen, seen + (at - first)),
     }
 }

@@ -33,7 +33,7 @@ module _ (row : Row) (s : State) (d : ℕ) where
   unfolding afterOf stepOf afterDigit
   after-turn e = rw e (refl, refl)
 
-asks-held : (row : Row) (n : ℕ) (mode : Mode) (p : ℕ) → hunting mode ≡ false → asks row n mode p ≡ eqb (p + 1) (row .digits)
+pub asks-held : (row : Row) (n : ℕ) (mode : Mode) (p : ℕ) → hunting mode ≡ false → asks row n mode p ≡ eqb (p + 1) (row .digits)
 unfolding asks
 asks-held row n mode p h = rw h
 

@@ -1,5 +1,5 @@
--- Calls in turn answer as the stream does: what they hand over and the state that they leave are those of the digits that they took, one
--- stream, wherever it was cut; and a caller who goes on with the rest of a piece where a frame stopped the call loses no digit.
+-- Calls in turn answer as the stream does: what they hand over, the state that they leave and the words that they test are those of the digits
+-- that they took, one stream, wherever it was cut; and a caller who goes on with the rest of a piece where a frame stopped the call loses no digit.
 use mathlib.Core.Path.{_≡_, refl, sym, ap, ap₂, _∙_}
 use mathlib.Core.Bool.{Bool, cond, true, false}
 use mathlib.Core.List.{List, [], _∷_, _++_, append-assoc, append-nil}
@@ -15,12 +15,14 @@ use Rattle.levels.specs.Table.{levelOf}
 use Rattle.levels.proofs.Rows.{shared-row}
 use Rattle.receiver.specs.declared.State.{State}
 use Rattle.receiver.specs.declared.Fed.{Fed}
+use Rattle.receiver.specs.Modes.{testedAt}
 use Rattle.receiver.specs.Frame.{readyOf}
 use Rattle.receiver.specs.Feed.{coreOf, freshState, refusalOf, afterOf, accepted, runOf, feedRow, ValidState}
-use Rattle.receiver_promises.specs.History.{heard, since}
-use Rattle.receiver_promises.specs.Calls.{Delivered, handedAt, streamed, Piece, digitsIn, answerTo, leftBy, takenBy, handedIn, handedBy, restOf, callsFor, callsForAll, digitsInAll, Lent, AllLent}
+use Rattle.receiver_promises.specs.History.{heard, testedBy, since}
+use Rattle.receiver_promises.specs.Calls.{Delivered, handedAt, streamed, Piece, digitsIn, answerTo, leftBy, takenBy, wordsBy, handedIn, handedBy}
+use Rattle.receiver_promises.specs.Calls.{restOf, callsFor, callsForAll, digitsInAll, Lent, AllLent}
 use Rattle.receiver.proofs.Validity.{cond-told}
-use Rattle.receiver_promises.proofs.Pieces.{heard-append, heard-state, heard-level, Ran, ran, feed-run, fresh-state}
+use Rattle.receiver_promises.proofs.Pieces.{heard-append, tested-append, heard-state, heard-level, Ran, ran, feed-run, fresh-state}
 
 -- ---- a run, and the stream of the digits that it took
 
@@ -37,65 +39,72 @@ module _ (row : Row) where
       ∙ sym (append-assoc (handedAt row (before + 1) (afterOf row s x)) (streamed row (before + 1) (afterOf row s x) xs)
       (streamed row (before + suc (length xs)) (heard row (afterOf row s x) xs) ys))
 
-  run-streamed : (ds : List ℕ) (t before : ℕ) (s : State) (m : ℕ) → runOf row ds t s .taken ≡ t + m
-      → handedIn (before + m) (runOf row ds t s) ≡ streamed row before s (take m ds)
+  run-streamed : (ds : List ℕ) (t n before : ℕ) (s : State) (m : ℕ) → runOf row ds t n s .taken ≡ t + m
+      → handedIn (before + m) (runOf row ds t n s) ≡ streamed row before s (take m ds)
   unfolding runOf streamed
-  run-streamed [] t before s m e = rw (take-nil {A = ℕ} m)
-  run-streamed (d ∷ ds) t before s m e = by-ready (readyOf row (coreOf (afterOf row s d))) refl (run-streamed ds (suc t) (before + 1) (afterOf row s d)) e
+  run-streamed [] t n before s m e = rw (take-nil {A = ℕ} m)
+  run-streamed (d ∷ ds) t n before s m e = by-ready (readyOf row (coreOf (afterOf row s d))) refl (run-streamed ds (suc t) n′ (before + 1) (afterOf row s d)) e
     where
       next : State
       next = afterOf row s d
 
+      n′ : ℕ
+      n′ = n + testedAt row (coreOf s)
+
       by-ready : (ready : Bool) → readyOf row (coreOf next) ≡ ready
-          → ((n : ℕ) → runOf row ds (suc t) next .taken ≡ suc t + n
-          → handedIn (before + 1 + n) (runOf row ds (suc t) next) ≡ streamed row (before + 1) next (take n ds))
-          → cond ready (accepted next (suc t) true) (runOf row ds (suc t) next) .taken ≡ t + m
-          → handedIn (before + m) (cond ready (accepted next (suc t) true) (runOf row ds (suc t) next)) ≡ streamed row before s (take m (d ∷ ds))
+          → ((k : ℕ) → runOf row ds (suc t) n′ next .taken ≡ suc t + k
+          → handedIn (before + 1 + k) (runOf row ds (suc t) n′ next) ≡ streamed row (before + 1) next (take k ds))
+          → cond ready (accepted next (suc t) n′ true) (runOf row ds (suc t) n′ next) .taken ≡ t + m
+          → handedIn (before + m) (cond ready (accepted next (suc t) n′ true) (runOf row ds (suc t) n′ next)) ≡ streamed row before s (take m (d ∷ ds))
       by-ready true q rest e =
           let one : m ≡ 1 = omega arith in
           rw (one, q)
       by-ready false q rest e =
-          let r = ran row ds (suc t) next in
-          let n = m - 1 in
-          let more : m ≡ suc n = omega (arith, r .counted) in
-          let on : before + suc n ≡ before + 1 + n = omega arith in
-          rw (more, q, on) (rest n (omega arith))
+          let r = ran row ds (suc t) n′ next in
+          let k = m - 1 in
+          let more : m ≡ suc k = omega (arith, r .counted) in
+          let on : before + suc k ≡ before + 1 + k = omega arith in
+          rw (more, q, on) (rest k (omega arith))
 
 -- ---- any calls whatever, refused ones too
 
 module _ (row : Row) (s : State) (known : levelOf (s .level) ≡ Of row) (p : Piece) where
-  -- one call: its state and what it hands over are those of the digits that it took
+  -- one call: its state, its words and what it hands over are those of the digits that it took
   pub record Answered (r : Fed) : Type 0 where
     pub within : r .taken ≤ length (digitsIn p)
     pub state : r .state ≡ heard row s (take (r .taken) (digitsIn p))
+    pub words : r .words ≡ testedBy row s (take (r .taken) (digitsIn p))
     pub frames : (before : ℕ) → handedIn (before + r .taken) r ≡ streamed row before s (take (r .taken) (digitsIn p))
 
   pub answered : Answered (answerTo s p)
-  unfolding feedRow heard streamed
+  unfolding feedRow heard testedBy streamed
   answered =
       rw known
       (cond-told Answered (eqb (refusalOf row (coreOf s) (s .stretch) (length (p .slice)) (p .first) (p .count)) 0) (λ _. run)
-      (λ _. record { within = omega arith; state = refl; frames = λ _. refl }))
+      (λ _. record { within = omega arith; state = refl; words = refl; frames = λ _. refl }))
     where
-      run : Answered (runOf row (digitsIn p) 0 s)
+      run : Answered (runOf row (digitsIn p) 0 0 s)
       run =
-          let r = ran row (digitsIn p) 0 s in
-          let taken : runOf row (digitsIn p) 0 s .taken ≡ r .taken = omega (arith, r .counted) in
+          let r = ran row (digitsIn p) 0 0 s in
+          let taken : runOf row (digitsIn p) 0 0 s .taken ≡ r .taken = omega (arith, r .counted) in
           record {
             within = omega (arith, r .within);
             state = r .state ∙ rw taken;
-            frames = λ before. run-streamed row (digitsIn p) 0 before s (runOf row (digitsIn p) 0 s .taken) (omega arith);
+            words = r .words ∙ rw taken (omega arith);
+            frames = λ before. run-streamed row (digitsIn p) 0 0 before s (runOf row (digitsIn p) 0 0 s .taken) (omega arith);
           }
 
   same-level : levelOf (answerTo s p .state .level) ≡ Of row
   same-level = rw (answered .state, heard-level row (take (answerTo s p .taken) (digitsIn p)) s) known
 
--- however a stream is cut into calls, and whatever they answer: the state that they leave and the frames that they hand over are those of
--- the digits that they took
+-- however a stream is cut into calls, and whatever they answer: the state that they leave, the frames that they hand over and the words that
+-- they test are those of the digits that they took
 pub as-taken : (row : Row) (ps : List Piece) (before : ℕ) (s : State) → levelOf (s .level) ≡ Of row
-    → (leftBy s ps ≡ heard row s (takenBy s ps)) × (handedBy before s ps ≡ streamed row before s (takenBy s ps))
-unfolding leftBy takenBy handedBy heard streamed
-as-taken row [] before s known = (refl, refl)
+    → (leftBy s ps ≡ heard row s (takenBy s ps))
+    × (handedBy before s ps ≡ streamed row before s (takenBy s ps))
+    × (wordsBy s ps ≡ testedBy row s (takenBy s ps))
+unfolding leftBy takenBy handedBy wordsBy heard testedBy streamed
+as-taken row [] before s known = (refl, refl, refl)
 as-taken row (p ∷ ps) before s known =
     let one = answered row s known p in
     let r = answerTo s p in
@@ -105,6 +114,7 @@ as-taken row (p ∷ ps) before s known =
     let size : length xs ≡ r .taken = length-take-le (r .taken) (digitsIn p) (one .within) in (
       rest .0 ∙ rw (heard-append row s xs ys, one .state),
       ap₂ (λ (a b : List Delivered). a ++ b) (one .frames before) (rest .1) ∙ rw (streamed-append row before s xs ys, size, one .state),
+      ap₂ (λ (a b : ℕ). a + b) (one .words) (rest .2) ∙ rw (tested-append row s xs ys, one .state),
     )
 
 -- ---- a caller who goes on with the rest of each piece
@@ -126,10 +136,10 @@ piece-rest p taken h =
     ∙ sym (rw all at (take-add taken (p .count - taken) ds))
 
 -- one call for a piece, from a valid state
-lent-ran : (row : Row) (s : State) → levelOf (s .level) ≡ Of row → ValidState row s → (p : Piece) → Lent p → Ran row (digitsIn p) 0 s (answerTo s p)
+lent-ran : (row : Row) (s : State) → levelOf (s .level) ≡ Of row → ValidState row s → (p : Piece) → Lent p → Ran row (digitsIn p) 0 0 s (answerTo s p)
 lent-ran row s known v p lent =
     rw (feed-run s row known (p .slice) (p .first) (p .count) (record { valid = v .0; counting = v .1; small = lent .small; within = lent .within }))
-    (ran row (digitsIn p) 0 s)
+    (ran row (digitsIn p) 0 0 s)
 
 left-valid : (row : Row) (s : State) → levelOf (s .level) ≡ Of row → ValidState row s → (ps : List Piece)
     → (levelOf (leftBy s ps .level) ≡ Of row) × ValidState row (leftBy s ps)
@@ -157,7 +167,7 @@ all-of-one row (suc n) s known v p lent few =
     k : ℕ
     k = answerTo s p .taken
 
-    r : Ran row ds 0 s (answerTo s p)
+    r : Ran row ds 0 0 s (answerTo s p)
     r = lent-ran row s known v p lent
 
     upto : k ≤ p .count
@@ -182,21 +192,30 @@ all-taken row (p ∷ ps) s known v lent =
 -- ---- the stream, wherever it was cut
 
 module _ (row : Row) (s : State) (known : levelOf (s .level) ≡ Of row) (v : ValidState row s) where
-  -- pieces fed one after another, each with its rest after a frame: the state and the frames are those of the stream of all their digits
+  -- pieces fed one after another, each with its rest after a frame: the state, the frames and the words tested are those of the stream of all
+  -- their digits
   pub as-the-stream : (ps : List Piece) → AllLent ps
-      → (leftBy s (callsForAll s ps) ≡ heard row s (digitsInAll ps)) × (handedBy 0 s (callsForAll s ps) ≡ streamed row 0 s (digitsInAll ps))
+      → (leftBy s (callsForAll s ps) ≡ heard row s (digitsInAll ps))
+      × (handedBy 0 s (callsForAll s ps) ≡ streamed row 0 s (digitsInAll ps))
+      × (wordsBy s (callsForAll s ps) ≡ testedBy row s (digitsInAll ps))
   as-the-stream ps lent = rw (all-taken row ps s known v lent) at (as-taken row (callsForAll s ps) 0 s known)
 
   -- two ways to cut one stream
   pub cut-anywhere : (ps qs : List Piece) → AllLent ps → AllLent qs → digitsInAll ps ≡ digitsInAll qs
-      → (leftBy s (callsForAll s ps) ≡ leftBy s (callsForAll s qs)) × (handedBy 0 s (callsForAll s ps) ≡ handedBy 0 s (callsForAll s qs))
+      → (leftBy s (callsForAll s ps) ≡ leftBy s (callsForAll s qs))
+      × (handedBy 0 s (callsForAll s ps) ≡ handedBy 0 s (callsForAll s qs))
+      × (wordsBy s (callsForAll s ps) ≡ wordsBy s (callsForAll s qs))
   cut-anywhere ps qs lent lent′ same =
       let one = as-the-stream ps lent in
-      let two = as-the-stream qs lent′ in
-      (one .0 ∙ ap (heard row s) same ∙ sym (two .0), one .1 ∙ ap (streamed row 0 s) same ∙ sym (two .1))
+      let two = as-the-stream qs lent′ in (
+        one .0 ∙ ap (heard row s) same ∙ sym (two .0),
+        one .1 ∙ ap (streamed row 0 s) same ∙ sym (two .1),
+        one .2 ∙ ap (testedBy row s) same ∙ sym (two .2),
+      )
 
 -- from reset
 pub fresh-stream : (level : ℕ) (row : Row) → levelOf level ≡ Of row → (ps : List Piece) → AllLent ps
     → (leftBy (freshState level) (callsForAll (freshState level) ps) ≡ since row level (digitsInAll ps))
     × (handedBy 0 (freshState level) (callsForAll (freshState level) ps) ≡ streamed row 0 (freshState level) (digitsInAll ps))
+    × (wordsBy (freshState level) (callsForAll (freshState level) ps) ≡ testedBy row (freshState level) (digitsInAll ps))
 fresh-stream level row known = as-the-stream row (freshState level) known (fresh-state row (shared-row level row known) level)

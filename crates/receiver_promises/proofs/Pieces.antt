@@ -5,6 +5,7 @@ use mathlib.Core.Bool.{Bool, cond, true, false, _||_, true≢false}
 use mathlib.Core.List.{List, [], _∷_, _++_}
 use Prim.Native.Nat.{ℕ, zero, suc, _+_, _*_, _≤_, _<_}
 use native.Mathlib.Omega.{arith}
+use native.Mathlib.Nat.{add-assoc}
 use borrow.Author.Tests.{eq-eqb, eqb-true}
 use lib.Dec.{eqb}
 use lib.ListN.{length, take, drop}
@@ -17,10 +18,11 @@ use Rattle.levels.specs.Table.{Shared, levelOf}
 use Rattle.levels.proofs.Rows.{shared-row}
 use Rattle.receiver.specs.declared.State.{State}
 use Rattle.receiver.specs.declared.Fed.{Fed}
+use Rattle.receiver.specs.Modes.{testedAt}
 use Rattle.receiver.specs.Frame.{readyOf}
 use Rattle.receiver.specs.Feed.{coreOf, freshState, freshOf, invalid, refusalOf, afterOf, accepted, refused, runOf, pieceOf, feedRow, feedOf, Valid, ValidState}
 use Rattle.receiver.specs.Alarm.{uncounted, counted, Counting}
-use Rattle.receiver_promises.specs.History.{heard, readyAfter, since, joined, Handed}
+use Rattle.receiver_promises.specs.History.{heard, testedBy, readyAfter, since, joined, Handed}
 use Rattle.digits.proofs.Lists.{binary-append, binary-take}
 use Rattle.receiver.proofs.Validity.{cond-told, valid-only, counting-only, step-valid, Accepted, accepted-if, accepted-only}
 use Rattle.receiver.proofs.Counts.{counted-counting}
@@ -32,6 +34,12 @@ pub heard-append : (row : Row) (s : State) (xs ys : List ℕ) → heard row s (x
 unfolding heard
 heard-append row s [] ys = refl
 heard-append row s (x ∷ xs) ys = heard-append row (afterOf row s x) xs ys
+
+-- words tested add up
+pub tested-append : (row : Row) (s : State) (xs ys : List ℕ) → testedBy row s (xs ++ ys) ≡ testedBy row s xs + testedBy row (heard row s xs) ys
+unfolding testedBy heard
+tested-append row s [] ys = omega arith
+tested-append row s (x ∷ xs) ys = omega (arith, tested-append row (afterOf row s x) xs ys)
 
 module _ (row : Row) (sh : Shared row) where
   pub heard-valid : (ds : List ℕ) (s : State) → Valid row (coreOf s) → Valid row (coreOf (heard row s ds))
@@ -56,29 +64,32 @@ heard-level row (d ∷ ds) s = heard-level row ds (afterOf row s d)
 pub heard-state : (row : Row) → Shared row → (ds : List ℕ) (s : State) → ValidState row s → ValidState row (heard row s ds)
 heard-state row sh ds s v = (heard-valid row sh ds s (v .0), heard-counting row ds s (v .1))
 
--- ---- a run: the state is that of the history grown by the digits taken; it stops at a ready frame, or else at the end
+-- ---- a run: the state is that of the history grown by the digits taken, and the words are those that they test; it stops at a ready
+-- frame, or else at the end
 
-pub record Ran (row : Row) (ds : List ℕ) (before : ℕ) (s : State) (r : Fed) : Type 0 where
+pub record Ran (row : Row) (ds : List ℕ) (before tested : ℕ) (s : State) (r : Fed) : Type 0 where
   pub taken : ℕ
   pub counted : r .taken ≡ before + taken
   pub within : taken ≤ length ds
   pub state : r .state ≡ heard row s (take taken ds)
   pub alarm : r .alarm ≡ r .state .stretch .alarm
+  pub words : r .words ≡ tested + testedBy row s (take taken ds)
   pub accepted : r .refusal ≡ 0
   pub at-frame : r .ready ≡ true → (0 < taken) × (readyOf row (coreOf (r .state)) ≡ true)
   pub at-end : r .ready ≡ false → taken ≡ length ds
   -- after fewer digits no frame was ready, nor after all of them where none is said to be
   pub passed : (k : ℕ) → 0 < k → k ≤ taken → (k ≡ taken → r .ready ≡ false) → readyAfter row s (take k ds) ≡ false
 
-pub ran : (row : Row) (ds : List ℕ) (before : ℕ) (s : State) → Ran row ds before s (runOf row ds before s)
-unfolding runOf heard
-ran row [] before s =
+pub ran : (row : Row) (ds : List ℕ) (before tested : ℕ) (s : State) → Ran row ds before tested s (runOf row ds before tested s)
+unfolding runOf heard testedBy
+ran row [] before tested s =
     record {
       taken = 0;
       counted = omega arith;
       within = omega arith;
       state = refl;
       alarm = refl;
+      words = omega arith;
       accepted = refl;
       at-frame = λ e. absurd (true≢false (sym e));
       at-end = λ _. refl;
@@ -87,26 +98,28 @@ ran row [] before s =
   where
     none : (k : ℕ) → 0 < k → k ≤ 0 → ⊥
     none k lo hi = omega arith
-ran row (d ∷ ds) before s =
-    cond-told (Ran row (d ∷ ds) before s) (readyOf row (coreOf (afterOf row s d)))
+ran row (d ∷ ds) before tested s =
+    cond-told (Ran row (d ∷ ds) before tested s) (readyOf row (coreOf (afterOf row s d)))
     (λ e. record {
       taken = 1;
       counted = omega arith;
       within = omega arith;
       state = refl;
       alarm = refl;
+      words = omega arith;
       accepted = refl;
       at-frame = λ _. (omega arith, e);
       at-end = λ q. absurd (true≢false q);
       passed = λ k lo hi q. absurd (true≢false (q (only k lo hi)));
     })
-    (λ e. let r = ran row ds (suc before) (afterOf row s d) in
+    (λ e. let r = ran row ds (suc before) (tested + testedAt row (coreOf s)) (afterOf row s d) in
     record {
       taken = suc (r .taken);
       counted = omega (arith, r .counted);
       within = omega (arith, r .within);
       state = r .state;
       alarm = r .alarm;
+      words = omega (arith, r .words);
       accepted = r .accepted;
       at-frame = λ q. (omega arith, r .at-frame q .1);
       at-end = λ q. ap suc (r .at-end q);
@@ -117,9 +130,9 @@ ran row (d ∷ ds) before s =
     only k lo hi = omega arith
 
     rest : Fed
-    rest = runOf row ds (suc before) (afterOf row s d)
+    rest = runOf row ds (suc before) (tested + testedAt row (coreOf s)) (afterOf row s d)
 
-    further : readyOf row (coreOf (afterOf row s d)) ≡ false → (r : Ran row ds (suc before) (afterOf row s d) rest)
+    further : readyOf row (coreOf (afterOf row s d)) ≡ false → (r : Ran row ds (suc before) (tested + testedAt row (coreOf s)) (afterOf row s d) rest)
         → (k : ℕ) → 0 < k → k ≤ suc (r .taken) → (k ≡ suc (r .taken) → rest .ready ≡ false) → readyAfter row s (take k (d ∷ ds)) ≡ false
     further e r zero lo hi q = absurd (omega arith)
     further e r (suc zero) lo hi q = e
@@ -129,50 +142,59 @@ ran row (d ∷ ds) before s =
 
 -- a run after digits that were taken before
 abbrev onward : Row → List ℕ → Fed → Fed
-onward row ys r = cond (r .ready) r (runOf row ys (r .taken) (r .state))
+onward row ys r = cond (r .ready) r (runOf row ys (r .taken) (r .words) (r .state))
 
-run-append : (row : Row) (xs ys : List ℕ) (t : ℕ) (s : State) → runOf row (xs ++ ys) t s ≡ onward row ys (runOf row xs t s)
+run-append : (row : Row) (xs ys : List ℕ) (t n : ℕ) (s : State) → runOf row (xs ++ ys) t n s ≡ onward row ys (runOf row xs t n s)
 unfolding runOf
-run-append row [] ys t s = refl
-run-append row (x ∷ xs) ys t s =
-    one (readyOf row (coreOf (afterOf row s x))) (runOf row (xs ++ ys) (suc t) (afterOf row s x)) (runOf row xs (suc t) (afterOf row s x))
-    (run-append row xs ys (suc t) (afterOf row s x))
+run-append row [] ys t n s = refl
+run-append row (x ∷ xs) ys t n s =
+    one (readyOf row (coreOf (afterOf row s x))) (runOf row (xs ++ ys) (suc t) m (afterOf row s x)) (runOf row xs (suc t) m (afterOf row s x))
+    (run-append row xs ys (suc t) m (afterOf row s x))
   where
+    m : ℕ
+    m = n + testedAt row (coreOf s)
+
     one : (ready : Bool) (a b : Fed) → a ≡ onward row ys b
-        → cond ready (accepted (afterOf row s x) (suc t) true) a ≡ onward row ys (cond ready (accepted (afterOf row s x) (suc t) true) b)
+        → cond ready (accepted (afterOf row s x) (suc t) m true) a ≡ onward row ys (cond ready (accepted (afterOf row s x) (suc t) m true) b)
     one true a b e = refl
     one false a b e = e
 
--- the digits taken before only add up
-later : ℕ → Fed → Fed
-later k r = record { refusal = r .refusal; taken = k + r .taken; ready = r .ready; alarm = r .alarm; state = r .state }
+-- the digits taken and the words tested before only add up
+later : ℕ → ℕ → Fed → Fed
+later k m r =
+    record { refusal = r .refusal; taken = k + r .taken; ready = r .ready; alarm = r .alarm; words = m + r .words; state = r .state }
 
-run-later : (row : Row) (ds : List ℕ) (k t : ℕ) (s : State) → runOf row ds (k + t) s ≡ later k (runOf row ds t s)
+run-later : (row : Row) (ds : List ℕ) (k m t n : ℕ) (s : State) → runOf row ds (k + t) (m + n) s ≡ later k m (runOf row ds t n s)
 unfolding runOf later
-run-later row [] k t s = refl
-run-later row (d ∷ ds) k t s =
+run-later row [] k m t n s = refl
+run-later row (d ∷ ds) k m t n s =
     let e : suc (k + t) ≡ k + suc t = omega arith in
-    rw e (one (readyOf row (coreOf (afterOf row s d))) (run-later row ds k (suc t) (afterOf row s d)))
+    rw (e, add-assoc m n (testedAt row (coreOf s)))
+    (one (readyOf row (coreOf (afterOf row s d))) (run-later row ds k m (suc t) n′ (afterOf row s d)))
   where
-    one : (ready : Bool) → runOf row ds (k + suc t) (afterOf row s d) ≡ later k (runOf row ds (suc t) (afterOf row s d))
-        → cond ready (accepted (afterOf row s d) (k + suc t) true) (runOf row ds (k + suc t) (afterOf row s d))
-        ≡ later k (cond ready (accepted (afterOf row s d) (suc t) true) (runOf row ds (suc t) (afterOf row s d)))
+    n′ : ℕ
+    n′ = n + testedAt row (coreOf s)
+
+    one : (ready : Bool) → runOf row ds (k + suc t) (m + n′) (afterOf row s d) ≡ later k m (runOf row ds (suc t) n′ (afterOf row s d))
+        → cond ready (accepted (afterOf row s d) (k + suc t) (m + n′) true) (runOf row ds (k + suc t) (m + n′) (afterOf row s d))
+        ≡ later k m (cond ready (accepted (afterOf row s d) (suc t) n′ true) (runOf row ds (suc t) n′ (afterOf row s d)))
     one true q = refl
     one false q = q
 
 pub run-joined : (row : Row) (xs ys : List ℕ) (s : State)
-    → runOf row (xs ++ ys) 0 s ≡ joined (runOf row xs 0 s) (runOf row ys 0 (runOf row xs 0 s .state))
+    → runOf row (xs ++ ys) 0 0 s ≡ joined (runOf row xs 0 0 s) (runOf row ys 0 0 (runOf row xs 0 0 s .state))
 unfolding later
 run-joined row xs ys s =
-    let one = runOf row xs 0 s in
+    let one = runOf row xs 0 0 s in
     let e : one .taken + 0 ≡ one .taken = omega arith in
-    run-append row xs ys 0 s ∙ ap (cond (one .ready) one) (rw e at (run-later row ys (one .taken) 0 (one .state)))
+    let e′ : one .words + 0 ≡ one .words = omega arith in
+    run-append row xs ys 0 0 s ∙ ap (cond (one .ready) one) (rw (e, e′) at (run-later row ys (one .taken) (one .words) 0 0 (one .state)))
 
 -- ---- the same of the public call
 
 module _ (s : State) (row : Row) (known : levelOf (s .level) ≡ Of row) where
   pub feed-run : (slice : List ℕ) (first count : ℕ) → Accepted row (coreOf s) (s .stretch) (length slice) first count
-      → feedOf s slice first count ≡ runOf row (pieceOf slice first count) 0 s
+      → feedOf s slice first count ≡ runOf row (pieceOf slice first count) 0 0 s
   unfolding feedRow
   feed-run slice first count a = rw (known, eq-eqb _ 0 (accepted-only row (coreOf s) (s .stretch) (length slice) first count a))
 
@@ -183,14 +205,22 @@ module _ (s : State) (row : Row) (known : levelOf (s .level) ≡ Of row) where
       accepted-if row (coreOf s) (s .stretch) (length slice) first count
       (told (refusalOf row (coreOf s) (s .stretch) (length slice) first count) (rw known at e))
     where
-      told : (n : ℕ) → cond (eqb n 0) (runOf row (pieceOf slice first count) 0 s) (refused n s) .refusal ≡ 0 → n ≡ 0
+      told : (n : ℕ) → cond (eqb n 0) (runOf row (pieceOf slice first count) 0 0 s) (refused n s) .refusal ≡ 0 → n ≡ 0
       told n = cond-told (λ (r : Fed). r .refusal ≡ 0 → n ≡ 0) (eqb n 0) (λ q _. eqb-true n 0 q) (λ _ q. q)
 
   -- an accepted call answers as the run over its digits
   pub accepted-ran : (slice : List ℕ) (first count : ℕ) → feedOf s slice first count .refusal ≡ 0
-      → Ran row (pieceOf slice first count) 0 s (feedOf s slice first count)
+      → Ran row (pieceOf slice first count) 0 0 s (feedOf s slice first count)
   accepted-ran slice first count e =
-      rw (feed-run slice first count (accepted-valid slice first count e)) (ran row (pieceOf slice first count) 0 s)
+      rw (feed-run slice first count (accepted-valid slice first count e)) (ran row (pieceOf slice first count) 0 0 s)
+
+  -- the words that it reports are those that the digits taken test
+  pub words-tested : (slice : List ℕ) (first count : ℕ) → feedOf s slice first count .refusal ≡ 0
+      → feedOf s slice first count .words ≡ testedBy row s (take (feedOf s slice first count .taken) (pieceOf slice first count))
+  words-tested slice first count e =
+      let r = accepted-ran slice first count e in
+      let taken : r .taken ≡ feedOf s slice first count .taken = omega (arith, r .counted) in
+      r .words ∙ rw taken (omega arith)
 
   -- it passes over no frame: none was ready after fewer digits than it took
   pub none-passed : (slice : List ℕ) (first count : ℕ) → feedOf s slice first count .refusal ≡ 0
@@ -218,9 +248,9 @@ module _ (s : State) (row : Row) (known : levelOf (s .level) ≡ Of row) where
       (cond-told (λ (r : Fed). ValidState row (r .state) × (r .state .level ≡ s .level))
       (eqb (refusalOf row (coreOf s) (s .stretch) (length slice) first count) 0) (λ _. run-valid) (λ _. (v, refl)))
     where
-      run-valid : ValidState row (runOf row (pieceOf slice first count) 0 s .state) × (runOf row (pieceOf slice first count) 0 s .state .level ≡ s .level)
+      run-valid : ValidState row (runOf row (pieceOf slice first count) 0 0 s .state) × (runOf row (pieceOf slice first count) 0 0 s .state .level ≡ s .level)
       run-valid =
-          let r = ran row (pieceOf slice first count) 0 s in
+          let r = ran row (pieceOf slice first count) 0 0 s in
           rw (r .state) (
             heard-state row (shared-row (s .level) row known) (take (r .taken) (pieceOf slice first count)) s v,
             heard-level row (take (r .taken) (pieceOf slice first count)) s,
@@ -245,10 +275,10 @@ feed-joined s row known slice₁ first₁ count₁ slice₂ first₂ count₂ sl
     ys = pieceOf slice₂ first₂ count₂
 
     midway : State
-    midway = runOf row xs 0 s .state
+    midway = runOf row xs 0 0 s .state
 
-    r : Ran row xs 0 s (runOf row xs 0 s)
-    r = ran row xs 0 s
+    r : Ran row xs 0 0 s (runOf row xs 0 0 s)
+    r = ran row xs 0 0 s
 
     level : levelOf (midway .level) ≡ Of row
     level = rw (r .state, heard-level row (take (r .taken) xs) s) known
@@ -256,7 +286,7 @@ feed-joined s row known slice₁ first₁ count₁ slice₂ first₂ count₂ sl
     valid : ValidState row midway
     valid = rw (r .state) (heard-state row (shared-row (s .level) row known) (take (r .taken) xs) s (a₁ .valid, a₁ .counting))
 
-    next : feedOf midway slice₂ first₂ count₂ ≡ runOf row ys 0 midway
+    next : feedOf midway slice₂ first₂ count₂ ≡ runOf row ys 0 0 midway
     next = feed-run midway row level slice₂ first₂ count₂ (record { valid = valid .0; counting = valid .1; small = small; within = within })
 
 -- one piece, wherever it is cut
@@ -308,7 +338,7 @@ feed-from level row known ds bin slice first count e =
     same-level : levelOf (s .level) ≡ Of row
     same-level = rw (heard-level row ds (freshState level)) known
 
-    r : Ran row new 0 s fed
+    r : Ran row new 0 0 s fed
     r = accepted-ran s row same-level slice first count e
 
     taken : fed .taken ≡ r .taken

@@ -3,11 +3,11 @@
 use mathlib.Core.Path.{_≡_, refl, sym, ap, _∙_}
 use mathlib.Core.Bool.{cond, true, false, true≢false}
 use mathlib.Core.List.{List, [], _∷_, _++_, append-assoc, append-nil}
-use Prim.Native.Nat.{ℕ, zero, suc, _+_, _*_, _-_, _%_, _^_, _≤_, _<_, min}
+use Prim.Native.Nat.{ℕ, zero, suc, _+_, _-_, _≤_, _<_, min}
 use native.Mathlib.Omega.{arith}
 use borrow.Author.Tests.{ltb-true, ltb-false, leb-true, leb-false, eqb-true, ne-eqb}
 use lib.Dec.{eqb, ltb, leb}
-use lib.ListN.{length, set, take, drop, replicate, length-append, length-replicate}
+use lib.ListN.{length, set, take, replicate, length-append, length-replicate}
 use lib.Seq.{take-all, take-append-le, set-at}
 use Rattle.digits.specs.Digits.{Binary, written}
 use Rattle.levels.specs.declared.table.Row.{Row}
@@ -21,11 +21,12 @@ use Rattle.receiver.specs.Frame.{holding, begun, put, keepOf, aligned, readyOf}
 use Rattle.receiver.specs.Feed.{coreOf, freshState, afterOf, Valid}
 use Rattle.digits.specs.Histories.{lastOf}
 use Rattle.receiver_promises.specs.History.{heard, since, Handed}
-use Rattle.digits.proofs.Written.{written-zero, written-more}
+use Rattle.digits.proofs.Written.{written-zero}
 use Rattle.digits.proofs.Lists.{binary-append}
 use Rattle.receiver.proofs.Holding.{word-within, holding-digits, holding-length}
 use Rattle.receiver.proofs.Validity.{cond-told, and-both, step-valid, asked-came}
-use Rattle.digits.proofs.Lasts.{last-length, last-binary, last-more, last-less, last-zeros}
+use Rattle.digits.proofs.Lasts.{last-length, last-binary, last-more, last-zeros}
+use Rattle.digits.proofs.Histories.{recent-more}
 
 -- ---- one digit more in the frame
 
@@ -42,21 +43,6 @@ put-more ds d bin h room =
     let put-it : set (ds ++ replicate (suc n) 0) (length ds) d ≡ (ds ++ (d ∷ [])) ++ replicate n 0 =
     set-at ds 0 (replicate n 0) d (length ds) refl ∙ sym (append-assoc ds (d ∷ []) (replicate n 0)) in
     rw (holding-length ds, holding-digits ds bin (omega arith), e, put-it, l)
-
--- ---- one digit more in the window
-
-written-tail : (k w : ℕ) → drop 1 (written (suc k) w) ≡ written k w
-unfolding written
-written-tail k w = refl
-
-window-shift : (l k w d : ℕ) (zs : List ℕ) → l ≡ suc k → d < 2 → l ≤ length zs → written l w ≡ lastOf l zs
-    → written l ((w * 2 + d) % 2 ^ l) ≡ lastOf l (zs ++ (d ∷ []))
-window-shift l k w d zs e h room win =
-    let enough : suc k ≤ length zs = rw e at room in
-    let short : k ≤ length zs = omega arith in
-    let all : written (suc k) w ≡ lastOf (suc k) zs = rw e at win in
-    let tail : written k w ≡ lastOf k zs = sym (written-tail k w) ∙ ap (drop 1) all ∙ last-less k zs enough in
-    rw e (written-more k w d h ∙ ap (λ (xs : List ℕ). xs ++ (d ∷ [])) tail ∙ sym (last-more k zs d short))
 
 -- ---- the trace
 
@@ -80,12 +66,12 @@ aligned-held TwoFound e = refl
 aligned-held (Aligned m) e = refl
 
 -- a step's window and digits seen do not depend on the mode
-step-window : (row : Row) (c : Core) (d : ℕ) → stepOf row c d .window ≡ windowOf row (c .window) d
+pub step-window : (row : Row) (c : Core) (d : ℕ) → stepOf row c d .window ≡ windowOf row (c .window) d
 unfolding stepOf afterDigit
 step-window row c d =
     cond-told (λ (c′ : Core). c′ .window ≡ windowOf row (c .window) d) (asks row (seenOf row (c .seen)) (c .mode) (c .place)) (λ _. refl) (λ _. refl)
 
-step-seen : (row : Row) (c : Core) (d : ℕ) → stepOf row c d .seen ≡ seenOf row (c .seen)
+pub step-seen : (row : Row) (c : Core) (d : ℕ) → stepOf row c d .seen ≡ seenOf row (c .seen)
 unfolding stepOf afterDigit
 step-seen row c d =
     cond-told (λ (c′ : Core). c′ .seen ≡ seenOf row (c .seen)) (asks row (seenOf row (c .seen)) (c .mode) (c .place)) (λ _. refl) (λ _. refl)
@@ -125,9 +111,9 @@ module _ (row : Row) (sh : Shared row) where
     unfolding windowOf
     window-more =
         let zeros = replicate {A = ℕ} (row .len) 0 in
-        let e : row .len ≡ suc (row .len - 1) = omega (arith, sh .word-some) in
         let room : row .len ≤ length (zeros ++ ds) = omega (arith, length-append zeros ds, length-replicate {A = ℕ} (row .len) 0) in
-        window-shift (row .len) (row .len - 1) (s .window) d (zeros ++ ds) e h room (t .window) ∙ rw (append-assoc zeros ds (d ∷ []))
+        recent-more (row .len) (s .window) (zeros ++ ds) d (omega (arith, sh .word-some)) h (record { long = room; window = t .window }) .window
+        ∙ rw (append-assoc zeros ds (d ∷ []))
 
     pub seen-more : seenOf row (s .seen) ≡ min (length more) (row .len)
     unfolding seenOf

@@ -50,6 +50,11 @@ unfoldable pub takenBy : State → List Piece → List ℕ
 takenBy s [] = []
 takenBy s (p ∷ ps) = take (answerTo s p .taken) (digitsIn p) ++ takenBy (answerTo s p .state) ps
 
+-- the words that they test
+unfoldable pub wordsBy : State → List Piece → ℕ
+wordsBy s [] = 0
+wordsBy s (p ∷ ps) = answerTo s p .words + wordsBy (answerTo s p .state) ps
+
 -- what an answer hands over
 abbrev pub handedIn : ℕ → Fed → List Delivered
 handedIn after r = cond (r .ready) (record { after = after; frame = r .state .frame } ∷ []) []

@@ -10,7 +10,7 @@ use Rattle.digits.specs.Histories.{lastOf, ago}
 use Rattle.levels.specs.declared.table.Row.{Row}
 use Rattle.receiver.specs.declared.State.{State}
 use Rattle.receiver.specs.declared.Fed.{Fed}
-use Rattle.receiver.specs.Modes.{good}
+use Rattle.receiver.specs.Modes.{good, testedAt}
 use Rattle.receiver.specs.Frame.{holding, readyOf}
 use Rattle.receiver.specs.Feed.{coreOf, afterOf, freshState}
 
@@ -18,6 +18,11 @@ use Rattle.receiver.specs.Feed.{coreOf, afterOf, freshState}
 unfoldable pub heard : Row → State → List ℕ → State
 heard row s [] = s
 heard row s (d ∷ ds) = heard row (afterOf row s d) ds
+
+-- how many words these digits test: each adds 1, or nothing
+unfoldable pub testedBy : Row → State → List ℕ → ℕ
+testedBy row s [] = 0
+testedBy row s (d ∷ ds) = testedAt row (coreOf s) + testedBy row (afterOf row s d) ds
 
 -- whether a frame is handed over at the last of these digits
 abbrev pub readyAfter : Row → State → List ℕ → Bool
@@ -52,4 +57,11 @@ pub record Handed (row : Row) (ds frame : List ℕ) : Type 0 where
 abbrev pub joined : Fed → Fed → Fed
 joined one two =
     cond (one .ready) one
-    (record { refusal = two .refusal; taken = one .taken + two .taken; ready = two .ready; alarm = two .alarm; state = two .state })
+    (record {
+      refusal = two .refusal;
+      taken = one .taken + two .taken;
+      ready = two .ready;
+      alarm = two .alarm;
+      words = one .words + two .words;
+      state = two .state;
+    })

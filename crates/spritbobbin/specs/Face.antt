@@ -83,9 +83,9 @@ stateNumbers s =
 unfoldable pub fedBy : State → ℕ → ℕ → List ℕ → ℕ → ℕ → Fed
 fedBy s few alarm piece first count = cond (ltb 1 few || ltb 1 alarm) (refused 6 s) (feedOf s piece first count)
 
--- answer: digits taken, 1 if a frame is ready, 1 if the alarm stands at the end
+-- answer: digits taken, 1 if a frame is ready, 1 if the alarm stands at the end, words tested
 abbrev pub fedAnswer : Fed → List ℕ
-fedAnswer f = f .taken ∷ cond (f .ready) 1 0 ∷ cond (f .alarm) 1 0 ∷ []
+fedAnswer f = f .taken ∷ cond (f .ready) 1 0 ∷ cond (f .alarm) 1 0 ∷ f .words ∷ []
 
 -- a refused feed writes no state and no frame
 abbrev pub fedState : Fed → List ℕ → List ℕ

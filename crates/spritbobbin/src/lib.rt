@@ -142,10 +142,15 @@ pub fn as_number(t: bool) -> u64
     0
 }
 
-fn fed_numbers(f: Fed) -> [u64; 3]
+fn fed_numbers(f: Fed) -> [u64; 4]
     ensures { λ r. ⌜ r ≡ fedAnswer f ⌝ }
 {
-    [f.taken as u64, as_number(f.ready), as_number(f.alarm)]
+    [
+        f.taken as u64,
+        as_number(f.ready),
+        as_number(f.alarm),
+        f.words as u64,
+    ]
 }
 
 // Makes a fresh state; one that is refused with 1 is all zero, and is written.
@@ -178,7 +183,7 @@ fn fed_by(s: State, few: u64, alarm: u64, piece: &[u8], first: usize, count: usi
     receiver::feed(s, piece, first, count)
 }
 
-// Feeds a piece; answer: digits taken, 1 if a frame is ready, 1 if the alarm stands at the end. A refused feed writes no state.
+// Feeds a piece; answer: digits taken, 1 if a frame is ready, 1 if the alarm stands at the end, words tested. A refused feed writes no state.
 #[no_mangle]
 pub extern "C" fn spritbobbin_receiver_feed(
     state: &mut [u64; 9],
@@ -186,7 +191,7 @@ pub extern "C" fn spritbobbin_receiver_feed(
     piece: &[u8],
     first: u64,
     count: u64,
-    answer: &mut [u64; 3],
+    answer: &mut [u64; 4],
 ) -> u64
     ensures { λ r. ⌜
         FeedMet (now (state .entry)) (now (frame .entry)) (now (piece .entry)) first count r (now (state .exit)) (now (frame .exit)) (now (answer .exit))

@@ -263,7 +263,7 @@ pub fn stretch_all() {
 fn stretch_one(c: Stretched) {
     let mut state = [c.level, 0, 0, 0, 0, c.digits, c.zeros, c.few, c.alarm];
     let mut frame = [0u8; 366];
-    let mut answer = [0u64; 3];
+    let mut answer = [0u64; 4];
     let slice = [c.fill; 1];
     let no = spritbobbin::spritbobbin_receiver_feed(
         &mut state,

@@ -15,7 +15,7 @@ struct Feeding {
     count: u64,
 }
 
-const FEEDINGS: [Feeding; 14] = [
+const FEEDINGS: [Feeding; 18] = [
     Feeding {
         level: 2,
         window: 1023,
@@ -136,6 +136,47 @@ const FEEDINGS: [Feeding; 14] = [
         first: 18446744073709551615,
         count: 2,
     },
+    // Words tested: from the L-th digit since reset on.
+    Feeding {
+        level: 2,
+        window: 0,
+        seen: 0,
+        mode: 0,
+        place: 0,
+        slice: 2,
+        first: 0,
+        count: 9,
+    },
+    Feeding {
+        level: 2,
+        window: 0,
+        seen: 0,
+        mode: 0,
+        place: 0,
+        slice: 2,
+        first: 0,
+        count: 10,
+    },
+    Feeding {
+        level: 2,
+        window: 0,
+        seen: 0,
+        mode: 0,
+        place: 0,
+        slice: 2,
+        first: 0,
+        count: 11,
+    },
+    Feeding {
+        level: 2,
+        window: 0,
+        seen: 10,
+        mode: 0,
+        place: 0,
+        slice: 1,
+        first: 0,
+        count: 8,
+    },
     // The order 6, 2, 7.
     Feeding {
         level: 2,
@@ -161,7 +202,7 @@ const FEEDINGS: [Feeding; 14] = [
 
 pub fn feed_all() {
     let mut k: usize = 0;
-    while k < 14 {
+    while k < 18 {
         feed_one(FEEDINGS[k]);
         k += 1;
     }
@@ -186,7 +227,7 @@ fn feed_one(c: Feeding) {
 fn feed_on(c: Feeding, slice: &[u8]) {
     let mut state = [c.level, c.window, c.seen, c.mode, c.place, 0, 0, 0, 0];
     let mut frame = [0u8; 366];
-    let mut answer = [0u64; 3];
+    let mut answer = [0u64; 4];
     let no = spritbobbin::spritbobbin_receiver_feed(
         &mut state,
         &mut frame,
@@ -212,11 +253,12 @@ fn given(c: Feeding) {
 }
 
 // What every feed answers, and the state's numbers.
-pub fn fed(no: u64, state: [u64; 9], answer: [u64; 3]) {
+pub fn fed(no: u64, state: [u64; 9], answer: [u64; 4]) {
     say::counted(b": refusal ", no);
     say::counted(b" taken ", answer[0]);
     say::counted(b" ready ", answer[1]);
     say::counted(b" alarm ", answer[2]);
+    say::counted(b" words ", answer[3]);
     say::counted(b" state ", state[0]);
     say::counted(b" ", state[1]);
     say::counted(b" ", state[2]);
@@ -255,7 +297,7 @@ fn repeat(line: &mut [u8; 424], one: &[u8; 106]) {
 fn walk(line: &[u8; 424], size: u64) {
     let mut state = [0u64; 9];
     let mut frame = [0u8; 366];
-    let mut answer = [0u64; 3];
+    let mut answer = [0u64; 4];
     spritbobbin::spritbobbin_receiver_fresh(2, &mut state, &mut frame);
     let mut first: u64 = 0;
     let mut turns: u64 = 0;
@@ -287,7 +329,7 @@ fn least(a: u64, b: u64) -> u64 {
     b
 }
 
-fn ready(size: u64, digits: u64, no: u64, state: [u64; 9], answer: [u64; 3], frame: &[u8; 366]) {
+fn ready(size: u64, digits: u64, no: u64, state: [u64; 9], answer: [u64; 4], frame: &[u8; 366]) {
     say::counted(b"case 11 pieces ", size);
     say::counted(b" digits ", digits);
     fed(no, state, answer);

@@ -116,7 +116,7 @@ const RECEIVINGS: [Receiving; 10] = [
     (2, 106, 0, 2, 103),
 ];
 
-const FEEDINGS: [Feeding; 14] = [
+const FEEDINGS: [Feeding; 18] = [
     (2, 1023, 10, 6, 847, 1, 0, 8),
     (2, 1024, 10, 6, 847, 1, 0, 8),
     (2, 1023, 11, 6, 847, 1, 0, 8),
@@ -129,6 +129,11 @@ const FEEDINGS: [Feeding; 14] = [
     (2, 0, 0, 0, 0, 65_537, 0, 0),
     (2, 0, 0, 0, 0, 1, 1, 8),
     (2, 0, 0, 0, 0, 1, MAX, 2),
+    // Words tested: from the L-th digit since reset on.
+    (2, 0, 0, 0, 0, 2, 0, 9),
+    (2, 0, 0, 0, 0, 2, 0, 10),
+    (2, 0, 0, 0, 0, 2, 0, 11),
+    (2, 0, 10, 0, 0, 1, 0, 8),
     // The order 6, 2, 7.
     (2, 0, 0, 7, 0, 65_537, MAX, 1),
     (2, 0, 0, 0, 0, 65_537, MAX, 1),
@@ -336,11 +341,12 @@ fn frames(size: u64) {
 fn fed(answer: &Fed) -> String {
     let state = &answer.state;
     format!(
-        "refusal {} taken {} ready {} alarm {} state {} {} {} {} {} {} {} {} {}",
+        "refusal {} taken {} ready {} alarm {} words {} state {} {} {} {} {} {} {} {} {}",
         answer.refusal,
         answer.taken,
         u64::from(answer.ready),
         u64::from(answer.alarm),
+        answer.words,
         state.level,
         state.window,
         state.seen,

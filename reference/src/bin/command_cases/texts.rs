@@ -49,6 +49,7 @@ pub fn found(row: &Row, bytes: usize, found: &Found, taken: &Taken) -> String {
     }
     text += &format!("frames handed over: {}\n", found.frames.len());
     text += &table_and_errors(taken);
+    text += &format!("words tested: {}\n", found.words);
     text + &format!("at the end: {}\n", mode(found.mode))
 }
 

@@ -89,6 +89,8 @@ pub enum Event {
 pub struct Found {
     pub events: Vec<Event>,
     pub frames: Vec<HandedOver>,
+    /// How many words were tested.
+    pub words: usize,
     /// The mode at the end, as the receiver's state has it.
     pub mode: u64,
 }
@@ -108,7 +110,8 @@ impl Found {
 
 /// Feeds the recording to a fresh receiver, up to each digit at which its mode or the alarm
 /// can change.
-/// The frames and the last state must be those that the search through all digits gives.
+/// The frames, the words tested and the last state must be those that the search through all
+/// digits gives.
 pub fn find(row: &Row, stream: &[u8]) -> Found {
     let digits = unpack(stream, 8 * stream.len());
     let (_, mut state) = fresh(row.level);
@@ -120,6 +123,7 @@ pub fn find(row: &Row, stream: &[u8]) -> Found {
         let fed = feed(&state, piece, (at % 8) as u64, (end - at) as u64);
         assert_eq!(fed.refusal, 0, "a piece is refused");
         at += fed.taken as usize;
+        found.words += fed.words as usize;
         if fed.ready {
             found.frames.push(HandedOver { after: at, bytes: fed.state.frame });
         }
@@ -136,7 +140,7 @@ pub fn find(row: &Row, stream: &[u8]) -> Found {
         state = fed.state;
     }
     found.mode = state.mode;
-    assert!(history::whole(row.level, &digits) == (found.frames.clone(), state));
+    assert!(history::whole(row.level, &digits) == (found.frames.clone(), found.words, state));
     found
 }
 

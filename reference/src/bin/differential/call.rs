@@ -121,7 +121,7 @@ impl Call {
             Call::Demultiplex(_) => "four counts, frame, alignment, dissent of four",
             Call::Fresh(_) => "level, window, seen, mode, place, digits, zeros, few before, alarm",
             Call::Feed(_) => {
-                "taken, ready, alarm; level, window, seen, mode, place, digits, zeros, few before, alarm"
+                "taken, ready, alarm, words; level, window, seen, mode, place, digits, zeros, few before, alarm"
             },
             Call::LineDigit(..) => "none",
             Call::CaptureWrite(_) => "bytes, named byte",
@@ -246,7 +246,8 @@ fn slices(with: Lending) -> Vec<(&'static str, Vec<u8>)> {
 
 fn fed(piece: &Piece) -> Outcome {
     let answer = feed(&piece.state, &piece.slice, piece.first, piece.count);
-    let numbers = [answer.taken, u64::from(answer.ready), u64::from(answer.alarm)];
+    let (ready, alarm) = (u64::from(answer.ready), u64::from(answer.alarm));
+    let numbers = [answer.taken, ready, alarm, answer.words];
     let numbers = [&numbers[..], &state_numbers(&answer.state)].concat();
     let lent = vec![("frame store", answer.state.frame.to_vec()), ("slice", piece.slice.clone())];
     outcome(answer.refusal, numbers, lent)

@@ -159,7 +159,7 @@ fn feed(piece: &Piece) -> Outcome {
     let mut state = numbers("state", &state_numbers(&piece.state));
     let mut frame = bytes("frame store", &piece.state.frame);
     let mut slice = bytes("slice", &piece.slice);
-    let mut answer = numbers("answer", &[UNWRITTEN; 3]);
+    let mut answer = numbers("answer", &[UNWRITTEN; 4]);
     // Sound as above.
     let refusal = unsafe {
         let (s, f, p, a) = (state.pointer(), frame.pointer(), slice.pointer(), answer.pointer());

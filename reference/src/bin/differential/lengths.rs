@@ -251,7 +251,7 @@ fn long_piece(run: &mut Run, slice: &[u8]) {
         let state = fresh(2).1;
         let expected = feed(&state, slice, first, count);
         let received = raw_feed(slice.as_ptr(), slice.len(), first, count);
-        run.expect(3, &inputs, &[expected.refusal, 0, 0, 0], &received);
+        run.expect(3, &inputs, &[expected.refusal, 0, 0, 0, 0], &received);
         let expected = finder_feed(&FinderState::default(), slice, first, count);
         let received = raw_hunt(slice.as_ptr(), slice.len(), first, count);
         run.expect(8, &inputs, &[expected.refusal, 0, 0], &received);
@@ -267,7 +267,7 @@ fn long_piece(run: &mut Run, slice: &[u8]) {
 fn raw_feed(piece: *const u8, piece_bytes: usize, first: u64, count: u64) -> Vec<u64> {
     let mut state = face::numbers("state", &FRESH);
     let mut frame = face::bytes("frame store", &[0; 366]);
-    let mut answer = face::numbers("answer", &[UNWRITTEN; 3]);
+    let mut answer = face::numbers("answer", &[UNWRITTEN; 4]);
     // Sound as above; where the length is false the call must be refused unread.
     let refusal = unsafe {
         let (s, f, a) = (state.pointer(), frame.pointer(), answer.pointer());
@@ -325,7 +325,7 @@ fn null_pointers(run: &mut Run) {
         run.expect(11, "null file", &expected, &raw_compare(one, other));
     }
     for (first, count) in [(0, 0), (0, 1), (1, 0), (u64::MAX, 1)] {
-        let expected = [feed_refusal(&fresh(2).1, 0, first, count), 0, 0, 0];
+        let expected = [feed_refusal(&fresh(2).1, 0, first, count), 0, 0, 0, 0];
         run.expect(3, "null piece", &expected, &raw_feed(null, 0, first, count));
         let expected = [finder_refusal(&FinderState::default(), 0, first, count), 0, 0];
         run.expect(8, "null piece", &expected, &raw_hunt(null, 0, first, count));
@@ -350,7 +350,7 @@ fn false_lengths(run: &mut Run) {
     }
     let memory = [0; 4096];
     for long in lengths {
-        let expected = [feed_refusal(&fresh(2).1, long, 0, 8), 0, 0, 0];
+        let expected = [feed_refusal(&fresh(2).1, long, 0, 8), 0, 0, 0, 0];
         let fed = raw_feed(memory.as_ptr(), long as usize, 0, 8);
         run.expect(3, &format!("slice of {long} bytes"), &expected, &fed);
         let expected = [finder_refusal(&FinderState::default(), long, 0, 8), 0, 0];

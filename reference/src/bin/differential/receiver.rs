@@ -185,7 +185,7 @@ fn cut(random: &mut Random, digits: &[u8], from: usize, to: usize, state: &State
 }
 
 /// A stream from a fresh state, in pieces cut anywhere. At its end the search through the
-/// whole stream must have found the same frames and the same state.
+/// whole stream must have found the same frames, words and state.
 fn stream_from_fresh(run: &mut Run) {
     let level = 2 + run.random.below(3);
     let row = match row(level) {
@@ -194,26 +194,27 @@ fn stream_from_fresh(run: &mut Run) {
     };
     let digits = stream(&mut run.random, row);
     run.compare(&Call::Fresh(level));
-    let (mut state, mut at, mut frames) = (fresh(level).1, 0, Vec::new());
+    let (mut state, mut at, mut frames, mut words) = (fresh(level).1, 0, Vec::new(), 0);
     let most = run.random.pick(&[9, 300, 3_000, digits.len()]);
     while at < digits.len() {
         let to = digits.len().min(at + run.random.index(most + 1));
         let piece = cut(&mut run.random, &digits, at, to, &state);
         let agreed = run.compare(&Call::Feed(Box::new(piece)));
         at += agreed.numbers[0] as usize;
+        words += agreed.numbers[3] as usize;
         state = state_of(&agreed);
         if agreed.numbers[1] == 1 {
             frames.push(HandedOver { after: at, bytes: state.frame });
         }
     }
-    if history::whole(level, &digits) != (frames, state) {
+    if history::whole(level, &digits) != (frames, words, state) {
         println!("DISAGREEMENT of the reference with itself on a stream of level {level}");
         run.end_with_disagreement();
     }
 }
 
 fn state_of(fed: &Outcome) -> State {
-    let numbers = &fed.numbers[3..];
+    let numbers = &fed.numbers[4..];
     let mut state = fresh(0).1;
     (state.level, state.window, state.seen) = (numbers[0], numbers[1], numbers[2]);
     (state.mode, state.place) = (numbers[3], numbers[4]);

@@ -5,10 +5,10 @@ use Rattle.stream_cases.proofs.stream.feed_all.Statement.{statement}
 use Rattle.stream_cases.proofs.stream.feed_all.Tie as tie
 
 abbrev Inv-loop : tie.InvT-loop
-Inv-loop k₀ k = k ≤ 14
+Inv-loop k₀ k = k ≤ 18
 
 abbrev μ-loop : tie.MeasureT-loop
-μ-loop k₀ k = 14 - k
+μ-loop k₀ k = 18 - k
 
 pub feed-all-spec : {M : Type 1} → statement M
 feed-all-spec =

@@ -1,0 +1,5 @@
+pub mod Deadline
+pub mod Recovery
+pub mod ZeroLines
+pub mod Multiplexed
+pub mod Near

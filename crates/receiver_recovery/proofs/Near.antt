@@ -1,0 +1,43 @@
+-- How near the sharper bound is: 7 N + L - 2 digits, that is 5,944, 10,760 and 20,506. Here are, at each level, a valid state and a line with which it takes
+-- 7 N + 3 = 5,939 and 10,755, and 7 N + 4 = 20,500. The window ends with the word's first digits, up to the 1 behind its first 0; the line begins with all but
+-- one of the zeros that end the word, and then a 0 that is no word's; and a check is due there. Window and line together make a false word at that very
+-- check, one digit after a true one. So four frames pass until it is lost, the next true word comes N - 1 digits after that, and two frames more.
+use mathlib.Core.Path.{_≡_, refl, sym}
+use mathlib.Core.Bool.{true≢false}
+use Prim.Native.Nat.{ℕ, _+_, _^_, _<_}
+use native.Mathlib.Omega.{arith}
+use lib.ListN.{replicate}
+use Rattle.digits.specs.Digits.{written, tab}
+use Rattle.levels.specs.declared.table.Row.{Row}
+use Rattle.levels.specs.Table.{row2, row3, row4}
+use Rattle.receiver.specs.declared.Mode.the-variants.{TwoFound, Aligned}
+use Rattle.receiver.specs.declared.State.{State}
+use Rattle.receiver.specs.Alarm.{freshStretch}
+use Rattle.receiver.specs.Modes.{windowOf, seenOf, good, asks, placeAfter, afterDigit, stepOf}
+use Rattle.receiver.specs.Feed.{stateOf, afterOf, Valid, coreOf}
+use Rattle.receiver_promises.specs.History.{heard}
+use Rattle.receiver_recovery.specs.Line.{zeroLine}
+
+-- aligned at a wrong place, with no word missed
+abbrev pub late : ℕ → ℕ → ℕ → ℕ → State
+late level window seen place = stateOf level (record { window = window; seen = seen; mode = Aligned 0; place = place }) (replicate 366 0) freshStretch
+
+-- after so many digits of the line begun at place o it is not aligned, and after one more it is
+abbrev Takes : Row → State → ℕ → ℕ → Type 0
+Takes row s o k = Valid row (coreOf s) × (heard row s (zeroLine row o k) .mode ≡ TwoFound) × (heard row s (zeroLine row o (k + 1)) .mode ≡ Aligned 0)
+
+late-valid : (row : Row) (level window place : ℕ) → window < 2 ^ row .len → place < row .digits → Valid row (coreOf (late level window (row .len) place))
+late-valid row level window place small under =
+    record { window = small; seen = omega arith; missed = omega arith; place = under; rests = λ e. absurd (true≢false (sym e)); came = λ _. omega arith }
+
+pub near : Takes row2 (late 2 0b111101 10 844) 7 5938
+unfolding heard afterOf stepOf afterDigit windowOf seenOf good asks placeAfter written tab
+near = (late-valid row2 2 0b111101 844 (omega arith) (omega arith), refl, refl)
+
+pub near-at-34368 : Takes row3 (late 3 0b111101 10 1532) 7 10754
+unfolding heard afterOf stepOf afterDigit windowOf seenOf good asks placeAfter written tab
+near-at-34368 = (late-valid row3 3 0b111101 1532 (omega arith) (omega arith), refl, refl)
+
+pub near-at-139264 : Takes row4 (late 4 0b1111101 12 2923) 8 20499
+unfolding heard afterOf stepOf afterDigit windowOf seenOf good asks placeAfter written tab
+near-at-139264 = (late-valid row4 4 0b1111101 2923 (omega arith) (omega arith), refl, refl)

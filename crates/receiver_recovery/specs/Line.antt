@@ -1,0 +1,42 @@
+-- A line of correct frames, begun anywhere, and what it is to be aligned with it. Document 02, request 8.
+use mathlib.Core.Path.{_≡_}
+use mathlib.Core.List.{List}
+use Prim.Native.Nat.{ℕ, _+_, _-_, _%_, _≤_}
+use lib.ListN.{length, getD, take, drop}
+use Rattle.digits.specs.Digits.{Binary, written, tab}
+use Rattle.levels.specs.declared.table.Row.{Row}
+use Rattle.receiver.specs.declared.Mode.the-variants.{Aligned}
+use Rattle.receiver.specs.declared.State.{State}
+use Rattle.receiver_promises.specs.Line.{inFrame, Framed}
+
+-- the word's L digits
+abbrev pub wordOf : Row → List ℕ
+wordOf row = written (row .len) (row .word)
+
+-- "a line of correct frames, begun anywhere in a frame": its first digit stands at place o of a frame, and at the places of the words stand the
+-- words (`Framed`); "in which no L digits in a row other than the true words equal the word". Nothing is asked of the other digits, and nothing of
+-- what came before the line. A word that the line's first or last digit cuts is asked for as far as it is there
+pub record CorrectLine (row : Row) (o : ℕ) (ds : List ℕ) : Type 0 where
+  pub binary : Binary ds
+  pub framed : Framed row o ds
+  pub no-others : (i : ℕ) → i + row .len ≤ length ds → take (row .len) (drop i ds) ≡ wordOf row → inFrame row o i ≡ 0
+
+-- "its last digit, place N−L": places are counted from the word's last digit, which is place 0, so that a frame's last digit is this one
+abbrev pub frameEnd : Row → ℕ
+frameEnd row = row .digits - row .len
+
+-- "the true place" after k digits of the line: after a frame's last digit came the o digits that the line does not have, and then k
+unfoldable pub truePlace : Row → ℕ → ℕ → ℕ
+truePlace row o k = (o + k + frameEnd row) % row .digits
+
+-- after k digits of the line "the receiver is aligned at the true place", and no word is missed
+pub record AlignedAfter (row : Row) (o k : ℕ) (s : State) : Type 0 where
+  pub mode : s .mode ≡ Aligned 0
+  pub place : s .place ≡ truePlace row o k
+
+-- such a line, n digits of it: the words, and 0 at every other place (proofs/ZeroLines.antt). Multiplexing makes it of zeros (proofs/Multiplexed.antt)
+abbrev pub zeroDigit : Row → ℕ → ℕ
+zeroDigit row place = getD (wordOf row) place 0
+
+abbrev pub zeroLine : Row → ℕ → ℕ → List ℕ
+zeroLine row o n = tab n 0 (λ i. zeroDigit row (inFrame row o i))
