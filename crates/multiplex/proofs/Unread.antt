@@ -91,7 +91,8 @@ not-looked-at level line notes b b′ room same = go (levelOf level) refl
         rw (er′, er)
 
     go : (l : Level) → levelOf level ≡ l
-        → (onLevel l (λ (row : Row). answerOn row (length line) notes (length b)) (refusedWith (fault 1 0)) ≡ onLevel l (λ (row : Row). answerOn row (length line) notes (length b′)) (refusedWith (fault 1 0)))
+        → (onLevel l (λ (row : Row). answerOn row (length line) notes (length b)) (refusedWith (fault 1 0))
+        ≡ onLevel l (λ (row : Row). answerOn row (length line) notes (length b′)) (refusedWith (fault 1 0)))
         × (onLevel l (λ (row : Row). lineOn row line notes b) line ≡ onLevel l (λ (row : Row). lineOn row line notes b′) line)
     go (Of row) e =
         (rw (same-fault row (length line) notes (length b) (length b′) (room row e)), on-row row e (eqb (faultOf row (length line) notes (length b′) .refusal) 0) refl)

@@ -265,7 +265,8 @@ module _ (level : ℕ) (row : Row) (e : levelOf level ≡ Of row) where
     size = sizeRefusal row (length (c .line)) frames (length (c .buffer))
 
     pub accepted-size : size ≡ 0
-    accepted-size = zero-refusal (λ (o : Outcome). o .refusal) size (readWhole row (c .line) frames (length (c .buffer) / 4)) (refusedWhole size (c .notes) (c .buffer)) refl (rw e at (accepted-together level c ok))
+    accepted-size =
+        zero-refusal (λ (o : Outcome). o .refusal) size (readWhole row (c .line) frames (length (c .buffer) / 4)) (refusedWhole size (c .notes) (c .buffer)) refl (rw e at (accepted-together level c ok))
 
     pub read-sizes : Accepted row (length (c .line)) frames (length (c .buffer))
     read-sizes = accepted row (length (c .line)) frames (length (c .buffer)) accepted-size

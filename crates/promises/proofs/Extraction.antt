@@ -34,7 +34,8 @@ use Rattle.multiplex.specs.Line.{lineDigit}
 use Rattle.promises.specs.Damage.{ownPlace, lineDigits}
 use Rattle.promises.specs.Carried.{digitsRead, CameBack}
 use Rattle.promises.specs.Calls.{Lent, SendAccepted, sentLine, LentFor, LentAt}
-use Rattle.promises.specs.Extraction.{ExtractAccepted, extractCounts, extractDigits, SameOwn, SameOwnAt, bears, SameBearing, SameBearingAt, SameBit, ExtractsSame, Extracted, later, earlier, byNotes, Steady}
+use Rattle.promises.specs.Extraction.{ExtractAccepted, extractCounts, extractDigits, SameOwn, SameOwnAt, bears, SameBearing, SameBearingAt}
+use Rattle.promises.specs.Extraction.{SameBit, ExtractsSame, Extracted, later, earlier, byNotes, Steady}
 use Rattle.promises.proofs.Order.{column-place, places-same, count-same, digits-same}
 use Rattle.promises.proofs.RoundTrip.{round-trip}
 use Rattle.promises.proofs.Accepted.{send-level, shared, count-at, lent-accepted, send-accepted, tributary, found, unrefused, send-sizes, send-places, send-sound, send-line}

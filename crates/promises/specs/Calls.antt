@@ -1,7 +1,7 @@
 -- Demand 3 and the round trip, said of the calls. A call is lent a line, notes and a buffer, as bytes; what it leaves and answers is
--- given by the definitions that the statements of the calls cite. Reading is two calls in turn: `read_notes`, and `extract` by the notes that it leaves. Of a send nothing is assumed but that it was accepted:
--- that it answered refusal 0. A reading is lent enough, and that it is accepted is part of what is said. Levels are the numbers 2, 3 and 4;
--- tributaries are counted from 0.
+-- given by the definitions that the statements of the calls cite. Reading is two calls in turn: `read_notes`, and `extract` by the notes that
+-- it leaves. Of a send nothing is assumed but that it was accepted: that it answered refusal 0. A reading is lent enough, and that it is
+-- accepted is part of what is said. Levels are the numbers 2, 3 and 4; tributaries are counted from 0.
 use mathlib.Core.Path.{_≡_}
 use mathlib.Core.List.{List, [], _∷_}
 use Prim.Native.Nat.{ℕ, _*_, _/_, _%_, _≤_, _<_}

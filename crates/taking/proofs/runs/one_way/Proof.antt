@@ -12,4 +12,6 @@ run-requires-2 c κs = c .before .before .before .before .before .before .before
 pub one-way-spec : {M : Type 1} → statement M
 one-way-spec =
     tie.close
-    (tie.spec (λ c κs. search needs) (λ c κs. search needs) (λ c κs. search needs) (λ c κs. search needs) (λ c. search needs) (λ c. search needs) (λ c. search needs) by-notes-requires (λ c. search needs) (λ c. search needs) (λ c. search needs) (λ c. search needs) run-requires-2 (λ c. search needs) (λ c. search needs) (λ c. search needs) (λ c. search needs))
+    (tie.spec (λ c κs. search needs) (λ c κs. search needs) (λ c κs. search needs) (λ c κs. search needs) (λ c. search needs)
+    (λ c. search needs) (λ c. search needs) by-notes-requires (λ c. search needs) (λ c. search needs) (λ c. search needs)
+    (λ c. search needs) run-requires-2 (λ c. search needs) (λ c. search needs) (λ c. search needs) (λ c. search needs))
