@@ -440,11 +440,15 @@ fn receive(c: Receiving) {
 fn receive_on(c: Receiving, line: &mut [u8], notes: &mut [u8], buffer: &mut [u8]) {
     inputs::fill(line, c.fill);
     inputs::fill(notes, 165);
-    inputs::fill(buffer, 165);
     let r = reading::read_notes(c.level, line, notes);
     noted(c, r, inputs::sum(notes));
-    let e = extraction::extract(c.level, line, notes, buffer);
-    extracted(c, e, inputs::sum(buffer));
+    extract_by(c, line, notes, buffer);
+}
+
+fn extract_by(c: Receiving, line: &[u8], notes: &[u8], buffer: &mut [u8]) {
+    inputs::fill(buffer, 165);
+    let r = extraction::extract(c.level, line, notes, buffer);
+    extracted(c, r, inputs::sum(buffer));
 }
 
 fn noted(c: Receiving, r: Noted, sum: u64) {
