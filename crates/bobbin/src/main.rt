@@ -16,11 +16,13 @@ use levels::table::Row;
 use multiframe_picture::picture;
 use multiframes::apart;
 use multiframes::build;
+use noting::extract;
+use noting::notes;
 use passages::send;
-use passages::take;
 use pictures::frame;
 use pictures::frame::Noted;
 use recordings::sizes;
+use taking::take;
 ghost use Rattle.levels.specs.Table.{Shared};
 
 // The words of every call by number; word 0 is the program's own name.
@@ -44,20 +46,24 @@ const FIND: u8 = 3;
 
 const KEEP: u8 = 4;
 
-const SHOW: u8 = 5;
+const NOTES: u8 = 5;
 
-const COMPARE: u8 = 6;
+const EXTRACT: u8 = 6;
+
+const SHOW: u8 = 7;
+
+const COMPARE: u8 = 8;
 
 // Those of 2048 kbit/s, which take no level.
-const BUILD: u8 = 7;
+const BUILD: u8 = 9;
 
-const APART: u8 = 8;
+const APART: u8 = 10;
 
-const HUNT: u8 = 9;
+const HUNT: u8 = 11;
 
-const MULTIFRAME: u8 = 10;
+const MULTIFRAME: u8 = 12;
 
-const NO_COMMAND: u8 = 11;
+const NO_COMMAND: u8 = 13;
 
 // Beside NO_NOTE, where there is none: a word that should be a note and is none.
 const WRONG_NOTE: u16 = 257;
@@ -106,6 +112,12 @@ fn which_command(word: &[u8]) -> u8 {
     if check::same(word, b"keep") {
         return KEEP;
     }
+    if check::same(word, b"notes") {
+        return NOTES;
+    }
+    if check::same(word, b"extract") {
+        return EXTRACT;
+    }
     if check::same(word, b"show") {
         return SHOW;
     }
@@ -139,6 +151,8 @@ fn fits(which: u8, last: usize) -> bool {
         TAKE => last == take::TRIBUTARIES || last == opened::TRIBUTARIES,
         FIND => last == find::STREAM || last == find::PREFIX,
         KEEP => last == keep::CAPTURE || last == keep::LABEL,
+        NOTES => last == notes::LINE || last == notes::NOTES,
+        EXTRACT => last == extract::TRIBUTARIES,
         SHOW => last == opened::CAPTURE || last == opened::LINE,
         COMPARE => last == compared::OTHER || last == compared::PICTURE,
         BUILD => last == build::MULTIFRAMES,
@@ -159,6 +173,10 @@ fn wrong_words(which: u8) {
             help::wrong_call(b"find takes a level and a file, and a prefix where files are wanted.")
         }
         KEEP => help::wrong_call(b"keep takes a level and two files, and a label where wanted."),
+        NOTES => help::wrong_call(
+            b"notes takes a level and a file, and a file for the notes where wanted.",
+        ),
+        EXTRACT => help::wrong_call(b"extract takes a level and three files."),
         SHOW => help::wrong_call(b"show takes a capture, and a file where its line is wanted."),
         COMPARE => help::wrong_call(
             b"compare takes two captures, and a file for the picture where wanted.",
@@ -278,6 +296,8 @@ fn started(which: u8, last: usize, row: Row, level: u64)
         SEND => send::run(row, level),
         TAKE => take_line(row, level, last),
         FIND => find::run(row, level, last == find::PREFIX),
+        NOTES => notes::run(row, level, last == notes::NOTES),
+        EXTRACT => extract::run(row, level),
         _ => keep::run(row, level, last == keep::LABEL),
     }
 }

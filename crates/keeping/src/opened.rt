@@ -6,9 +6,9 @@ use crate::show;
 use levels::table;
 use levels::table::Level;
 use levels::table::Row;
-use passages::take;
-use passages::take::Source;
 use recordings::sizes;
+use taking::take;
+use taking::take::Source;
 ghost use Rattle.levels.specs.Table.{Shared};
 
 // The words of the calls by number.

@@ -2,11 +2,13 @@
 
 use crate::case::{words, Case};
 
-const COMMANDS: [&str; 13] = [
+const COMMANDS: [&str; 15] = [
     "demo",
     "frame",
     "send",
     "take",
+    "notes",
+    "extract",
     "find",
     "keep",
     "show",
@@ -19,7 +21,7 @@ const COMMANDS: [&str; 13] = [
 ];
 
 /// Wrong calls. The files that they name are there.
-const WRONG: [&str; 48] = [
+const WRONG: [&str; 53] = [
     "",
     "bogus",
     "sen 2 notes tributaries out",
@@ -39,6 +41,11 @@ const WRONG: [&str; 48] = [
     "take 2 line out",
     "take 2 line out more yet-more",
     "take 2 line out out",
+    "notes",
+    "notes 2",
+    "notes 2 line out more",
+    "extract 2 line notes",
+    "extract 2 line notes out more",
     "find",
     "find 2",
     "find 2 line out more",

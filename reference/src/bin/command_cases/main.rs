@@ -24,6 +24,7 @@ mod hunting;
 mod inputs;
 mod keeping;
 mod multiframes;
+mod noting;
 mod pictures;
 mod sending;
 mod showing;
@@ -49,6 +50,7 @@ fn main() -> io::Result<()> {
     let mut cases = pictures::cases();
     cases.extend(sending::cases());
     cases.extend(taking::cases());
+    cases.extend(noting::cases());
     cases.extend(finding::cases());
     cases.extend(keeping::cases());
     cases.extend(showing::cases());
