@@ -16,9 +16,9 @@ use denote.Triple.Clauses.{AtExit}
 use borrow.Fn.World.{ArgsD, ResD}
 use Rattle.rack.specs.declared.record.Record.{Record}
 use Rattle.rack.specs.Rack.{FeedMet, ResetMet, AlignedMet}
-use Rattle.rack.proofs.spritbobbin_rack_feed as feed
-use Rattle.rack.proofs.spritbobbin_rack_reset as reset
-use Rattle.rack.proofs.spritbobbin_rack_aligned as aligned
+use Rattle.rack.proofs.feed as feed
+use Rattle.rack.proofs.reset as reset
+use Rattle.rack.proofs.aligned as aligned
 
 -- ---- no second answer
 

@@ -1,6 +1,6 @@
-// A rack of lines: up to 64 receivers kept as records in one lent list, for C. Three calls, kept thin: `rule` has what they decide and
-// `record` what a receiver makes of one record, both without the list; the calls take the record out of the list, and put it back.
-// A reference to a struct is not followed by the borrow checker, so each of the three is proved by a walk by hand.
+// A rack of lines: up to 64 receivers kept as records in one lent list. Three calls, kept thin: `rule` has what they decide and `record`
+// what a receiver makes of one record, both without the list; the calls take a record out of the list, and put it back. The borrow checker
+// does not cover a reference to a struct, so each of the three is proved by a walk by hand.
 pub mod record;
 pub mod rule;
 
@@ -8,8 +8,7 @@ use crate::record::Record;
 ghost use Rattle.rack.specs.Rack.{FeedMet, ResetMet, AlignedMet};
 
 // Feeds a piece to line number `line`, from 0; answer: digits taken, 1 if a frame is ready, 1 if the alarm stands at the end, words tested.
-#[no_mangle]
-pub extern "C" fn spritbobbin_rack_feed(
+pub fn feed(
     records: &mut [Record],
     line: u64,
     piece: &[u8],
@@ -30,8 +29,7 @@ pub extern "C" fn spritbobbin_rack_feed(
 }
 
 // Resets line number `line` to a fresh state of a level.
-#[no_mangle]
-pub extern "C" fn spritbobbin_rack_reset(records: &mut [Record], line: u64, level: u64) -> u64
+pub fn reset(records: &mut [Record], line: u64, level: u64) -> u64
     ensures { λ r. ⌜ ResetMet (now (records .entry)) line level r (now (records .exit)) ⌝ }
 {
     let made = rule::made(records.len(), line, level);
@@ -45,8 +43,7 @@ pub extern "C" fn spritbobbin_rack_reset(records: &mut [Record], line: u64, leve
 }
 
 // Counts the lines in mode aligned; answer: how many.
-#[no_mangle]
-pub extern "C" fn spritbobbin_rack_aligned(records: &[Record], answer: &mut [u64; 1]) -> u64
+pub fn aligned(records: &[Record], answer: &mut [u64; 1]) -> u64
     ensures { λ r. ⌜ AlignedMet (now (records .entry)) r (now (answer .exit)) ⌝ }
 {
     let number = rule::counted(records.len());

@@ -1,4 +1,4 @@
--- `spritbobbin_rack_reset` meets its contract: a walk of its MIR, by hand. `made` is called on the list's length, the line and the level, and all that
+-- `rack::reset` meets its contract: a walk of its MIR, by hand. `made` is called on the list's length, the line and the level, and all that
 -- the proof knows of it is that it meets its contract. Where it refuses, the list is not opened; else record `line` is stored.
 use mathlib.Core.Path.{_≡_, refl, sym, ap, subst, _∙_}
 use mathlib.Core.Bool.{cond, true, false, not}
@@ -59,10 +59,10 @@ use Rattle.rack.proofs.rule.made as md
 use Rattle.rack.proofs.rule.made.Symbol as md-def
 use Rattle.rack.proofs.rule.made.Symbol.{name as #made}
 use Rattle.rack.proofs.rule.made.Met as md-thm
-use Rattle.rack.proofs.spritbobbin_rack_reset.Key.{name as #reset}
-use Rattle.rack.proofs.spritbobbin_rack_reset as reset
-use Rattle.rack.proofs.spritbobbin_rack_reset.Statement as stated
-use Rattle.rack.proofs.spritbobbin_rack_reset.Code as code
+use Rattle.rack.proofs.reset.Key.{name as #reset}
+use Rattle.rack.proofs.reset as reset
+use Rattle.rack.proofs.reset.Statement as stated
+use Rattle.rack.proofs.reset.Code as code
 
 abbrev R : RattleType
 R = T.the-row
@@ -226,9 +226,9 @@ reset-meets 𝓤 H A W mem run 𝓣 known =
     ) (reset.clauses 𝓤 H A mem run)
     (WpFn 𝓤 H (𝓣 .C) (𝓣 .Λ) code.function) (WpFn-mono 𝓤 H (W .laws) 𝓣 code.function) (reset-walks 𝓤 H A W mem run (𝓣 .C) (𝓣 .Λ) (fmOf 𝓤 H (W .laws) 𝓣) known)
 
-pub spritbobbin-rack-reset-spec : {M : Type 1} → stated.statement M
+pub reset-spec : {M : Type 1} → stated.statement M
 unfolding code.routine tablesOf
-spritbobbin-rack-reset-spec 𝓤 H 𝓜 𝓖 𝓡 =
+reset-spec 𝓤 H 𝓜 𝓖 𝓡 =
     entered 𝓤 H (tripleOf 𝓤 H (𝓖 .A) reset.signature (reset.spec 𝓤 H (𝓖 .A) (𝓜 .mem) (𝓡 .run)))
     (tables 𝓤 H 𝓜 𝓡 code.env .C) (tables 𝓤 H 𝓜 𝓡 code.env .Λ) #reset code.function (code.unfolded 𝓤 H 𝓜 𝓡)
     (reset-meets 𝓤 H (𝓖 .A) (givenOf 𝓤 H 𝓜 𝓖) (𝓜 .mem) (𝓡 .run) (tablesOf 𝓤 H 𝓜 (tables 𝓤 H 𝓜 𝓡 code.env))

@@ -1,4 +1,4 @@
--- `spritbobbin_rack_feed` meets its contract: a walk of its MIR, by hand. `list_refusal` is asked first; where the list refuses, `refuse` writes the answer and
+-- `rack::feed` meets its contract: a walk of its MIR, by hand. `list_refusal` is asked first; where the list refuses, `refuse` writes the answer and
 -- the list is not opened. Else record `line` is read out of the list, `feed_record` is called on it, which writes the answer, and the record that it gives is
 -- put back. All that the proof knows of the three is that they meet their contracts. The answer's array goes to the callee at its own lifetime, for good.
 use mathlib.Core.Path.{_≡_, refl, sym, ap, subst, _∙_}
@@ -70,10 +70,10 @@ use Rattle.rack.proofs.record.feed_record as fr
 use Rattle.rack.proofs.record.feed_record.Symbol as fr-def
 use Rattle.rack.proofs.record.feed_record.Symbol.{name as #feed-record}
 use Rattle.rack.proofs.record.feed_record.Met as fr-thm
-use Rattle.rack.proofs.spritbobbin_rack_feed.Key.{name as #feed}
-use Rattle.rack.proofs.spritbobbin_rack_feed as feed
-use Rattle.rack.proofs.spritbobbin_rack_feed.Statement as stated
-use Rattle.rack.proofs.spritbobbin_rack_feed.Code as code
+use Rattle.rack.proofs.feed.Key.{name as #feed}
+use Rattle.rack.proofs.feed as feed
+use Rattle.rack.proofs.feed.Statement as stated
+use Rattle.rack.proofs.feed.Code as code
 
 -- a record, and the array of the answer
 abbrev R : RattleType
@@ -404,9 +404,9 @@ feed-meets 𝓤 H A W mem run 𝓣 listed refuses feeds =
     ) (feed.clauses 𝓤 H A mem run)
     (WpFn 𝓤 H (𝓣 .C) (𝓣 .Λ) code.function) (WpFn-mono 𝓤 H (W .laws) 𝓣 code.function) (feed-walks 𝓤 H A W mem run (𝓣 .C) (𝓣 .Λ) (fmOf 𝓤 H (W .laws) 𝓣) listed refuses feeds)
 
-pub spritbobbin-rack-feed-spec : {M : Type 1} → stated.statement M
+pub feed-spec : {M : Type 1} → stated.statement M
 unfolding code.routine tablesOf
-spritbobbin-rack-feed-spec 𝓤 H 𝓜 𝓖 𝓡 =
+feed-spec 𝓤 H 𝓜 𝓖 𝓡 =
     entered 𝓤 H (tripleOf 𝓤 H (𝓖 .A) feed.signature (feed.spec 𝓤 H (𝓖 .A) (𝓜 .mem) (𝓡 .run)))
     (tables 𝓤 H 𝓜 𝓡 code.env .C) (tables 𝓤 H 𝓜 𝓡 code.env .Λ) #feed code.function (code.unfolded 𝓤 H 𝓜 𝓡)
     (feed-meets 𝓤 H (𝓖 .A) (givenOf 𝓤 H 𝓜 𝓖) (𝓜 .mem) (𝓡 .run) (tablesOf 𝓤 H 𝓜 (tables 𝓤 H 𝓜 𝓡 code.env))

@@ -1,4 +1,4 @@
--- `spritbobbin_rack_aligned` meets its contract: a walk of its MIR, by hand, with its loop. `counted` says how many records are looked at; a turn reads the mode
+-- `rack::aligned` meets its contract: a walk of its MIR, by hand, with its loop. `counted` says how many records are looked at; a turn reads the mode
 -- of record i and hands it to `count_on`; at the end `tell` writes the answer. All that the proof knows of the three is that they meet their contracts.
 -- The loop's invariant: i records are looked at, i at most m, and the count is `alignedOf` of them; its variant is what is left.
 use mathlib.Core.Path.{_≡_, refl, sym, ap, subst, _∙_}
@@ -68,10 +68,10 @@ use Rattle.rack.proofs.rule.tell as tl
 use Rattle.rack.proofs.rule.tell.Symbol as tl-def
 use Rattle.rack.proofs.rule.tell.Symbol.{name as #tell}
 use Rattle.rack.proofs.rule.tell.Met as tl-thm
-use Rattle.rack.proofs.spritbobbin_rack_aligned.Key.{name as #aligned}
-use Rattle.rack.proofs.spritbobbin_rack_aligned as aligned
-use Rattle.rack.proofs.spritbobbin_rack_aligned.Statement as stated
-use Rattle.rack.proofs.spritbobbin_rack_aligned.Code as code
+use Rattle.rack.proofs.aligned.Key.{name as #aligned}
+use Rattle.rack.proofs.aligned as aligned
+use Rattle.rack.proofs.aligned.Statement as stated
+use Rattle.rack.proofs.aligned.Code as code
 
 -- a record, and the array of the answer
 abbrev R : RattleType
@@ -365,9 +365,9 @@ module _ {M : Type 1} (𝓤 : URA M) (H : Heap 𝓤) (A : Atoms 𝓤) (W : Given
       ) (aligned.clauses 𝓤 H A mem run)
       (WpFn 𝓤 H (𝓣 .C) (𝓣 .Λ) code.function) (WpFn-mono 𝓤 H (W .laws) 𝓣 code.function) aligned-walks
 
-pub spritbobbin-rack-aligned-spec : {M : Type 1} → stated.statement M
+pub aligned-spec : {M : Type 1} → stated.statement M
 unfolding code.routine tablesOf
-spritbobbin-rack-aligned-spec 𝓤 H 𝓜 𝓖 𝓡 =
+aligned-spec 𝓤 H 𝓜 𝓖 𝓡 =
     entered 𝓤 H (tripleOf 𝓤 H (𝓖 .A) aligned.signature (aligned.spec 𝓤 H (𝓖 .A) (𝓜 .mem) (𝓡 .run)))
     (tables 𝓤 H 𝓜 𝓡 code.env .C) (tables 𝓤 H 𝓜 𝓡 code.env .Λ) #aligned code.function (code.unfolded 𝓤 H 𝓜 𝓡)
     (aligned-meets 𝓤 H (𝓖 .A) (givenOf 𝓤 H 𝓜 𝓖) (𝓜 .mem) (𝓡 .run) (tablesOf 𝓤 H 𝓜 (tables 𝓤 H 𝓜 𝓡 code.env))
