@@ -17,6 +17,7 @@ pub mod history;
 pub mod level;
 mod multiframe;
 mod multiplexing;
+mod rack;
 pub mod random;
 mod receiver;
 
@@ -25,4 +26,5 @@ pub use finder::{finder_feed, finder_refusal, FinderState, Found};
 pub use finder::{FRAME_DIGITS, SECOND_PLACE, WORD, WORD_PLACE};
 pub use multiframe::{build_multiframe, multiframe_refusal, take_multiframe_apart};
 pub use multiplexing::{demultiplex, length_refusal, multiplex, Demultiplexed, Multiplexed};
+pub use rack::{rack_aligned, rack_feed, rack_refusal, rack_reset, Told, MOST_RECORDS};
 pub use receiver::{feed, feed_refusal, fresh, line_digit, Fed, State};

@@ -8,6 +8,7 @@
 //!   apart again.
 //! - A [`Receiver`] finds frames in a stream that comes in pieces of any size; a [`FrameStream`]
 //!   reads the stream too.
+//! - A [`Rack`] keeps the receivers of up to 64 lines.
 //! - A [`Finder`] finds the frames of a 2048 kbit/s line.
 //! - [`digits`] walks over the digits of a line.
 //! - [`write_capture`] keeps a line in a file, [`read_capture`] reads it back.
@@ -66,6 +67,7 @@ mod level;
 mod line;
 mod multiframe;
 mod multiplexing;
+mod rack;
 mod raw;
 mod receiver;
 mod refusal;
@@ -77,6 +79,7 @@ pub use level::{Level, MOST_BYTES, MOST_FRAMES};
 pub use line::{digits, line_digit, Digits};
 pub use multiframe::{Multiframe, MULTIFRAME_BYTES};
 pub use multiplexing::{demultiplex, multiplex, Received, Sent};
+pub use rack::{Rack, MOST_LINES};
 pub use receiver::{Frame, Frames, Mode, Receiver, State, Taken};
 pub use refusal::Refusal;
 pub use stream::FrameStream;

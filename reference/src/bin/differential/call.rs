@@ -65,7 +65,7 @@ pub enum Call {
 }
 
 /// The names of the calls, in the order of their numbers.
-pub const NAMES: [&str; 11] = [
+pub const NAMES: [&str; 14] = [
     "multiplex",
     "demultiplex",
     "receiver_fresh",
@@ -77,6 +77,9 @@ pub const NAMES: [&str; 11] = [
     "multiframe_apart",
     "finder_fresh",
     "finder_feed",
+    "rack_feed",
+    "rack_reset",
+    "rack_aligned",
 ];
 
 /// All that a call answers and leaves: two outcomes are equal or there is a disagreement.
@@ -234,7 +237,7 @@ fn slices(with: Lending) -> Vec<(&'static str, Vec<u8>)> {
 
 fn fed(piece: &Piece) -> Outcome {
     let answer = feed(&piece.state, &piece.slice, piece.first, piece.count);
-    let numbers = [answer.taken, u64::from(answer.ready), u64::from(answer.alarm)];
+    let numbers = [answer.taken, u64::from(answer.ready), u64::from(answer.alarm), answer.words];
     let numbers = [&numbers[..], &state_numbers(&answer.state)].concat();
     let lent = vec![("frame store", answer.state.frame.to_vec()), ("slice", piece.slice.clone())];
     outcome(answer.refusal, numbers, lent)

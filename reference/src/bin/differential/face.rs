@@ -1,6 +1,8 @@
 //! The product's C face, and the calls made through it with guards around all that is lent.
 
-use crate::call::{finder_numbers, state_numbers, Call, Hunt, Lending, Outcome, Piece, Whole, Writing};
+use crate::call::{
+    finder_numbers, state_numbers, Call, Hunt, Lending, Outcome, Piece, Whole, Writing,
+};
 
 #[rustfmt::skip]
 extern "C" {
@@ -37,6 +39,12 @@ extern "C" {
         state: *mut u64, piece: *const u8, piece_bytes: usize, first: u64, count: u64,
         answer: *mut u64,
     ) -> u64;
+    pub fn spritbobbin_rack_feed(
+        records: *mut u64, number: usize, line: u64, piece: *const u8, piece_bytes: usize,
+        first: u64, count: u64, answer: *mut u64,
+    ) -> u64;
+    pub fn spritbobbin_rack_reset(records: *mut u64, number: usize, line: u64, level: u64) -> u64;
+    pub fn spritbobbin_rack_aligned(records: *const u64, number: usize, answer: *mut u64) -> u64;
 }
 
 /// What stands in an array of numbers before the call, so that one left unwritten is seen.
@@ -71,7 +79,7 @@ impl<T: Copy + PartialEq> Lent<T> {
     }
 
     /// The name, if a guard was written over.
-    fn broken(&self) -> Option<&'static str> {
+    pub fn broken(&self) -> Option<&'static str> {
         let (before, after) = (&self.all[..GUARDS], &self.all[GUARDS + self.count()..]);
         let intact = before.iter().chain(after).all(|guard| *guard == self.guard);
         (!intact).then_some(self.name)

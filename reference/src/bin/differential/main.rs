@@ -16,6 +16,7 @@ mod finder;
 mod lengths;
 mod multiframes;
 mod multiplexing;
+mod rack;
 mod receiver;
 
 use call::{Call, Outcome, NAMES};
@@ -29,7 +30,7 @@ pub struct Run {
     lent_only: bool,
     trace: bool,
     random: Random,
-    calls: [u64; 11],
+    calls: [u64; 14],
 }
 
 impl Run {
@@ -98,7 +99,7 @@ fn print_difference(name: &str, ours: &[u8], theirs: &[u8]) {
 }
 
 fn arguments() -> Run {
-    let (seed, calls) = (1, [0; 11]);
+    let (seed, calls) = (1, [0; 14]);
     let random = Random::new(seed);
     let mut run = Run { seed, times: 1, lent_only: false, trace: false, random, calls };
     for argument in std::env::args().skip(1) {
@@ -129,6 +130,7 @@ fn main() {
         captures::part(&mut run);
         multiframes::part(&mut run);
         finder::part(&mut run);
+        rack::part(&mut run);
     }
     lengths::part(&mut run);
     println!("{}; no disagreement", run.summary());
