@@ -6,6 +6,7 @@ use crate::face::{self, spritbobbin_capture_read, spritbobbin_capture_write};
 use crate::face::{spritbobbin_demultiplex, spritbobbin_finder_feed, spritbobbin_line_digit};
 use crate::face::{spritbobbin_multiplex, spritbobbin_receiver_feed, UNWRITTEN};
 use crate::multiframes;
+use crate::rack;
 use crate::Run;
 use reference::{demultiplex, feed, feed_refusal, fresh, length_refusal, line_digit, multiplex};
 use reference::{finder_feed, finder_refusal, FinderState};
@@ -296,7 +297,7 @@ fn null_pointers(run: &mut Run) {
     }
     run.expect(6, "null file", &[9, 0, 0, 0, 0, 0, 0, 0], &raw_read(null, 0));
     for (first, count) in [(0, 0), (0, 1), (1, 0), (u64::MAX, 1)] {
-        let expected = [feed_refusal(&fresh(2).1, 0, first, count), 0, 0, 0];
+        let expected = [feed_refusal(&fresh(2).1, 0, first, count), 0, 0, 0, 0];
         run.expect(3, "null piece", &expected, &raw_feed(null, 0, first, count));
         let expected = [finder_refusal(&FinderState::default(), 0, first, count), 0, 0];
         run.expect(8, "null piece", &expected, &raw_hunt(null, 0, first, count));
@@ -304,6 +305,7 @@ fn null_pointers(run: &mut Run) {
         let digit = unsafe { spritbobbin_line_digit(null, 0, first) };
         run.expect(4, "null line", &[2], &[digit]);
     }
+    rack::no_records(run);
 }
 
 /// Lengths that no memory holds. Each of these calls is refused for its lengths alone, so a
@@ -320,8 +322,11 @@ fn false_lengths(run: &mut Run) {
         }
     }
     let memory = [0; 4096];
+    for number in [65, 1 << 32, (1 << 32) + 1, (1 << 54) - 1] {
+        rack::false_number(run, number);
+    }
     for long in lengths {
-        let expected = [feed_refusal(&fresh(2).1, long, 0, 8), 0, 0, 0];
+        let expected = [feed_refusal(&fresh(2).1, long, 0, 8), 0, 0, 0, 0];
         let fed = raw_feed(memory.as_ptr(), long as usize, 0, 8);
         run.expect(3, &format!("slice of {long} bytes"), &expected, &fed);
         let expected = [finder_refusal(&FinderState::default(), long, 0, 8), 0, 0];

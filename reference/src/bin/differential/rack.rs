@@ -10,7 +10,7 @@ use crate::Run;
 use reference::digits::pack;
 use reference::level::row;
 use reference::random::Random;
-use reference::{fresh, rack_aligned, rack_feed, rack_reset, State};
+use reference::{fresh, rack_aligned, rack_feed, rack_refusal, rack_reset, State};
 
 /// The kinds of the three calls, among the names of all.
 const FEED: usize = 11;
@@ -129,6 +129,41 @@ fn count(run: &mut Run, records: &[State]) {
     let face = [&[returned, answer.inner()[0]][..], &seen(&lent)].concat();
     run.expect(ALIGNED, &format!("modes {modes:?}"), &reference, &face);
     unbroken(run, ALIGNED, [lent.broken(), answer.broken(), None]);
+}
+
+/// A rack of no records, at a null pointer.
+pub fn no_records(run: &mut Run) {
+    refused_by_number(run, 0, std::ptr::null_mut());
+}
+
+/// So many records, over 64, that nobody lends: refused for their number alone, so a face that judges
+/// it first never reads or writes there.
+pub fn false_number(run: &mut Run, number: u64) {
+    let mut one = [0; WORDS];
+    refused_by_number(run, number, one.as_mut_ptr());
+}
+
+fn refused_by_number(run: &mut Run, number: u64, records: *mut u64) {
+    for line in [0, 63, 64, number.wrapping_sub(1), number, number + 1, u64::MAX] {
+        let (mut answer, inputs) = ([UNWRITTEN; 4], format!("{number} records; line {line}"));
+        // Sound: nothing is read or written at the records where the call is refused for their number.
+        let (fed, reset) = unsafe {
+            let (piece, a) = ([0; 1], answer.as_mut_ptr());
+            let fed =
+                spritbobbin_rack_feed(records, number as usize, line, piece.as_ptr(), 1, 0, 9, a);
+            (fed, spritbobbin_rack_reset(records, number as usize, line, 9))
+        };
+        let refusal = rack_refusal(number, line);
+        run.expect(FEED, &inputs, &[refusal, 0, 0, 0, 0], &[&[fed][..], &answer].concat());
+        run.expect(RESET, &inputs, &[refusal], &[reset]);
+    }
+    let mut answer = [UNWRITTEN];
+    // Sound as above.
+    let returned =
+        unsafe { spritbobbin_rack_aligned(records, number as usize, answer.as_mut_ptr()) };
+    let refusal = if number == 0 { 0 } else { 2 };
+    let inputs = format!("{number} records");
+    run.expect(ALIGNED, &inputs, &[refusal, 0], &[returned, answer[0]]);
 }
 
 fn unbroken(run: &Run, kind: usize, broken: [Option<&'static str>; 3]) {
