@@ -37,8 +37,8 @@ pub fn reset(records: &mut [Record], line: u64, level: u64) -> u64
     if refusal != 0 {
         return refusal;
     }
-    let k = line as usize;
-    records[k] = made.kept;
+    let at = line as usize;
+    records[at] = made.kept;
     refusal
 }
 

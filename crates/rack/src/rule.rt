@@ -50,10 +50,10 @@ pub fn made(number: usize, line: u64, level: u64) -> Kept
 pub fn counted(number: usize) -> usize
     ensures { λ r. ⌜ r ≡ countedTo number ⌝ }
 {
-    if 64 < number {
-        return 0;
+    if number <= 64 {
+        return number;
     }
-    number
+    0
 }
 
 pub fn count_on(n: u64, mode: u64) -> u64
@@ -70,8 +70,8 @@ pub fn tell(number: usize, n: u64, answer: &mut [u64; 1]) -> u64
     ensures { λ r. ⌜ (r ≡ countRefusal number) × (now (answer .exit) ≡ n ∷ []) ⌝ }
 {
     *answer = [n];
-    if 64 < number {
-        return 2;
+    if number <= 64 {
+        return 0;
     }
-    0
+    2
 }

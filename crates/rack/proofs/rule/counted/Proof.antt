@@ -7,11 +7,11 @@ use Rattle.rack.proofs.rule.counted.Tie as tie
 
 returns : tie.Need-returns
 unfolding countedTo
-returns c = rw (lt-ltb _ _ (c .if1 .taken))
+returns c = rw (le-ltb _ _ (c .if1 .taken))
 
 returns-2 : tie.Need-returns-2
 unfolding countedTo
-returns-2 c = rw (le-ltb _ _ (c .if1 .left))
+returns-2 c = rw (lt-ltb _ _ (c .if1 .left))
 
 pub counted-spec : {M : Type 1} → statement M
 counted-spec = tie.close (tie.spec returns returns-2)

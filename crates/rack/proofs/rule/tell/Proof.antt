@@ -8,11 +8,11 @@ use Rattle.rack.proofs.rule.tell.Tie as tie
 
 returns : tie.Need-returns
 unfolding countRefusal
-returns c = rw (lt-ltb _ _ (c .if1 .taken)) (refl, refl)
+returns c = rw (le-ltb _ _ (c .if1 .taken)) (refl, refl)
 
 returns-2 : tie.Need-returns-2
 unfolding countRefusal
-returns-2 c = rw (le-ltb _ _ (c .if1 .left)) (refl, refl)
+returns-2 c = rw (lt-ltb _ _ (c .if1 .left)) (refl, refl)
 
 pub tell-spec : {M : Type 1} → statement M
 tell-spec = tie.close (tie.spec returns returns-2)
