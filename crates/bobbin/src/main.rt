@@ -16,6 +16,7 @@ use passages::take;
 use pictures::frame;
 use pictures::frame::Noted;
 use recordings::sizes;
+use watching::watch;
 ghost use Rattle.levels.specs.Table.{Shared};
 
 // The words of every call by number; word 0 is the program's own name.
@@ -39,7 +40,9 @@ const FIND: u8 = 3;
 
 const KEEP: u8 = 4;
 
-const SHOW: u8 = 5;
+const WATCH: u8 = 5;
+
+const SHOW: u8 = 6;
 
 // Beside NO_NOTE, where there is none: a word that should be a note and is none.
 const WRONG_NOTE: u16 = 257;
@@ -88,6 +91,9 @@ fn which_command(word: &[u8]) -> u8 {
     if check::same(word, b"keep") {
         return KEEP;
     }
+    if check::same(word, b"watch") {
+        return WATCH;
+    }
     if check::same(word, b"show") {
         return SHOW;
     }
@@ -102,6 +108,7 @@ fn fits(which: u8, last: usize) -> bool {
         TAKE => last == take::TRIBUTARIES || last == opened::TRIBUTARIES,
         FIND => last == find::STREAM || last == find::PREFIX,
         KEEP => last == keep::CAPTURE || last == keep::LABEL,
+        WATCH => watch::FIRST < last && last <= watch::LAST && last % 2 == 1,
         _ => last == opened::CAPTURE || last == opened::LINE,
     }
 }
@@ -117,6 +124,7 @@ fn wrong_words(which: u8) {
             help::wrong_call(b"find takes a level and a file, and a prefix where files are wanted.")
         }
         KEEP => help::wrong_call(b"keep takes a level and two files, and a label where wanted."),
+        WATCH => help::wrong_call(b"watch takes a level and a file for each of up to 64 lines."),
         _ => help::wrong_call(b"show takes a capture, and a file where its line is wanted."),
     }
 }
@@ -135,6 +143,10 @@ fn counted(which: u8, last: usize) {
     }
     if which == SHOW {
         shown(last);
+        return;
+    }
+    if which == WATCH {
+        watch::run(sizes::least(last, watch::LAST));
         return;
     }
     levelled(which, last);

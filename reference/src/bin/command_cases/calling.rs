@@ -2,10 +2,11 @@
 
 use crate::case::{words, Case};
 
-const COMMANDS: [&str; 8] = ["demo", "frame", "send", "take", "find", "keep", "show", "help"];
+const COMMANDS: [&str; 9] =
+    ["demo", "frame", "send", "take", "find", "watch", "keep", "show", "help"];
 
 /// Wrong calls. The files that they name are there.
-const WRONG: [&str; 31] = [
+const WRONG: [&str; 34] = [
     "",
     "bogus",
     "sen 2 notes tributaries out",
@@ -28,6 +29,9 @@ const WRONG: [&str; 31] = [
     "find",
     "find 2",
     "find 2 line out more",
+    "watch",
+    "watch 2",
+    "watch 2 line 3",
     "take line out",
     "take line out out",
     "take 2 line",

@@ -28,6 +28,7 @@ mod stream;
 mod taking;
 mod texts;
 mod trips;
+mod watching;
 mod worked;
 
 use std::path::Path;
@@ -47,6 +48,7 @@ fn main() -> io::Result<()> {
     cases.extend(sending::cases());
     cases.extend(taking::cases());
     cases.extend(finding::cases());
+    cases.extend(watching::cases());
     cases.extend(keeping::cases());
     cases.extend(showing::cases());
     cases.extend(trips::cases());
