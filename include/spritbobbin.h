@@ -22,6 +22,7 @@
  *             frame to frame without a gap.
  * note        one byte for each frame: which tributaries are stuffed, and the service digits.
  * capture     a file that keeps a line: see spritbobbin_capture_write.
+ * rack        a list of receivers, one to a line: see spritbobbin_rack_feed.
  * multiframe  sixteen frames of 32 bytes at 2048 kbit/s: see spritbobbin_multiframe_build.
  *
  *                           level 2    level 3    level 4
@@ -56,7 +57,8 @@
  *   0  accepted
  *   1  the level is not 2, 3 or 4
  *   2  the line is not a whole number of frames, or has over 64; for a piece: the slice is over
- *      65,536 bytes; for a multiframe: a slice has not the length that the call asks for
+ *      65,536 bytes; for a multiframe: a slice has not the length that the call asks for; for a
+ *      rack: it has over 64 records
  *   3  the notes are not exactly F bytes
  *   4  the buffer's length is not a multiple of 4, or a quarter has room for fewer than F * n
  *      digits (asked even where frames are stuffed and fewer are needed)
@@ -68,6 +70,7 @@
  *      stretch, more zeros than digits there, or a number for yes or no that is over 1; for the
  *      finder of 2048 kbit/s frames: see spritbobbin_finder_feed
  *   7  first + count is more than the digits of the slice
+ *   8  a rack: it has no line of this number
  *   9  writing a capture: the label is over 32 bytes; reading one: the bytes are no run of a
  *      capture's fields, and the answer names the byte where the field at fault begins or should
  *      begin, counted from 0
@@ -78,7 +81,8 @@
  *
  * Where several apply, the first in this order is returned: 1, 2, 3, 4, 5 for the two multiplex
  * calls, 6, 2, 7 for a piece, 1, 2, 9, 4 for writing a capture, 9, 1, 2 for reading one, 2, 11
- * for building a multiframe; for a comparison see spritbobbin_compare. A refused call writes
+ * for building a multiframe; for a comparison see spritbobbin_compare; for a rack 8, 2 and then as
+ * a piece, or 1 for a reset. A refused call writes
  * nothing that it was lent, but the answer: all its numbers are 0, except the named frame under 5,
  * the named byte under 9, the named channel under 11 and the file at fault of a comparison. (A
  * fresh state and the places of a comparison are answers too.)
@@ -157,6 +161,7 @@ enum {
     SPRITBOBBIN_REFUSED_NOTE_BITS = 5,
     SPRITBOBBIN_REFUSED_STATE = 6,
     SPRITBOBBIN_REFUSED_DIGITS = 7,
+    SPRITBOBBIN_REFUSED_RACK_LINE = 8,
     SPRITBOBBIN_REFUSED_FIELD = 9,
     SPRITBOBBIN_REFUSED_SIGNALLING = 11
 };
@@ -236,6 +241,7 @@ enum {
     SPRITBOBBIN_LABELLED = 3,    /* 1 if there is a label */
     SPRITBOBBIN_LABEL_START = 4, /* the label's first byte in the file */
     SPRITBOBBIN_LABEL_BYTES = 5, /* how many it has */
+    SPRITBOBBIN_RACK_ALIGNED = 0, /* a rack: lines in mode aligned */
     SPRITBOBBIN_NAMED_CHANNEL = 0, /* building a multiframe: under 11 */
     SPRITBOBBIN_NAMED_BYTE = 6   /* under 9: where the field at fault begins or should begin */
 };
@@ -331,6 +337,40 @@ uint64_t spritbobbin_receiver_fresh(uint64_t level, uint64_t state[9], uint8_t f
  */
 uint64_t spritbobbin_receiver_feed(uint64_t state[9], uint8_t frame[366], const uint8_t *piece, size_t piece_bytes,
                                    uint64_t first, uint64_t count, uint64_t answer[4]);
+
+/*
+ * A rack: a list of up to 64 receivers, line 0 first, each kept as a record that has the state and
+ * the frame of a receiver (above). A line answers as a receiver alone that gets its own calls.
+ */
+struct spritbobbin_record {
+    uint64_t state[9];
+    uint8_t frame[366];
+};
+
+#define SPRITBOBBIN_MOST_RECORDS 64
+
+/*
+ * Feeds a piece to one line of a rack, as spritbobbin_receiver_feed feeds it to one receiver; the
+ * line's record is written, and no other. answer: as there. Returns 0, or 8 (no such line), 2
+ * (over 64 records), and then as a piece is refused: 6, 2, 7.
+ */
+uint64_t spritbobbin_rack_feed(struct spritbobbin_record *records, size_t number, uint64_t line,
+                               const uint8_t *piece, size_t piece_bytes,
+                               uint64_t first, uint64_t count, uint64_t answer[4]);
+
+/*
+ * Makes one line of a rack fresh, of a level, whatever its record holds. So a rack is set up: a
+ * reset of each line. Returns 0, or 8, 2, 1; the record then stays as it is.
+ */
+uint64_t spritbobbin_rack_reset(struct spritbobbin_record *records, size_t number, uint64_t line,
+                                uint64_t level);
+
+/*
+ * Counts the lines in mode aligned, which is a mode of 3 or more; nothing else is asked of a
+ * record. answer: how many. Returns 0, or 2, and then counts 0.
+ */
+uint64_t spritbobbin_rack_aligned(const struct spritbobbin_record *records, size_t number,
+                                  uint64_t answer[1]);
 
 /* What stands where in the answer and the state of the finder of 2048 kbit/s frames, its mode
    numbers, and its places. */

@@ -18,6 +18,7 @@ pub mod history;
 pub mod level;
 mod multiframe;
 mod multiplexing;
+mod rack;
 pub mod random;
 mod receiver;
 
@@ -29,4 +30,5 @@ pub use multiframe::{build_multiframe, multiframe_refusal, take_multiframe_apart
 pub use multiplexing::{
     extract, frames_refusal, length_refusal, multiplex, read_notes, Counted, Noted,
 };
+pub use rack::{rack_aligned, rack_feed, rack_refusal, rack_reset, Told, MOST_RECORDS};
 pub use receiver::{feed, feed_refusal, fresh, line_digit, Fed, State};

@@ -8,6 +8,7 @@
 //!   notes of a line, and [`extract`] takes the tributaries out again by notes.
 //! - A [`Receiver`] finds frames in a stream that comes in pieces of any size; a [`FrameStream`]
 //!   reads the stream too.
+//! - A [`Rack`] keeps the receivers of up to 64 lines.
 //! - A [`Finder`] finds the frames of a 2048 kbit/s line.
 //! - [`digits`] walks over the digits of a line.
 //! - [`write_capture`] keeps a line in a file, [`read_capture`] reads it back.
@@ -69,6 +70,7 @@ mod level;
 mod line;
 mod multiframe;
 mod multiplexing;
+mod rack;
 mod raw;
 mod receiver;
 mod refusal;
@@ -83,6 +85,7 @@ pub use level::{Level, MOST_BYTES, MOST_FRAMES};
 pub use line::{digits, line_digit, Digits};
 pub use multiframe::{Multiframe, MULTIFRAME_BYTES};
 pub use multiplexing::{extract, multiplex, read_notes, Extracted, Noted, Sent};
+pub use rack::{Rack, MOST_LINES};
 pub use receiver::{Frame, Frames, Mode, Receiver, State, Taken};
 pub use refusal::Refusal;
 pub use stream::FrameStream;

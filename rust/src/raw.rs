@@ -9,6 +9,20 @@
 /// The bytes of the longest frame: a receiver's store has as many at every level.
 pub const STORE: usize = 366;
 
+/// A record of a rack, laid out as the library lays it out: a receiver's state and its frame in hand.
+#[repr(C)]
+#[derive(Clone, Debug, PartialEq, Eq)]
+pub struct Record {
+    pub state: [u64; 9],
+    pub frame: [u8; STORE],
+}
+
+impl Default for Record {
+    fn default() -> Record {
+        Record { state: [0; 9], frame: [0; STORE] }
+    }
+}
+
 extern "C" {
     /// Answer: four digit counts, named frame.
     pub fn spritbobbin_multiplex(
@@ -61,6 +75,32 @@ extern "C" {
         first: u64,
         count: u64,
         answer: &mut [u64; 4],
+    ) -> u64;
+
+    /// Answer: as of `spritbobbin_receiver_feed`.
+    pub fn spritbobbin_rack_feed(
+        records: *mut Record,
+        number: usize,
+        line: u64,
+        piece: *const u8,
+        piece_bytes: usize,
+        first: u64,
+        count: u64,
+        answer: &mut [u64; 4],
+    ) -> u64;
+
+    pub fn spritbobbin_rack_reset(
+        records: *mut Record,
+        number: usize,
+        line: u64,
+        level: u64,
+    ) -> u64;
+
+    /// Answer: lines in mode aligned.
+    pub fn spritbobbin_rack_aligned(
+        records: *const Record,
+        number: usize,
+        answer: &mut [u64; 1],
     ) -> u64;
 
     /// 0 or 1, or 2 where the line has ended.

@@ -140,12 +140,7 @@ impl Receiver {
 
     /// What it is doing.
     pub fn mode(&self) -> Mode {
-        match self.numbers[3] {
-            0 => Mode::Hunting,
-            1 => Mode::OneFound,
-            2 => Mode::TwoFound,
-            aligned => Mode::Aligned { missed: (aligned - 3) as u8 },
-        }
+        Mode::of_number(self.numbers[3])
     }
 
     /// Whether it has found where frames begin, so that it hands frames over.
@@ -170,20 +165,7 @@ impl Receiver {
 
     /// Its state in numbers.
     pub fn state(&self) -> State {
-        let [level, window, seen, mode, place, stretch_digits, stretch_zeros, few_before, alarm] =
-            self.numbers;
-        State {
-            level,
-            window,
-            seen,
-            mode,
-            place,
-            stretch_digits,
-            stretch_zeros,
-            few_before,
-            alarm,
-            frame: self.store,
-        }
+        State::of(&self.numbers, &self.store)
     }
 
     /// Takes the stream's next bytes and hands out the frames that they complete.
@@ -238,14 +220,8 @@ impl Receiver {
         }
     }
 
-    fn taken(&self, [digits, ready, alarm, words]: [u64; 4]) -> Taken {
-        let frame = Frame { level: self.level, store: self.store };
-        Taken {
-            digits: count(digits),
-            frame: (ready == 1).then_some(frame),
-            alarm: alarm == 1,
-            words: count(words),
-        }
+    fn taken(&self, answer: [u64; 4]) -> Taken {
+        Taken::of(answer, Frame::of(self.level, self.store))
     }
 
     /// The next frame that a piece completes from a digit on, which is moved past what was taken;
@@ -259,7 +235,53 @@ impl Receiver {
     }
 }
 
+impl Mode {
+    pub(crate) fn of_number(number: u64) -> Mode {
+        match number {
+            0 => Mode::Hunting,
+            1 => Mode::OneFound,
+            2 => Mode::TwoFound,
+            aligned => Mode::Aligned { missed: (aligned - 3) as u8 },
+        }
+    }
+}
+
+impl State {
+    pub(crate) fn of(numbers: &[u64; 9], frame: &[u8; STORE]) -> State {
+        let [level, window, seen, mode, place, stretch_digits, stretch_zeros, few_before, alarm] =
+            *numbers;
+        State {
+            level,
+            window,
+            seen,
+            mode,
+            place,
+            stretch_digits,
+            stretch_zeros,
+            few_before,
+            alarm,
+            frame: *frame,
+        }
+    }
+}
+
+impl Taken {
+    /// What the library's answer says, where the frame in hand is this one.
+    pub(crate) fn of([digits, ready, alarm, words]: [u64; 4], in_hand: Frame) -> Taken {
+        Taken {
+            digits: count(digits),
+            frame: (ready == 1).then_some(in_hand),
+            alarm: alarm == 1,
+            words: count(words),
+        }
+    }
+}
+
 impl Frame {
+    pub(crate) fn of(level: Level, store: [u8; STORE]) -> Frame {
+        Frame { level, store }
+    }
+
     /// Its level.
     pub fn level(&self) -> Level {
         self.level

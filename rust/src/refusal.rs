@@ -5,6 +5,7 @@ use std::fmt;
 
 use crate::capture::MOST_LABEL_BYTES;
 use crate::level::{Level, MOST_BYTES, MOST_FRAMES};
+use crate::rack::MOST_LINES;
 
 /// Why a call was refused. A refused call has written nothing that it was lent.
 ///
@@ -76,6 +77,18 @@ pub enum Refusal {
         /// The slice's bytes.
         bytes: usize,
     },
+    /// A rack has no line of this number.
+    RackLine {
+        /// The line asked for, counted from 0.
+        line: usize,
+        /// How many lines the rack has.
+        lines: usize,
+    },
+    /// A rack is to have over 64 lines.
+    Rack {
+        /// How many were asked for.
+        lines: usize,
+    },
     /// A capture's label is over 32 bytes.
     Label {
         /// The label's bytes.
@@ -110,12 +123,13 @@ impl Refusal {
     pub fn number(&self) -> u64 {
         match self {
             Refusal::Level { .. } => 1,
-            Refusal::Line { .. } | Refusal::Slice { .. } => 2,
+            Refusal::Line { .. } | Refusal::Slice { .. } | Refusal::Rack { .. } => 2,
             Refusal::Notes { .. } => 3,
             Refusal::Buffer { .. } | Refusal::File { .. } => 4,
             Refusal::NoteBits { .. } => 5,
             Refusal::State => 6,
             Refusal::Digits { .. } => 7,
+            Refusal::RackLine { .. } => 8,
             Refusal::Label { .. } | Refusal::Field { .. } => 9,
             Refusal::Signalling { .. } => 11,
             Refusal::Unknown { number } => *number,
@@ -156,6 +170,14 @@ impl fmt::Display for Refusal {
                 "{count} digits from digit {first} on do not fit in a slice of {bytes} bytes: \
                  ask for no digit past the slice's end"
             ),
+            Refusal::RackLine { line, lines } => write!(
+                out,
+                "there is no line {line} (counted from 0): the rack has {}",
+                counted(lines, "line")
+            ),
+            Refusal::Rack { lines } => {
+                write!(out, "a rack of {lines} lines is too large: give it at most {MOST_LINES}")
+            }
             Refusal::Label { bytes } => write!(
                 out,
                 "a label of {bytes} bytes is too long: give at most {MOST_LABEL_BYTES} bytes"

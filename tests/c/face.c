@@ -1,10 +1,12 @@
 /*
  * Calls every function of the library through its header, from C: worked cases 1, 9, 10 and 11
- * of the specification, each refusal, the digits of a line, captures, comparisons, multiframes and frames of 2048 kbit/s. Prints "face: ok", or what failed.
+ * of the specification, each refusal, the digits of a line, captures, comparisons, multiframes, frames of 2048 kbit/s
+ * and a rack of lines. Prints "face: ok", or what failed.
  *
  * All bytes that are lent come from malloc in their exact number, so that valgrind sees a read or
  * a write of the library one byte beside them.
  */
+#include <stddef.h>
 #include <stdio.h>
 #include <stdlib.h>
 #include <string.h>
@@ -422,6 +424,67 @@ static void finder(void)
     free(long_one);
 }
 
+/* A feed that the rack refuses with this number, and that leaves every byte of the list as it was. */
+static void refused_line(struct spritbobbin_record *records, size_t number, uint64_t line, const uint8_t *piece, size_t piece_bytes, uint64_t count, uint64_t refusal)
+{
+    size_t length = number * sizeof *records;
+    uint8_t *before = lend(length, 0);
+    uint64_t answer[4];
+
+    memset(answer, 0xA5, sizeof answer);
+    if (length)
+        memcpy(before, records, length);
+    check(spritbobbin_rack_feed(records, number, line, piece, piece_bytes, 0, count, answer) == refusal, "the refusal of a line's piece");
+    check(all_zero(answer, 4) && (!length || !memcmp(before, records, length)), "a refused piece changes no record");
+    free(before);
+}
+
+/* Three lines, of which the second is fed and reset; the layout of a record is the library's: it writes each number and the frame where this header has them. */
+static void rack(void)
+{
+    size_t i, bytes = 65 * sizeof(struct spritbobbin_record);
+    struct spritbobbin_record *records = (struct spritbobbin_record *)lend(bytes, 0xA5), one;
+    uint8_t *stream = lend(4 * 106, 0), *long_one = lend(SPRITBOBBIN_MOST_BYTES + 1, 0);
+    uint64_t answer[4], alone[9], told[4];
+    uint8_t frame[366];
+
+    check(sizeof one == 440 && offsetof(struct spritbobbin_record, frame) == 72, "a record has 72 bytes of numbers, then 366 of frame, 440 in all");
+    for (i = 0; i < 4; i++)
+        stream[106 * i] = 0xF4;
+    one = records[0];
+    check(spritbobbin_rack_reset(records, 3, 1, 2) == 0, "a line is reset, whatever it held");
+    check(records[1].state[SPRITBOBBIN_STATE_LEVEL] == 2 && all_zero(records[1].state + 1, 8) && all(records[1].frame, 366, 0), "a fresh record");
+    check(!memcmp(&one, &records[0], 438) && !memcmp(&one, &records[2], 438), "a reset changes no other record");
+    spritbobbin_receiver_fresh(2, alone, frame);
+    check(spritbobbin_rack_feed(records, 3, 1, stream, 424, 0, 3392, answer) == 0, "case 11 on line 1");
+    spritbobbin_receiver_feed(alone, frame, stream, 424, 0, 3392, told);
+    check(answer[SPRITBOBBIN_TAKEN] == 2544 && answer[SPRITBOBBIN_READY] == 1 && !memcmp(answer, told, sizeof told), "as a receiver alone");
+    check(!memcmp(records[1].state, alone, sizeof alone) && !memcmp(records[1].frame, frame, 366) && records[1].frame[0] == 0xF4, "its record is the state and the frame");
+    check(!memcmp(&one, &records[0], 438) && !memcmp(&one, &records[2], 438), "a feed changes no other record");
+    check(spritbobbin_rack_aligned(records + 1, 1, answer) == 0 && answer[SPRITBOBBIN_RACK_ALIGNED] == 1, "one line is aligned");
+    check(spritbobbin_rack_aligned(records, 3, answer) == 0 && answer[0] == 3, "the count asks a mode of 3 or more, and no more");
+    check(spritbobbin_rack_aligned(records, 64, answer) == 0 && answer[0] == 64, "64 records are counted");
+    check(spritbobbin_rack_aligned(NULL, 0, answer) == 0 && answer[0] == 0, "an empty rack");
+    answer[0] = 7;
+    check(spritbobbin_rack_aligned(records, 65, answer) == SPRITBOBBIN_REFUSED_LINE && answer[0] == 0, "65 records are not counted");
+
+    one = records[1];
+    check(spritbobbin_rack_reset(records, 3, 1, 5) == SPRITBOBBIN_REFUSED_LEVEL && !memcmp(&one, &records[1], 438), "under 1 the record stays");
+    check(spritbobbin_rack_reset(records, 65, 65, 5) == SPRITBOBBIN_REFUSED_RACK_LINE, "8 before 2");
+    check(spritbobbin_rack_reset(records, 65, 64, 5) == SPRITBOBBIN_REFUSED_LINE, "2 before 1");
+    check(spritbobbin_rack_reset(NULL, 0, 0, 2) == SPRITBOBBIN_REFUSED_RACK_LINE, "an empty rack has no line 0");
+    refused_line(records, 3, 3, stream, 424, 3393, SPRITBOBBIN_REFUSED_RACK_LINE);
+    refused_line(records, 3, UINT64_MAX, stream, 424, 1, SPRITBOBBIN_REFUSED_RACK_LINE);
+    refused_line(records, 65, 65, stream, 424, 1, SPRITBOBBIN_REFUSED_RACK_LINE);
+    refused_line(records, 65, 0, stream, 424, 1, SPRITBOBBIN_REFUSED_LINE);
+    refused_line(records, 64, 0, long_one, SPRITBOBBIN_MOST_BYTES + 1, 1, SPRITBOBBIN_REFUSED_STATE);
+    refused_line(records, 64, 1, long_one, SPRITBOBBIN_MOST_BYTES + 1, 1, SPRITBOBBIN_REFUSED_LINE);
+    refused_line(records, 64, 1, stream, 424, 3393, SPRITBOBBIN_REFUSED_DIGITS);
+    free(records);
+    free(stream);
+    free(long_one);
+}
+
 int main(void)
 {
     both_ways(2, 106, 1, 1, 0, 104, 0);      /* case 1; case 9: a quarter of 26 bytes */
@@ -445,6 +508,7 @@ int main(void)
     captures();
     comparisons();
     multiframes();
+    rack();
     if (failures)
         return 1;
     puts("face: ok");

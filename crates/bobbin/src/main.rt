@@ -23,6 +23,7 @@ use pictures::frame;
 use pictures::frame::Noted;
 use recordings::sizes;
 use taking::take;
+use watching::watch;
 ghost use Rattle.levels.specs.Table.{Shared};
 
 // The words of every call by number; word 0 is the program's own name.
@@ -50,20 +51,23 @@ const NOTES: u8 = 5;
 
 const EXTRACT: u8 = 6;
 
+// Those that take no level in that place.
 const SHOW: u8 = 7;
 
-const COMPARE: u8 = 8;
+const WATCH: u8 = 8;
 
-// Those of 2048 kbit/s, which take no level.
-const BUILD: u8 = 9;
+const COMPARE: u8 = 9;
 
-const APART: u8 = 10;
+// Those of 2048 kbit/s.
+const BUILD: u8 = 10;
 
-const HUNT: u8 = 11;
+const APART: u8 = 11;
 
-const MULTIFRAME: u8 = 12;
+const HUNT: u8 = 12;
 
-const NO_COMMAND: u8 = 13;
+const MULTIFRAME: u8 = 13;
+
+const NO_COMMAND: u8 = 14;
 
 // Beside NO_NOTE, where there is none: a word that should be a note and is none.
 const WRONG_NOTE: u16 = 257;
@@ -121,6 +125,9 @@ fn which_command(word: &[u8]) -> u8 {
     if check::same(word, b"show") {
         return SHOW;
     }
+    if check::same(word, b"watch") {
+        return WATCH;
+    }
     if check::same(word, b"compare") {
         return COMPARE;
     }
@@ -154,6 +161,7 @@ fn fits(which: u8, last: usize) -> bool {
         NOTES => last == notes::LINE || last == notes::NOTES,
         EXTRACT => last == extract::TRIBUTARIES,
         SHOW => last == opened::CAPTURE || last == opened::LINE,
+        WATCH => watch::FIRST < last && last <= watch::LAST && last % 2 == 1,
         COMPARE => last == compared::OTHER || last == compared::PICTURE,
         BUILD => last == build::MULTIFRAMES,
         APART => last == apart::SPARE,
@@ -178,6 +186,7 @@ fn wrong_words(which: u8) {
         ),
         EXTRACT => help::wrong_call(b"extract takes a level and three files."),
         SHOW => help::wrong_call(b"show takes a capture, and a file where its line is wanted."),
+        WATCH => help::wrong_call(b"watch takes a level and a file for each of up to 64 lines."),
         COMPARE => help::wrong_call(
             b"compare takes two captures, and a file for the picture where wanted.",
         ),
@@ -217,6 +226,7 @@ fn counted(which: u8, last: usize) {
 fn unlevelled(which: u8, last: usize) {
     match which {
         SHOW => shown(last),
+        WATCH => watch::run(sizes::least(last, watch::LAST)),
         COMPARE => held(last),
         BUILD => build::run(),
         APART => taken_apart(),

@@ -36,6 +36,10 @@ pub fn forms() {
         b"finds the frames in a recording; PREFIX: takes them apart",
     );
     form(
+        b"watch LEVEL STREAM [..]              ",
+        b"up to 64 recordings side by side, LEVEL and STREAM of each",
+    );
+    form(
         b"keep LEVEL LINE CAPTURE [LABEL]      ",
         b"makes a capture of up to 64 frames, with a site label",
     );

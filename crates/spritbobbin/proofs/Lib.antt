@@ -1,3 +1,4 @@
 pub mod Answers
 pub mod FinderAnswers
 pub mod CompareAnswers
+pub mod RackAnswers

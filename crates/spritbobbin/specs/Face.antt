@@ -8,8 +8,6 @@ use lib.Dec.{eqb, leb, ltb}
 use lib.ListN.{length, getD}
 use Rattle.levels.specs.declared.judging.Counted.{Counted}
 use Rattle.reading.specs.declared.Noted.{Noted}
-use Rattle.receiver.specs.declared.Mode.{Mode}
-use Rattle.receiver.specs.declared.Mode.the-variants.{Hunting, OneFound, TwoFound, Aligned}
 use Rattle.receiver.specs.declared.State.{State}
 use Rattle.receiver.specs.declared.Fed.{Fed}
 use Rattle.captures.specs.declared.Written.{Written}
@@ -20,7 +18,8 @@ use Rattle.multiplex.specs.Multiplex.{lineAfter}
 use Rattle.reading.specs.Reading.{noted, notesAfter}
 use Rattle.extraction.specs.Extract.{bufferAfter}
 use Rattle.receiver.specs.declared.alarm.Stretch.{Stretch}
-use Rattle.receiver.specs.Feed.{refused, freshOf, feedOf}
+use Rattle.receiver.specs.Feed.{freshOf}
+use Rattle.rack.specs.Record.{modeNumber, modeOf, isYes, fedBy, fedAnswer}
 use Rattle.line_reader.specs.Step.{stepAt, digitOrEnd}
 use Rattle.captures.specs.Captures.{writtenOf, leftOf, readOf}
 use Rattle.multiframe.specs.Multiframe.{multiframeOf}
@@ -33,21 +32,6 @@ countedAnswer m = getD (m .counts) 0 0 ∷ getD (m .counts) 1 0 ∷ getD (m .cou
 -- answer: alignment digits that differ, dissenting digits of tributaries 1 to 4
 abbrev pub notedAnswer : Noted → List ℕ
 notedAnswer n = n .alignment ∷ getD (n .dissent) 0 0 ∷ getD (n .dissent) 1 0 ∷ getD (n .dissent) 2 0 ∷ getD (n .dissent) 3 0 ∷ []
-
--- mode: 0 hunting, 1 one found, 2 two found, 3 + m aligned with m missed
-abbrev pub modeNumber : Mode → ℕ
-modeNumber Hunting = 0
-modeNumber OneFound = 1
-modeNumber TwoFound = 2
-modeNumber (Aligned m) = 3 + m
-
--- the mode of a number; a number over 6 is a mode with too many missed, which is refused with 6
-unfoldable pub modeOf : ℕ → Mode
-modeOf n = cond (eqb n 0) Hunting (cond (eqb n 1) OneFound (cond (eqb n 2) TwoFound (cond (leb n 6) (Aligned (n - 3)) (Aligned 4))))
-
--- a number that stands for yes or no: 0 is no
-abbrev pub isYes : ℕ → Bool
-isYes n = not (eqb n 0)
 
 -- state: level, window, digits seen, mode, place, then the stretch's digits, its zeros, 1 if the stretch before had few zeros, 1 if the alarm
 -- stands; the frame in hand beside it
@@ -78,14 +62,6 @@ stateNumbers s =
     ∷ cond (s .stretch .few) 1 0
     ∷ cond (s .stretch .alarm) 1 0
     ∷ []
-
--- feeding a state whose numbers for yes and no were these: "in a lent state any other value [than 0 or 1] is refused with 6"
-unfoldable pub fedBy : State → ℕ → ℕ → List ℕ → ℕ → ℕ → Fed
-fedBy s few alarm piece first count = cond (ltb 1 few || ltb 1 alarm) (refused 6 s) (feedOf s piece first count)
-
--- answer: digits taken, 1 if a frame is ready, 1 if the alarm stands at the end, words tested
-abbrev pub fedAnswer : Fed → List ℕ
-fedAnswer f = f .taken ∷ cond (f .ready) 1 0 ∷ cond (f .alarm) 1 0 ∷ f .words ∷ []
 
 -- a refused feed writes no state and no frame
 abbrev pub fedState : Fed → List ℕ → List ℕ

@@ -2,19 +2,18 @@
 // a pointer. include/spritbobbin.h declares these functions for C; nothing checks that header against this file but the tests.
 pub mod compare_face;
 pub mod finder_face;
+pub mod rack_face;
 
 use captures::Reading;
 use captures::Written;
 use levels::judging::Counted;
 use multiframe::Built;
 use reading::Noted;
-use receiver::Fed;
-use receiver::Mode;
 use receiver::State;
 use receiver::alarm::Stretch;
 ghost use mathlib.Core.Path.{_≡_};
 ghost use mathlib.Core.Bool.{cond};
-ghost use Rattle.spritbobbin.specs.Face.{countedAnswer, notedAnswer, modeNumber, modeOf, stateNumbers, fedBy, fedAnswer};
+ghost use Rattle.spritbobbin.specs.Face.{countedAnswer, notedAnswer, stateNumbers};
 ghost use Rattle.spritbobbin.specs.Face.{writtenAnswer, readAnswer, CaptureWriteMet, CaptureReadMet};
 ghost use Rattle.spritbobbin.specs.Face.{builtAnswer, MultiframeBuildMet, MultiframeApartMet};
 ghost use Rattle.spritbobbin.specs.Face.{MultiplexMet, ReadNotesMet, ExtractMet, FreshMet, FeedMet, LineDigitMet};
@@ -93,35 +92,6 @@ pub extern "C" fn spritbobbin_extract(
     taken.refusal
 }
 
-fn mode_number(mode: Mode) -> u64
-    ensures { λ r. ⌜ r ≡ modeNumber mode ⌝ }
-{
-    match mode {
-        Mode::Hunting => 0,
-        Mode::OneFound => 1,
-        Mode::TwoFound => 2,
-        Mode::Aligned(m) => 3 + m as u64,
-    }
-}
-
-fn mode_of(n: u64) -> Mode
-    ensures { λ r. ⌜ r ≡ modeOf n ⌝ }
-{
-    if n == 0 {
-        return Mode::Hunting;
-    }
-    if n == 1 {
-        return Mode::OneFound;
-    }
-    if n == 2 {
-        return Mode::TwoFound;
-    }
-    if n <= 6 {
-        return Mode::Aligned((n - 3) as u8);
-    }
-    Mode::Aligned(4)
-}
-
 fn numbers_of(s: State) -> [u64; 9]
     ensures { λ r. ⌜ r ≡ stateNumbers s ⌝ }
 {
@@ -131,32 +101,12 @@ fn numbers_of(s: State) -> [u64; 9]
         s.level,
         s.window as u64,
         s.seen as u64,
-        mode_number(mode),
+        rack::record::mode_number(mode),
         s.place as u64,
         st.digits as u64,
         st.zeros as u64,
-        as_number(st.few),
-        as_number(st.alarm),
-    ]
-}
-
-pub fn as_number(t: bool) -> u64
-    ensures { λ r. ⌜ r ≡ cond t 1 0 ⌝ }
-{
-    if t {
-        return 1;
-    }
-    0
-}
-
-fn fed_numbers(f: Fed) -> [u64; 4]
-    ensures { λ r. ⌜ r ≡ fedAnswer f ⌝ }
-{
-    [
-        f.taken as u64,
-        as_number(f.ready),
-        as_number(f.alarm),
-        f.words as u64,
+        rack::record::as_number(st.few),
+        rack::record::as_number(st.alarm),
     ]
 }
 
@@ -177,19 +127,6 @@ pub extern "C" fn spritbobbin_receiver_fresh(
     made.refusal
 }
 
-// Feeds a piece to a state of whose numbers two stand for yes or no: another number than 0 and 1 is refused with 6.
-fn fed_by(s: State, few: u64, alarm: u64, piece: &[u8], first: usize, count: usize) -> Fed
-    ensures { λ r. ⌜ r ≡ fedBy s few alarm (now (piece .entry)) first count ⌝ }
-{
-    if 1 < few {
-        return receiver::refuse(6, s);
-    }
-    if 1 < alarm {
-        return receiver::refuse(6, s);
-    }
-    receiver::feed(s, piece, first, count)
-}
-
 // Feeds a piece; answer: digits taken, 1 if a frame is ready, 1 if the alarm stands at the end, words tested. A refused feed writes no state.
 #[no_mangle]
 pub extern "C" fn spritbobbin_receiver_feed(
@@ -205,7 +142,7 @@ pub extern "C" fn spritbobbin_receiver_feed(
         ⌝ }
 {
     let held = *frame;
-    let mode = mode_of(state[3]);
+    let mode = rack::record::mode_of(state[3]);
     let s = State {
         level: state[0],
         window: state[1] as usize,
@@ -220,8 +157,8 @@ pub extern "C" fn spritbobbin_receiver_feed(
             alarm: state[8] != 0,
         },
     };
-    let fed = fed_by(s, state[7], state[8], piece, first as usize, count as usize);
-    *answer = fed_numbers(fed);
+    let fed = rack::record::fed_by(s, state[7], state[8], piece, first as usize, count as usize);
+    *answer = rack::record::fed_numbers(fed);
     if fed.refusal != 0 {
         return fed.refusal;
     }
@@ -274,7 +211,7 @@ fn read_numbers(r: Reading) -> [u64; 7]
         r.level,
         line.start as u64,
         line.bytes as u64,
-        as_number(r.labelled),
+        rack::record::as_number(r.labelled),
         label.start as u64,
         label.bytes as u64,
         r.byte as u64,

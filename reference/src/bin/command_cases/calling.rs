@@ -2,7 +2,7 @@
 
 use crate::case::{words, Case};
 
-const COMMANDS: [&str; 15] = [
+const COMMANDS: [&str; 16] = [
     "demo",
     "frame",
     "send",
@@ -10,6 +10,7 @@ const COMMANDS: [&str; 15] = [
     "notes",
     "extract",
     "find",
+    "watch",
     "keep",
     "show",
     "compare",
@@ -21,7 +22,7 @@ const COMMANDS: [&str; 15] = [
 ];
 
 /// Wrong calls. The files that they name are there.
-const WRONG: [&str; 53] = [
+const WRONG: [&str; 56] = [
     "",
     "bogus",
     "sen 2 notes tributaries out",
@@ -49,6 +50,9 @@ const WRONG: [&str; 53] = [
     "find",
     "find 2",
     "find 2 line out more",
+    "watch",
+    "watch 2",
+    "watch 2 line 3",
     "take line out",
     "take line out out",
     "take 2 line",

@@ -32,6 +32,7 @@ mod stream;
 mod taking;
 mod texts;
 mod trips;
+mod watching;
 mod worked;
 
 use std::path::Path;
@@ -52,6 +53,7 @@ fn main() -> io::Result<()> {
     cases.extend(taking::cases());
     cases.extend(noting::cases());
     cases.extend(finding::cases());
+    cases.extend(watching::cases());
     cases.extend(keeping::cases());
     cases.extend(showing::cases());
     cases.extend(comparing::cases());

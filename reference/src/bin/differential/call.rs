@@ -68,7 +68,7 @@ pub enum Call {
 }
 
 /// The names of the calls, in the order of their numbers.
-pub const NAMES: [&str; 13] = [
+pub const NAMES: [&str; 16] = [
     "multiplex",
     "read_notes",
     "receiver_fresh",
@@ -82,6 +82,9 @@ pub const NAMES: [&str; 13] = [
     "finder_feed",
     "extract",
     "compare",
+    "rack_feed",
+    "rack_reset",
+    "rack_aligned",
 ];
 
 /// All that a call answers and leaves: two outcomes are equal or there is a disagreement.

@@ -47,6 +47,12 @@ extern "C" {
         one: *const u8, one_bytes: usize, other: *const u8, other_bytes: usize,
         answer: *mut u64, places: *mut u64,
     ) -> u64;
+    pub fn spritbobbin_rack_feed(
+        records: *mut u64, number: usize, line: u64, piece: *const u8, piece_bytes: usize,
+        first: u64, count: u64, answer: *mut u64,
+    ) -> u64;
+    pub fn spritbobbin_rack_reset(records: *mut u64, number: usize, line: u64, level: u64) -> u64;
+    pub fn spritbobbin_rack_aligned(records: *const u64, number: usize, answer: *mut u64) -> u64;
 }
 
 /// What stands in an array of numbers before the call, so that one left unwritten is seen.
@@ -81,7 +87,7 @@ impl<T: Copy + PartialEq> Lent<T> {
     }
 
     /// The name, if a guard was written over.
-    fn broken(&self) -> Option<&'static str> {
+    pub fn broken(&self) -> Option<&'static str> {
         let (before, after) = (&self.all[..GUARDS], &self.all[GUARDS + self.count()..]);
         let intact = before.iter().chain(after).all(|guard| *guard == self.guard);
         (!intact).then_some(self.name)

@@ -8,6 +8,7 @@ use crate::face::{
     spritbobbin_multiplex, spritbobbin_read_notes, spritbobbin_receiver_feed, UNWRITTEN,
 };
 use crate::multiframes;
+use crate::rack;
 use crate::Run;
 use reference::read_notes;
 use reference::{
@@ -357,6 +358,7 @@ fn null_pointers(run: &mut Run) {
         let digit = unsafe { spritbobbin_line_digit(null, 0, first) };
         run.expect(4, "null line", &[2], &[digit]);
     }
+    rack::no_records(run);
 }
 
 /// Lengths that no memory holds. Each of these calls is refused for its lengths alone, so a
@@ -373,6 +375,9 @@ fn false_lengths(run: &mut Run) {
         }
     }
     let memory = [0; 4096];
+    for number in [65, 1 << 32, (1 << 32) + 1, (1 << 54) - 1] {
+        rack::false_number(run, number);
+    }
     for long in lengths {
         let expected = [feed_refusal(&fresh(2).1, long, 0, 8), 0, 0, 0, 0];
         let fed = raw_feed(memory.as_ptr(), long as usize, 0, 8);

@@ -17,6 +17,7 @@ mod finder;
 mod lengths;
 mod multiframes;
 mod multiplexing;
+mod rack;
 mod receiver;
 
 use call::{Call, Outcome, NAMES};
@@ -30,7 +31,7 @@ pub struct Run {
     lent_only: bool,
     trace: bool,
     random: Random,
-    calls: [u64; 12],
+    calls: [u64; 16],
 }
 
 impl Run {
@@ -99,7 +100,7 @@ fn print_difference(name: &str, ours: &[u8], theirs: &[u8]) {
 }
 
 fn arguments() -> Run {
-    let (seed, calls) = (1, [0; 12]);
+    let (seed, calls) = (1, [0; 16]);
     let random = Random::new(seed);
     let mut run = Run { seed, times: 1, lent_only: false, trace: false, random, calls };
     for argument in std::env::args().skip(1) {
@@ -131,6 +132,7 @@ fn main() {
         multiframes::part(&mut run);
         finder::part(&mut run);
         comparisons::part(&mut run);
+        rack::part(&mut run);
     }
     lengths::part(&mut run);
     println!("{}; no disagreement", run.summary());

@@ -64,7 +64,7 @@ fn any_piece(run: &mut Run) {
 }
 
 /// A valid state, whether or not a stream leads to it.
-fn any_state(random: &mut Random, row: &Row) -> State {
+pub fn any_state(random: &mut Random, row: &Row) -> State {
     let length = row.word_length() as u64;
     let mode = random.below(7);
     let seen = if mode == 0 { length - random.pick(&[0, 0, 1, 2, length]) } else { length };
@@ -111,7 +111,7 @@ fn window(random: &mut Random, row: &Row) -> u64 {
 }
 
 /// One number of the state wrong, or just at its border.
-fn wrong_number(random: &mut Random, row: &Row, state: &mut State) {
+pub fn wrong_number(random: &mut Random, row: &Row, state: &mut State) {
     let length = row.word_length() as u64;
     match random.below(10) {
         0 => state.level = random.near(3),
@@ -133,7 +133,7 @@ fn wrong_number(random: &mut Random, row: &Row, state: &mut State) {
 
 /// Digits for a state: often the rest of a word that the window has begun, and often a word
 /// that ends at the coming check or some digits after it.
-fn digits_for(random: &mut Random, row: &Row, state: &State) -> Vec<u8> {
+pub fn digits_for(random: &mut Random, row: &Row, state: &State) -> Vec<u8> {
     let count = match random.below(5) {
         0 => random.index(3),
         1 | 2 => random.index(60),

@@ -1,0 +1,4 @@
+pub mod Modes
+pub mod Lists
+pub mod Walks
+pub mod Answers

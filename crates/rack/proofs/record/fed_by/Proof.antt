@@ -1,0 +1,23 @@
+-- `fed_by` is `fedBy`: refused, or fed.
+use mathlib.Core.Path.{_∙_, sym}
+use borrow.Author.Needs.{needs}
+use borrow.Author.Tests.{lt-ltb, le-ltb}
+use Rattle.rack.specs.Record.{fedBy}
+use Rattle.rack.proofs.record.fed_by.Statement.{statement}
+use Rattle.rack.proofs.record.fed_by.Tie as tie
+
+returns : tie.Need-returns
+unfolding fedBy
+returns c = rw (lt-ltb _ _ (c .before .if1 .taken)) (c .refuse .ensures)
+
+returns-2 : tie.Need-returns-2
+unfolding fedBy
+returns-2 c = rw (le-ltb _ _ (c .before .before .if1 .left), lt-ltb _ _ (c .before .if2 .taken)) (c .refuse2 .ensures)
+
+returns-3 : tie.Need-returns-3
+unfolding fedBy
+returns-3 c = rw (le-ltb _ _ (c .before .before .if1 .left), le-ltb _ _ (c .before .if2 .left)) (c .feed .ensures)
+
+pub fed-by-spec : {M : Type 1} → statement M
+fed-by-spec =
+    tie.close (tie.spec (λ c κs. search needs) returns (λ c κs. search needs) returns-2 (λ c κs. search needs) returns-3)
