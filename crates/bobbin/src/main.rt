@@ -8,14 +8,13 @@ use console::words::NO_NOTE;
 use finding::find;
 use keeping::keep;
 use keeping::opened;
-use levels::table;
-use levels::table::Level;
-use levels::table::Row;
 use passages::send;
 use passages::take;
 use pictures::frame;
 use pictures::frame::Noted;
 use recordings::sizes;
+use table::Level;
+use table::Row;
 ghost use Rattle.levels.specs.Table.{Shared};
 
 // The words of every call by number; word 0 is the program's own name.

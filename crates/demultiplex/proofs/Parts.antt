@@ -6,7 +6,7 @@ use lib.ListN.{length}
 use borrow.Author.Tests.{eq-eqb}
 use Rattle.digits.specs.Digits.{digitsOf}
 use Rattle.digits.proofs.Laws.{tab-length}
-use Rattle.levels.specs.declared.table.Row.{Row}
+use Rattle.table.specs.declared.Row.{Row}
 use Rattle.levels.specs.Sizes.{sizeRefusal}
 use Rattle.levels.specs.Order.{countsOf}
 use Rattle.demultiplex.specs.Notes.{noteOf, notesOf, alignmentTo, dissentsOf}

@@ -2,7 +2,6 @@
 // over are held until there are 64 of them.
 use console::files;
 use console::say;
-use levels::table::Row;
 use passages::apart;
 use passages::passage;
 use passages::passage::OpenFiles;
@@ -14,6 +13,7 @@ use recordings::sizes;
 use recordings::watch;
 use recordings::watch::Change;
 use recordings::watch::Heard;
+use table::Row;
 ghost use mathlib.Core.Path.{_≡_};
 ghost use Prim.Native.Nat.{_<_, _≤_};
 ghost use lib.ListN.{length};

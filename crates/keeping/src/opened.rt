@@ -3,12 +3,11 @@ use crate::capture;
 use crate::capture::Opened;
 use crate::refusals;
 use crate::show;
-use levels::table;
-use levels::table::Level;
-use levels::table::Row;
 use passages::take;
 use passages::take::Source;
 use recordings::sizes;
+use table::Level;
+use table::Row;
 ghost use Rattle.levels.specs.Table.{Shared};
 
 // The words of the calls by number.

@@ -7,7 +7,7 @@ use native.Mathlib.Omega.{arith}
 use native.Mathlib.Nat.{mul-le-mul, div-add-mod'}
 use lib.Dec.{eqb, ltb}
 use borrow.Author.Tests.{eqb-true, ltb-false, not-false}
-use Rattle.levels.specs.declared.table.Row.{Row}
+use Rattle.table.specs.declared.Row.{Row}
 use Rattle.levels.specs.Table.{Shared}
 use Rattle.levels.specs.Sizes.{framesOf, badLine, badNotes, badBuffer, sizeRefusal, Accepted, Fits}
 

@@ -15,7 +15,7 @@ use borrow.Fn.World.{ArgsD, ResD}
 use borrow.Author.Tests.{lt-ltb, le-ltb, eq-eqb, ne-eqb}
 use Rattle.digits.specs.Digits.{digitsOf, bytesOf, tab, Bytes}
 use Rattle.digits.proofs.Laws.{bytes-by-place}
-use Rattle.levels.specs.declared.table.Row.{Row}
+use Rattle.table.specs.declared.Row.{Row}
 use Rattle.levels.specs.Places.{isOwn, kindAt}
 use Rattle.levels.specs.Order.{countsOf}
 use Rattle.levels.specs.Sizes.{sizeRefusal, badLine, badNotes, badBuffer, quarterOf}

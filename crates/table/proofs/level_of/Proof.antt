@@ -2,9 +2,9 @@
 use borrow.Author.Tests.{ne-eqb}
 use native.Mathlib.Omega.{arith}
 use borrow.Author.Needs.{needs}
-use Rattle.levels.specs.Table.{levelOf}
-use Rattle.levels.proofs.table.level_of.Statement.{statement}
-use Rattle.levels.proofs.table.level_of.Tie as tie
+use Rattle.table.specs.Table.{levelOf}
+use Rattle.table.proofs.level_of.Statement.{statement}
+use Rattle.table.proofs.level_of.Tie as tie
 
 returns : tie.Need-returns
 unfolding levelOf

@@ -1,7 +1,7 @@
 // The level table of document 01, a row to a level, and the one function that finds a level's row.
 // specs/Table.antt has the same table for a reader; that the two are equal is what `level_of` ensures.
 ghost use mathlib.Core.Path.{_≡_};
-ghost use Rattle.levels.specs.Table.{levelOf};
+ghost use Rattle.table.specs.Table.{levelOf};
 
 // A row of the table.
 pub struct Row {
@@ -39,7 +39,7 @@ pub enum Level {
 }
 
 // The head of the first set: the last digit of the word and the service places, where the word has ten digits and
-// where it has twelve. The table and the patterns of places.rt both read these.
+// where it has twelve. The table and the patterns of levels/src/places.rt both read these.
 pub const TEN_END: usize = 9;
 
 pub const TEN_ALARM: usize = 10;
