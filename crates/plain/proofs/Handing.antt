@@ -52,7 +52,7 @@ module _ (row : Row) (notes line : List ℕ) where
       one true = refl
       one false = refl
 
-  taken-more : (j p : ℕ) → takenTo row notes line j (p + 1) ≡ takenTo row notes line j p ++ cond (carriesFor row notes j p) (digitAt line p ∷ []) []
+  pub taken-more : (j p : ℕ) → takenTo row notes line j (p + 1) ≡ takenTo row notes line j p ++ cond (carriesFor row notes j p) (digitAt line p ∷ []) []
   unfolding takenTo
   taken-more j p = rw (add-one p)
 

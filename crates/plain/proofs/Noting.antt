@@ -17,12 +17,12 @@ use Rattle.plain.proofs.Counting.{line-short}
 use Rattle.plain.proofs.Votes.{votes-most}
 
 -- the list of notes by its frames
-notes-length : (row : Row) (line : List ℕ) (F : ℕ) → length (notesTo row line F) ≡ F
+pub notes-length : (row : Row) (line : List ℕ) (F : ℕ) → length (notesTo row line F) ≡ F
 unfolding notesTo
 notes-length row line zero = refl
 notes-length row line (suc F) = length-append (notesTo row line F) (noteIn row line F ∷ []) ∙ omega (arith, notes-length row line F)
 
-note-at : (row : Row) (line : List ℕ) (F f : ℕ) → f < F → getD (notesTo row line F) f 0 ≡ noteIn row line f
+pub note-at : (row : Row) (line : List ℕ) (F f : ℕ) → f < F → getD (notesTo row line F) f 0 ≡ noteIn row line f
 unfolding notesTo
 note-at row line zero f h = absurd (omega arith)
 note-at row line (suc F) f h =

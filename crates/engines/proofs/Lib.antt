@@ -1,0 +1,7 @@
+pub mod Bytes
+pub mod Places
+pub mod Order
+pub mod Line
+pub mod Notes
+pub mod Quarters
+pub mod Multiplexing
