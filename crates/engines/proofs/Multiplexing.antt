@@ -18,7 +18,7 @@ use Rattle.levels.proofs.Rows.{shared-row}
 use Rattle.levels.proofs.Judged.{accepted}
 use Rattle.multiplex.specs.declared.Multiplexed as answers
 use Rattle.multiplex.specs.Multiplex as quick
-use Rattle.plain.specs.declared.Multiplexed as plain-answers
+use Rattle.plain.specs.declared.Answered as plain-answers
 use Rattle.plain.specs.declared.refusals.Verdict.{Verdict}
 use Rattle.plain.specs.Engine as plain
 use Rattle.engines.specs.Same.{SameSent}
@@ -73,25 +73,25 @@ module _ (row : Row) (sh : Shared row) (line notes buffer : List ℕ) where
   abbrev v : Verdict
   v = plain.verdictOn row (length line) notes (length buffer)
 
-  on-row : SameSent (quick.answerOn row (length line) notes (length buffer)) (plain.sentAnswer row (length line) notes (length buffer) v)
+  on-row : SameSent (quick.answerOn row (length line) notes (length buffer)) (plain.answerBy row (length line) notes v)
       × (quick.lineOn row line notes buffer ≡ plain.sentLine row line notes buffer v)
   on-row = go (eqb no 0) refl
     where
       go : (t : Bool) → eqb no 0 ≡ t
-          → SameSent (quick.answerOn row (length line) notes (length buffer)) (plain.sentAnswer row (length line) notes (length buffer) v)
+          → SameSent (quick.answerOn row (length line) notes (length buffer)) (plain.answerBy row (length line) notes v)
           × (quick.lineOn row line notes buffer ≡ plain.sentLine row line notes buffer v)
       go true e =
           let here : length line ≡ length notes * row .bytes = whole (eqb-true no 0 e) in
           rw (← judged .0, e) (record { refusal = refl; frame = refl; counts = sym (counts-same row sh notes (length line) here) }, line-same row sh notes buffer (length line))
       go false e = rw (← judged .0, e) (record { refusal = refl; frame = judged .1; counts = refl }, refl)
 
-pub same-multiplexing : (level : ℕ) (line notes buffer : List ℕ) (a : answers.Multiplexed) (l : List ℕ) (b : plain-answers.Multiplexed) (m : List ℕ)
+pub same-multiplexing : (level : ℕ) (line notes buffer : List ℕ) (a : answers.Multiplexed) (l : List ℕ) (b : plain-answers.Answered) (m : List ℕ)
     → quick.Met level line notes buffer a l → plain.MultiplexMet level line notes buffer b m → SameSent a b × (l ≡ m)
 same-multiplexing level line notes buffer a l b m x y = rw (x .0, x .1, y .answered, y .written) (go (levelOf level) refl)
   where
     go : (found : Level) → levelOf level ≡ found
         → SameSent (onLevel found (λ (row : Row). quick.answerOn row (length line) notes (length buffer)) (quick.refusedWith 1 0))
-        (plain.onLevel found (λ (row : Row). plain.sentAnswer row (length line) notes (length buffer) (plain.verdictOn row (length line) notes (length buffer)))
+        (plain.onLevel found (λ (row : Row). plain.answerBy row (length line) notes (plain.verdictOn row (length line) notes (length buffer)))
         (record { refusal = 1; frame = 0; counts = plain.none }))
         × (onLevel found (λ (row : Row). quick.lineOn row line notes buffer) line
         ≡ plain.onLevel found (λ (row : Row). plain.sentLine row line notes buffer (plain.verdictOn row (length line) notes (length buffer))) line)

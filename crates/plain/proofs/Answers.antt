@@ -7,9 +7,8 @@ use contract.Lifetimes.{Lfts}
 use denote.Ref.{now}
 use denote.Triple.Clauses.{AtExit}
 use borrow.Fn.World.{ArgsD, ResD}
-use Rattle.plain.specs.declared.Multiplexed.{Multiplexed}
+use Rattle.plain.specs.declared.Answered.{Answered}
 use Rattle.plain.specs.declared.NotesRead.{NotesRead}
-use Rattle.plain.specs.declared.Extracted.{Extracted}
 use Rattle.plain.specs.Engine.{MultiplexMet, ReadNotesMet, ExtractMet}
 use Rattle.plain.proofs.multiplex as multiplex
 use Rattle.plain.proofs.multiplex.Reads as multiplex-reads
@@ -18,7 +17,7 @@ use Rattle.plain.proofs.read_notes.Reads as read-notes-reads
 use Rattle.plain.proofs.extract as extract
 use Rattle.plain.proofs.extract.Reads as extract-reads
 
-pub one-multiplex : (level : ℕ) (line notes buffer : List ℕ) (a b : Multiplexed) (l m : List ℕ)
+pub one-multiplex : (level : ℕ) (line notes buffer : List ℕ) (a b : Answered) (l m : List ℕ)
     → MultiplexMet level line notes buffer a l → MultiplexMet level line notes buffer b m → (a ≡ b) × (l ≡ m)
 one-multiplex level line notes buffer a b l m x y = (x .answered ∙ sym (y .answered), x .written ∙ sym (y .written))
 
@@ -40,7 +39,7 @@ read-notes-met κs a r e met = met
 pub read-notes-asks-nothing : (κs : Lfts 2) (a : ArgsD read-notes.signature κs) → read-notes-reads.Asked κs a
 read-notes-asks-nothing κs a = tt
 
-pub one-extraction : (level : ℕ) (line notes buffer : List ℕ) (a b : Extracted) (l m : List ℕ)
+pub one-extraction : (level : ℕ) (line notes buffer : List ℕ) (a b : Answered) (l m : List ℕ)
     → ExtractMet level line notes buffer a l → ExtractMet level line notes buffer b m → (a ≡ b) × (l ≡ m)
 one-extraction level line notes buffer a b l m x y = (x .answered ∙ sym (y .answered), x .written ∙ sym (y .written))
 

@@ -15,9 +15,8 @@ use Rattle.table.specs.Table.{levelOf}
 use Rattle.plain.specs.declared.frame.Place.{Place}
 use Rattle.plain.specs.declared.frame.Place.the-variants.{Alignment, Service, Control, Justification, Tributary}
 use Rattle.plain.specs.declared.refusals.Verdict.{Verdict}
-use Rattle.plain.specs.declared.Multiplexed.{Multiplexed}
+use Rattle.plain.specs.declared.Answered.{Answered}
 use Rattle.plain.specs.declared.NotesRead.{NotesRead}
-use Rattle.plain.specs.declared.Extracted.{Extracted}
 
 -- ---- Digits
 
@@ -246,19 +245,20 @@ readingOn row line notes = cond (badLine row line) 2 (cond (badNotes row line no
 abbrev pub none : List ℕ
 none = 0 ∷ 0 ∷ 0 ∷ 0 ∷ []
 
--- multiplexing: the answer, and the line that is left
-abbrev pub sentAnswer : Row → ℕ → List ℕ → ℕ → Verdict → Multiplexed
-sentAnswer row line notes buffer v =
+-- multiplexing and extraction answer alike: how many digits of each tributary the line carries, by the notes. A line of so many bytes
+abbrev pub answerBy : Row → ℕ → List ℕ → Verdict → Answered
+answerBy row line notes v =
     cond (eqb (v .refusal) 0)
     (record { refusal = 0; frame = 0; counts = countsTo row notes (8 * line) })
     (record { refusal = v .refusal; frame = v .frame; counts = none })
 
+-- multiplexing: the answer, and the line that is left
 abbrev pub sentLine : Row → List ℕ → List ℕ → List ℕ → Verdict → List ℕ
 sentLine row line notes buffer v = cond (eqb (v .refusal) 0) (packed (length line) (sentAt row notes buffer)) line
 
-pub record MultiplexMet (level : ℕ) (line notes buffer : List ℕ) (answer : Multiplexed) (left : List ℕ) : Type 0 where
+pub record MultiplexMet (level : ℕ) (line notes buffer : List ℕ) (answer : Answered) (left : List ℕ) : Type 0 where
   pub answered : answer
-      ≡ onLevel (levelOf level) (λ (row : Row). sentAnswer row (length line) notes (length buffer) (verdictOn row (length line) notes (length buffer)))
+      ≡ onLevel (levelOf level) (λ (row : Row). answerBy row (length line) notes (verdictOn row (length line) notes (length buffer)))
       (record { refusal = 1; frame = 0; counts = none })
   pub written : left
       ≡ onLevel (levelOf level) (λ (row : Row). sentLine row line notes buffer (verdictOn row (length line) notes (length buffer))) line
@@ -280,19 +280,13 @@ pub record ReadNotesMet (level : ℕ) (line notes : List ℕ) (answer : NotesRea
   pub written : left ≡ onLevel (levelOf level) (λ (row : Row). readLeft row line notes (readingOn row (length line) (length notes))) notes
 
 -- extraction by given notes: the answer, and the buffer that is left. No control digit is looked at
-abbrev pub takenAnswer : Row → ℕ → List ℕ → ℕ → Verdict → Extracted
-takenAnswer row line notes buffer v =
-    cond (eqb (v .refusal) 0)
-    (record { refusal = 0; frame = 0; counts = countsTo row notes (8 * line) })
-    (record { refusal = v .refusal; frame = v .frame; counts = none })
-
 abbrev pub takenBuffer : Row → List ℕ → List ℕ → List ℕ → Verdict → List ℕ
 takenBuffer row line notes buffer v =
     cond (eqb (v .refusal) 0) (packed (length buffer) (handedAt row notes line (8 * (length buffer / 4)))) buffer
 
-pub record ExtractMet (level : ℕ) (line notes buffer : List ℕ) (answer : Extracted) (left : List ℕ) : Type 0 where
+pub record ExtractMet (level : ℕ) (line notes buffer : List ℕ) (answer : Answered) (left : List ℕ) : Type 0 where
   pub answered : answer
-      ≡ onLevel (levelOf level) (λ (row : Row). takenAnswer row (length line) notes (length buffer) (verdictOn row (length line) notes (length buffer)))
+      ≡ onLevel (levelOf level) (λ (row : Row). answerBy row (length line) notes (verdictOn row (length line) notes (length buffer)))
       (record { refusal = 1; frame = 0; counts = none })
   pub written : left
       ≡ onLevel (levelOf level) (λ (row : Row). takenBuffer row line notes buffer (verdictOn row (length line) notes (length buffer))) buffer

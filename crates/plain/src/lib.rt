@@ -13,11 +13,11 @@ use table::Row;
 ghost use mathlib.Core.Path.{_≡_};
 ghost use lib.ListN.{length};
 ghost use Rattle.plain.specs.Engine.{verdictOn, readingOn, MultiplexMet, ReadNotesMet, ExtractMet};
-ghost use Rattle.plain.specs.Engine.{sentAnswer, sentLine, readAnswer, readLeft, takenAnswer, takenBuffer};
+ghost use Rattle.plain.specs.Engine.{answerBy, sentLine, readAnswer, readLeft, takenBuffer};
 ghost use Rattle.plain.specs.Walk.{Regular};
 
-// What multiplexing answers.
-pub struct Multiplexed {
+// What multiplexing and extraction answer: the refusal, the frame that refusal 5 names, the digits of each tributary.
+pub struct Answered {
     pub refusal: u64,
     pub frame: usize,
     pub counts: [usize; 4],
@@ -30,19 +30,12 @@ pub struct NotesRead {
     pub dissent: [usize; 4],
 }
 
-// What extraction answers.
-pub struct Extracted {
-    pub refusal: u64,
-    pub frame: usize,
-    pub counts: [usize; 4],
-}
-
 // A level's row is known.
-fn multiplex_on(row: Row, line: &mut [u8], notes: &[u8], buffer: &[u8]) -> Multiplexed
+fn multiplex_on(row: Row, line: &mut [u8], notes: &[u8], buffer: &[u8]) -> Answered
     requires { ⌜ Regular row ⌝ }
     ensures { λ r. ⌜
         (r
-        ≡ sentAnswer row (length (now (line .entry))) (now (notes .entry)) (length (now (buffer .entry)))
+        ≡ answerBy row (length (now (line .entry))) (now (notes .entry))
         (verdictOn row (length (now (line .entry))) (now (notes .entry)) (length (now (buffer .entry)))))
         × (now (line .exit)
         ≡ sentLine row (now (line .entry)) (now (notes .entry)) (now (buffer .entry))
@@ -51,14 +44,14 @@ fn multiplex_on(row: Row, line: &mut [u8], notes: &[u8], buffer: &[u8]) -> Multi
 {
     let v = refusals::verdict_on(row, line.len(), notes, buffer.len());
     if v.refusal != 0 {
-        return Multiplexed {
+        return Answered {
             refusal: v.refusal,
             frame: v.frame,
             counts: [0; 4],
         };
     }
     let counts = send::send(row, line, notes, buffer);
-    Multiplexed {
+    Answered {
         refusal: 0,
         frame: 0,
         counts,
@@ -66,13 +59,13 @@ fn multiplex_on(row: Row, line: &mut [u8], notes: &[u8], buffer: &[u8]) -> Multi
 }
 
 // Multiplexes the notes and the quarters of the buffer into the line.
-pub fn multiplex(level: u64, line: &mut [u8], notes: &[u8], buffer: &[u8]) -> Multiplexed
+pub fn multiplex(level: u64, line: &mut [u8], notes: &[u8], buffer: &[u8]) -> Answered
     ensures { λ r. ⌜ MultiplexMet level (now (line .entry)) (now (notes .entry)) (now (buffer .entry)) r (now (line .exit)) ⌝ }
 {
     let found = table::level_of(level);
     match found {
         Level::Of(row) => multiplex_on(row, line, notes, buffer),
-        Level::NoSuchLevel => Multiplexed {
+        Level::NoSuchLevel => Answered {
             refusal: 1,
             frame: 0,
             counts: [0; 4],
@@ -122,11 +115,11 @@ pub fn read_notes(level: u64, line: &[u8], notes: &mut [u8]) -> NotesRead
     }
 }
 
-fn extract_on(row: Row, line: &[u8], notes: &[u8], buffer: &mut [u8]) -> Extracted
+fn extract_on(row: Row, line: &[u8], notes: &[u8], buffer: &mut [u8]) -> Answered
     requires { ⌜ Regular row ⌝ }
     ensures { λ r. ⌜
         (r
-        ≡ takenAnswer row (length (now (line .entry))) (now (notes .entry)) (length (now (buffer .entry)))
+        ≡ answerBy row (length (now (line .entry))) (now (notes .entry))
         (verdictOn row (length (now (line .entry))) (now (notes .entry)) (length (now (buffer .entry)))))
         × (now (buffer .exit)
         ≡ takenBuffer row (now (line .entry)) (now (notes .entry)) (now (buffer .entry))
@@ -135,14 +128,14 @@ fn extract_on(row: Row, line: &[u8], notes: &[u8], buffer: &mut [u8]) -> Extract
 {
     let v = refusals::verdict_on(row, line.len(), notes, buffer.len());
     if v.refusal != 0 {
-        return Extracted {
+        return Answered {
             refusal: v.refusal,
             frame: v.frame,
             counts: [0; 4],
         };
     }
     let counts = take::take(row, line, notes, buffer);
-    Extracted {
+    Answered {
         refusal: 0,
         frame: 0,
         counts,
@@ -150,13 +143,13 @@ fn extract_on(row: Row, line: &[u8], notes: &[u8], buffer: &mut [u8]) -> Extract
 }
 
 // Extracts the tributaries of the line into the quarters of the buffer, by the notes given.
-pub fn extract(level: u64, line: &[u8], notes: &[u8], buffer: &mut [u8]) -> Extracted
+pub fn extract(level: u64, line: &[u8], notes: &[u8], buffer: &mut [u8]) -> Answered
     ensures { λ r. ⌜ ExtractMet level (now (line .entry)) (now (notes .entry)) (now (buffer .entry)) r (now (buffer .exit)) ⌝ }
 {
     let found = table::level_of(level);
     match found {
         Level::Of(row) => extract_on(row, line, notes, buffer),
-        Level::NoSuchLevel => Extracted {
+        Level::NoSuchLevel => Answered {
             refusal: 1,
             frame: 0,
             counts: [0; 4],
