@@ -129,10 +129,10 @@ fn minority(votes: &[usize; 8], j: usize) -> usize
     requires { ⌜ j < 4 ⌝ }
     ensures { λ r. ⌜ r ≡ min (getD (now (votes .entry)) j 0) (getD (now (votes .entry)) (4 + j) 0) ⌝ }
 {
-    if votes[j] < votes[4 + j] {
-        return votes[j];
+    if votes[4 + j] < votes[j] {
+        return votes[4 + j];
     }
-    votes[4 + j]
+    votes[j]
 }
 
 // The four decisions as bits 0 to 3.
