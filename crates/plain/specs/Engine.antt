@@ -245,6 +245,9 @@ readingOn row line notes = cond (badLine row line) 2 (cond (badNotes row line no
 abbrev pub none : List ℕ
 none = 0 ∷ 0 ∷ 0 ∷ 0 ∷ []
 
+abbrev pub refusedWith : ℕ → Answered
+refusedWith refusal = record { refusal = refusal; frame = 0; counts = none }
+
 -- multiplexing and extraction answer alike: how many digits of each tributary the line carries, by the notes. A line of so many bytes
 abbrev pub answerBy : Row → ℕ → List ℕ → Verdict → Answered
 answerBy row line notes v =
@@ -256,12 +259,17 @@ answerBy row line notes v =
 abbrev pub sentLine : Row → List ℕ → List ℕ → List ℕ → Verdict → List ℕ
 sentLine row line notes buffer v = cond (eqb (v .refusal) 0) (packed (length line) (sentAt row notes buffer)) line
 
+abbrev pub multiplexed : ℕ → List ℕ → List ℕ → List ℕ → Answered
+multiplexed level line notes buffer =
+    onLevel (levelOf level) (λ (row : Row). answerBy row (length line) notes (verdictOn row (length line) notes (length buffer))) (refusedWith 1)
+
+abbrev pub lineAfter : ℕ → List ℕ → List ℕ → List ℕ → List ℕ
+lineAfter level line notes buffer =
+    onLevel (levelOf level) (λ (row : Row). sentLine row line notes buffer (verdictOn row (length line) notes (length buffer))) line
+
 pub record MultiplexMet (level : ℕ) (line notes buffer : List ℕ) (answer : Answered) (left : List ℕ) : Type 0 where
-  pub answered : answer
-      ≡ onLevel (levelOf level) (λ (row : Row). answerBy row (length line) notes (verdictOn row (length line) notes (length buffer)))
-      (record { refusal = 1; frame = 0; counts = none })
-  pub written : left
-      ≡ onLevel (levelOf level) (λ (row : Row). sentLine row line notes buffer (verdictOn row (length line) notes (length buffer))) line
+  pub answered : answer ≡ multiplexed level line notes buffer
+  pub written : left ≡ lineAfter level line notes buffer
 
 -- reading the notes: the answer, and the notes that are left
 abbrev pub readAnswer : Row → List ℕ → ℕ → ℕ → NotesRead
@@ -273,20 +281,32 @@ readAnswer row line notes refusal =
 abbrev pub readLeft : Row → List ℕ → List ℕ → ℕ → List ℕ
 readLeft row line notes refusal = cond (eqb refusal 0) (notesTo row line (length notes)) notes
 
+abbrev pub notesRead : ℕ → List ℕ → List ℕ → NotesRead
+notesRead level line notes =
+    onLevel (levelOf level) (λ (row : Row). readAnswer row line (length notes) (readingOn row (length line) (length notes)))
+    (record { refusal = 1; alignment = 0; dissent = none })
+
+abbrev pub notesAfter : ℕ → List ℕ → List ℕ → List ℕ
+notesAfter level line notes =
+    onLevel (levelOf level) (λ (row : Row). readLeft row line notes (readingOn row (length line) (length notes))) notes
+
 pub record ReadNotesMet (level : ℕ) (line notes : List ℕ) (answer : NotesRead) (left : List ℕ) : Type 0 where
-  pub answered : answer
-      ≡ onLevel (levelOf level) (λ (row : Row). readAnswer row line (length notes) (readingOn row (length line) (length notes)))
-      (record { refusal = 1; alignment = 0; dissent = none })
-  pub written : left ≡ onLevel (levelOf level) (λ (row : Row). readLeft row line notes (readingOn row (length line) (length notes))) notes
+  pub answered : answer ≡ notesRead level line notes
+  pub written : left ≡ notesAfter level line notes
 
 -- extraction by given notes: the answer, and the buffer that is left. No control digit is looked at
 abbrev pub takenBuffer : Row → List ℕ → List ℕ → List ℕ → Verdict → List ℕ
 takenBuffer row line notes buffer v =
     cond (eqb (v .refusal) 0) (packed (length buffer) (handedAt row notes line (8 * (length buffer / 4)))) buffer
 
+abbrev pub extracted : ℕ → List ℕ → List ℕ → List ℕ → Answered
+extracted level line notes buffer =
+    onLevel (levelOf level) (λ (row : Row). answerBy row (length line) notes (verdictOn row (length line) notes (length buffer))) (refusedWith 1)
+
+abbrev pub bufferAfter : ℕ → List ℕ → List ℕ → List ℕ → List ℕ
+bufferAfter level line notes buffer =
+    onLevel (levelOf level) (λ (row : Row). takenBuffer row line notes buffer (verdictOn row (length line) notes (length buffer))) buffer
+
 pub record ExtractMet (level : ℕ) (line notes buffer : List ℕ) (answer : Answered) (left : List ℕ) : Type 0 where
-  pub answered : answer
-      ≡ onLevel (levelOf level) (λ (row : Row). answerBy row (length line) notes (verdictOn row (length line) notes (length buffer)))
-      (record { refusal = 1; frame = 0; counts = none })
-  pub written : left
-      ≡ onLevel (levelOf level) (λ (row : Row). takenBuffer row line notes buffer (verdictOn row (length line) notes (length buffer))) buffer
+  pub answered : answer ≡ extracted level line notes buffer
+  pub written : left ≡ bufferAfter level line notes buffer
