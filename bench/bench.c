@@ -15,7 +15,7 @@
 #include "rows.h"
 #include "spritbobbin.h"
 
-enum { FRAMES = 64, ENGINES = 3, TASKS = 6, LEVELS = 3 };
+enum { FRAMES = 64, ENGINES = 3, TASKS = 8, LEVELS = 3 };
 enum { LINE_BYTES = FRAMES * 366, BUFFER_BYTES = 4 * ((FRAMES * 723 + 7) / 8) };
 /* The stream's first frame begins in the middle of a byte, as frames do on a real line. */
 enum { STREAM_FIRST = 3 };
@@ -23,19 +23,22 @@ enum { STREAM_FIRST = 3 };
 static const struct engine {
     const char *name;
     multiplex_call *multiplex;
-    demultiplex_call *demultiplex;
+    read_notes_call *read_notes;
+    extract_call *extract;
     feed_call *feed;
 } engines[ENGINES] = {
-    {"library", spritbobbin_multiplex, spritbobbin_demultiplex, spritbobbin_receiver_feed},
-    {"plain C", plain_multiplex, plain_demultiplex, plain_receiver_feed},
-    {"quick C", quick_multiplex, quick_demultiplex, quick_receiver_feed},
+    {"library", spritbobbin_multiplex, spritbobbin_read_notes, spritbobbin_extract, spritbobbin_receiver_feed},
+    {"plain C", plain_multiplex, plain_read_notes, plain_extract, plain_receiver_feed},
+    {"quick C", quick_multiplex, quick_read_notes, quick_extract, quick_receiver_feed},
 };
 
 /* The order of comparing: the others are held to the plain engine. */
 enum { PLAIN = 1 };
 static const unsigned PLAIN_FIRST[ENGINES] = {PLAIN, 0, 2};
 
-static const char *const tasks[TASKS] = {"multiplex", "demultiplex", "receiver, aligned", "receiver, hunting", "multiplex, one", "demultiplex, one"};
+static const char *const tasks[TASKS] = {"multiplex", "read notes", "extract", "receiver, aligned", "receiver, hunting",
+                                         "multiplex, one", "read notes, one", "extract, one"};
+enum { ALIGNED = 3, HUNTING = 4, BY_ONE = 5 };
 
 /* What the engines are given at one level: no engine writes here. */
 struct input {
@@ -50,7 +53,7 @@ struct input {
 struct output {
     uint8_t notes[FRAMES], buffer[BUFFER_BYTES], line[LINE_BYTES], frame[2][366];
     uint64_t state[2][9]; /* of an aligned receiver, and of one that hunts */
-    uint64_t answer[10];
+    uint64_t answer[5];
     uint8_t notes_by_one[FRAMES], buffer_by_one[BUFFER_BYTES], line_by_one[LINE_BYTES]; /* a frame a call */
 };
 
@@ -138,19 +141,28 @@ static unsigned feed_all(feed_call *feed, uint64_t state[9], uint8_t frame[366],
     return frames;
 }
 
-/* The same 64 frames, a frame a call: each is made of the buffer's first digits, or taken apart into them. */
-static unsigned run_by_one(unsigned back, const struct engine *engine, const struct input *input, struct output *output)
+/* The same 64 frames, a frame a call: each is made of the buffer's first digits, has its note read, or is taken apart
+   into these digits. */
+static unsigned run_by_one(unsigned task, const struct engine *engine, const struct input *input, struct output *output)
 {
     const struct row *row = input->row;
     size_t bytes = row->frame_digits / 8, room = 4 * ((row->tributary_digits + 7) / 8);
-    unsigned refused = 0;
+    uint64_t refused = 0;
 
     for (unsigned f = 0; f < FRAMES; f++)
-        refused |= (unsigned)(back ? engine->demultiplex(row->level, input->line + f * bytes, bytes, output->notes_by_one + f, 1,
-                                                         output->buffer_by_one, room, output->answer)
-                                   : engine->multiplex(row->level, output->line_by_one + f * bytes, bytes, input->notes + f, 1,
-                                                       input->buffer, room, output->answer));
-    return refused;
+        switch (task) {
+        case 0:
+            refused |= engine->multiplex(row->level, output->line_by_one + f * bytes, bytes, input->notes + f, 1,
+                                         input->buffer, room, output->answer);
+            break;
+        case 1:
+            refused |= engine->read_notes(row->level, input->line + f * bytes, bytes, output->notes_by_one + f, 1, output->answer);
+            break;
+        default:
+            refused |= engine->extract(row->level, input->line + f * bytes, bytes, input->notes + f, 1,
+                                       output->buffer_by_one, room, output->answer);
+        }
+    return (unsigned)refused;
 }
 
 /* One task, once, over all 64 frames. */
@@ -164,15 +176,16 @@ static unsigned run(unsigned task, const struct engine *engine, const struct inp
         return (unsigned)engine->multiplex(level, output->line, length, input->notes, FRAMES,
                                            input->buffer, input->buffer_bytes, output->answer);
     case 1:
-        return (unsigned)engine->demultiplex(level, input->line, length, output->notes, FRAMES,
-                                             output->buffer, input->buffer_bytes, output->answer);
+        return (unsigned)engine->read_notes(level, input->line, length, output->notes, FRAMES, output->answer);
     case 2:
+        return (unsigned)engine->extract(level, input->line, length, input->notes, FRAMES,
+                                         output->buffer, input->buffer_bytes, output->answer);
+    case ALIGNED:
         return feed_all(engine->feed, output->state[0], output->frame[0], input->stream, length + 1, STREAM_FIRST, digits);
-    case 4:
-    case 5:
-        return run_by_one(task == 5, engine, input, output);
-    default:
+    case HUNTING:
         return feed_all(engine->feed, output->state[1], output->frame[1], input->noise, length, 0, digits);
+    default:
+        return run_by_one(task - BY_ONE, engine, input, output);
     }
 }
 
@@ -192,8 +205,8 @@ static void compare_timed(unsigned level, unsigned e)
     for (unsigned task = 0; task < TASKS; task++) {
         unsigned once = run(task, &engines[e], input, output), twice = run(task, &engines[e], input, output);
 
-        check(once == (task == 2 ? FRAMES - 2 : 0), "a first run answers otherwise", row, name);
-        check(twice == (task == 2 ? FRAMES : 0), "a second run answers otherwise", row, name);
+        check(once == (task == ALIGNED ? FRAMES - 2 : 0), "a first run answers otherwise", row, name);
+        check(twice == (task == ALIGNED ? FRAMES : 0), "a second run answers otherwise", row, name);
     }
     check(output->state[0][3] == SPRITBOBBIN_ALIGNED, "the aligned receiver is not aligned", row, name);
     check(output->state[1][3] == SPRITBOBBIN_HUNTING, "the hunting receiver does not hunt", row, name);
@@ -215,18 +228,24 @@ static void damage(const struct input *input, uint8_t *line, unsigned errors)
     }
 }
 
-static void compare_demultiplexing(const struct input *input, const uint8_t *line)
+/* The notes that are read, and what is extracted by them and by the input's own notes. */
+static void compare_taking(const struct input *input, const uint8_t *line)
 {
     static struct output of[ENGINES];
+    static uint64_t answers[ENGINES][3][5];
 
     memset(of, 0, sizeof of);
     for (unsigned i = 0; i < ENGINES; i++) {
         unsigned e = PLAIN_FIRST[i];
+        uint64_t level = input->row->level;
 
         memset(of[e].buffer, 0xA5, input->buffer_bytes);
-        engines[e].demultiplex(input->row->level, line, input->line_bytes, of[e].notes, FRAMES,
-                               of[e].buffer, input->buffer_bytes, of[e].answer);
-        check(memcmp(&of[e], &of[PLAIN], sizeof of[e]) == 0, "demultiplexes a damaged line otherwise", input->row, engines[e].name);
+        memset(of[e].buffer_by_one, 0xA5, input->buffer_bytes);
+        engines[e].read_notes(level, line, input->line_bytes, of[e].notes, FRAMES, answers[e][0]);
+        engines[e].extract(level, line, input->line_bytes, of[e].notes, FRAMES, of[e].buffer, input->buffer_bytes, answers[e][1]);
+        engines[e].extract(level, line, input->line_bytes, input->notes, FRAMES, of[e].buffer_by_one, input->buffer_bytes, answers[e][2]);
+        check(memcmp(&of[e], &of[PLAIN], sizeof of[e]) == 0 && memcmp(answers[e], answers[PLAIN], sizeof answers[e]) == 0,
+              "takes a damaged line apart otherwise", input->row, engines[e].name);
     }
 }
 
@@ -263,10 +282,10 @@ static void compare(unsigned level)
         compare_timed(level, PLAIN_FIRST[i]);
     for (unsigned round = 0; round < 8; round++) {
         damage(input, line, 40 * round);
-        compare_demultiplexing(input, line);
+        compare_taking(input, line);
         compare_receiving(input, line, 1 + (UINT64_C(8) << 2 * round));
     }
-    compare_demultiplexing(input, input->noise);
+    compare_taking(input, input->noise);
     compare_receiving(input, input->noise, 5000);
 }
 

@@ -1,5 +1,5 @@
 /*
- * Two other implementations of three of the library's calls, with the same parameters and the same
+ * Two other implementations of four of the library's calls, with the same parameters and the same
  * answers on whatever the library accepts. They check nothing: every input must be acceptable.
  *
  * plain_: digit by digit, as one would write it first.
@@ -13,13 +13,16 @@
 
 typedef uint64_t multiplex_call(uint64_t level, uint8_t *line, size_t line_bytes, const uint8_t *notes, size_t notes_bytes,
                                 const uint8_t *buffer, size_t buffer_bytes, uint64_t answer[5]);
-typedef uint64_t demultiplex_call(uint64_t level, const uint8_t *line, size_t line_bytes, uint8_t *notes, size_t notes_bytes,
-                                  uint8_t *buffer, size_t buffer_bytes, uint64_t answer[10]);
+typedef uint64_t read_notes_call(uint64_t level, const uint8_t *line, size_t line_bytes, uint8_t *notes, size_t notes_bytes,
+                                 uint64_t answer[5]);
+typedef uint64_t extract_call(uint64_t level, const uint8_t *line, size_t line_bytes, const uint8_t *notes, size_t notes_bytes,
+                              uint8_t *buffer, size_t buffer_bytes, uint64_t answer[5]);
 typedef uint64_t feed_call(uint64_t state[9], uint8_t frame[366], const uint8_t *piece, size_t piece_bytes,
                            uint64_t first, uint64_t count, uint64_t answer[3]);
 
 multiplex_call plain_multiplex, quick_multiplex;
-demultiplex_call plain_demultiplex, quick_demultiplex;
+read_notes_call plain_read_notes, quick_read_notes;
+extract_call plain_extract, quick_extract;
 feed_call plain_receiver_feed, quick_receiver_feed;
 
 /* The multiframe of 2048 kbit/s, in the plain engine only: its channels are whole bytes anyway. */

@@ -75,50 +75,68 @@ uint64_t plain_multiplex(uint64_t level, uint8_t *line, size_t line_bytes, const
     return 0;
 }
 
-uint64_t plain_demultiplex(uint64_t level, const uint8_t *line, size_t line_bytes, uint8_t *notes, size_t notes_bytes,
-                           uint8_t *buffer, size_t buffer_bytes, uint64_t answer[10])
+uint64_t plain_read_notes(uint64_t level, const uint8_t *line, size_t line_bytes, uint8_t *notes, size_t notes_bytes,
+                          uint64_t answer[5])
 {
     const struct row *row = row_of(level);
-    size_t quarter = buffer_bytes / 4, place = 0, next[4] = {0}, f;
+    size_t place = 0, f;
 
     (void)line_bytes;
-    memset(answer, 0, 10 * sizeof answer[0]);
-    memset(buffer, 0, buffer_bytes);
+    memset(answer, 0, 5 * sizeof answer[0]);
     for (f = 0; f < notes_bytes; f++) {
         unsigned ones[4] = {0}, note = 0;
 
         for (unsigned set = 0; set < row->sets; set++) {
             for (unsigned at = 0; at < row->set_digits; at++) {
-                unsigned j = at % 4, digit = get(line, place++);
+                unsigned digit = get(line, place++);
 
                 switch (kind_of(row, set, at)) {
                 case WORD:
-                    answer[5] += digit != word_digit(row, at);
+                    answer[0] += digit != word_digit(row, at);
                     break;
                 case SERVICE:
                     note |= digit << (4 + at - row->word_digits);
                     break;
                 case CONTROL:
-                    ones[j] += digit;
+                    ones[at % 4] += digit;
                     break;
                 case JUSTIFICATION:
-                    if (2 * ones[j] > row->sets - 1)
-                        note |= 1u << j;
-                    else
-                        put(buffer + j * quarter, next[j]++, digit);
-                    break;
                 case TRIBUTARY:
-                    put(buffer + j * quarter, next[j]++, digit);
                     break;
                 }
             }
         }
-        for (unsigned j = 0; j < 4; j++)
-            answer[6 + j] += note >> j & 1 ? row->sets - 1 - ones[j] : ones[j];
+        for (unsigned j = 0; j < 4; j++) {
+            unsigned stuffed = 2 * ones[j] > row->sets - 1;
+
+            note |= stuffed << j;
+            answer[1 + j] += stuffed ? row->sets - 1 - ones[j] : ones[j];
+        }
         notes[f] = (uint8_t)note;
     }
+    return 0;
+}
+
+uint64_t plain_extract(uint64_t level, const uint8_t *line, size_t line_bytes, const uint8_t *notes, size_t notes_bytes,
+                       uint8_t *buffer, size_t buffer_bytes, uint64_t answer[5])
+{
+    const struct row *row = row_of(level);
+    size_t quarter = buffer_bytes / 4, place = 0, next[4] = {0}, f;
+
+    (void)line_bytes;
+    memset(buffer, 0, buffer_bytes);
+    for (f = 0; f < notes_bytes; f++)
+        for (unsigned set = 0; set < row->sets; set++)
+            for (unsigned at = 0; at < row->set_digits; at++, place++) {
+                unsigned j = at % 4;
+                int kind = kind_of(row, set, at);
+
+                if (kind == TRIBUTARY || (kind == JUSTIFICATION && !(notes[f] >> j & 1)))
+                    put(buffer + j * quarter, next[j]++, get(line, place));
+            }
     for (unsigned j = 0; j < 4; j++)
         answer[j] = next[j];
+    answer[4] = 0;
     return 0;
 }
 

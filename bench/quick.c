@@ -267,45 +267,65 @@ static unsigned majority(uint32_t ones, unsigned control_digits)
     return (over >> 7 | over >> 14 | over >> 21 | over >> 28) & 15;
 }
 
-static unsigned receive_frame(const struct row *row, struct reader *reader, struct writer writers[4], uint64_t *answer)
+static unsigned read_frame(const struct row *row, struct reader *reader, uint64_t answer[5])
 {
-    unsigned head = row->word_digits + row->service_digits, control_digits = row->sets - 1, stuffed, column;
+    unsigned head = row->word_digits + row->service_digits, control_digits = row->sets - 1;
     unsigned start = (unsigned)(next_word(reader, reader->place) >> (64 - head));
     unsigned service = start << (4 - row->service_digits) & 15;
     uint32_t ones = 0;
 
-    answer[5] += ones_of(start >> row->service_digits ^ row->word);
+    answer[0] += ones_of(start >> row->service_digits ^ row->word);
+    for (unsigned set = 1; set < row->sets; set++) {
+        reader->place += row->set_digits;
+        ones += SPREAD[next_word(reader, reader->place) >> 60];
+    }
+    reader->place += row->set_digits;
+    add_dissent(ones, control_digits, answer + 1);
+    return (unsigned)REVERSED[service] << 4 | majority(ones, control_digits);
+}
+
+uint64_t quick_read_notes(uint64_t level, const uint8_t *line, size_t line_bytes, uint8_t *notes, size_t notes_bytes,
+                          uint64_t answer[5])
+{
+    struct reader reader = {line, line_bytes, 0};
+
+    memset(answer, 0, 5 * sizeof answer[0]);
+    for (size_t f = 0; f < notes_bytes; f++)
+        notes[f] = (uint8_t)read_frame(row_of(level), &reader, answer);
+    return 0;
+}
+
+static void extract_frame(const struct row *row, struct reader *reader, struct writer writers[4], unsigned note)
+{
+    unsigned head = row->word_digits + row->service_digits, column;
+
     reader->place += head;
     receive_columns(reader, writers, (row->set_digits - head) / 4);
     for (unsigned set = 1; set < row->sets - 1; set++) {
-        ones += SPREAD[next_column(reader)];
+        reader->place += 4;
         receive_columns(reader, writers, row->set_digits / 4 - 1);
     }
-    ones += SPREAD[next_column(reader)];
-    add_dissent(ones, control_digits, answer + 6);
-    stuffed = majority(ones, control_digits);
+    reader->place += 4;
     column = next_column(reader);
     for (unsigned j = 0; j < 4; j++) {
-        unsigned carried = 1 - (stuffed >> j & 1);
+        unsigned carried = 1 - (note >> j & 1);
 
         put(&writers[j], (uint64_t)(carried & column >> (3 - j)) << 63, carried);
     }
     receive_columns(reader, writers, row->set_digits / 4 - 2);
-    return (unsigned)REVERSED[service] << 4 | stuffed;
 }
 
-uint64_t quick_demultiplex(uint64_t level, const uint8_t *line, size_t line_bytes, uint8_t *notes, size_t notes_bytes,
-                           uint8_t *buffer, size_t buffer_bytes, uint64_t answer[10])
+uint64_t quick_extract(uint64_t level, const uint8_t *line, size_t line_bytes, const uint8_t *notes, size_t notes_bytes,
+                       uint8_t *buffer, size_t buffer_bytes, uint64_t answer[5])
 {
     size_t quarter = buffer_bytes / 4;
     struct reader reader = {line, line_bytes, 0};
     struct writer writers[4];
 
-    memset(answer, 0, 10 * sizeof answer[0]);
     for (unsigned j = 0; j < 4; j++)
         writers[j] = (struct writer){buffer + j * quarter, 0, 0};
     for (size_t f = 0; f < notes_bytes; f++)
-        notes[f] = (uint8_t)receive_frame(row_of(level), &reader, writers, answer);
+        extract_frame(row_of(level), &reader, writers, notes[f]);
     for (unsigned j = 0; j < 4; j++) {
         uint8_t *begin = buffer + j * quarter, *end = begin + quarter;
 
@@ -313,6 +333,7 @@ uint64_t quick_demultiplex(uint64_t level, const uint8_t *line, size_t line_byte
         finish(&writers[j]);
         memset(writers[j].to, 0, (size_t)(end - writers[j].to));
     }
+    answer[4] = 0;
     return 0;
 }
 

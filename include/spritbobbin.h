@@ -114,7 +114,7 @@
  *     {
  *         uint8_t line[FRAME] = {0}, stream[4 * FRAME], buffer[4 * QUARTER] = {0};
  *         uint8_t notes[1] = {SPRITBOBBIN_STUFFED_1 | SPRITBOBBIN_REMOTE_ALARM};
- *         uint64_t sent[5], received[10];
+ *         uint64_t sent[5], noted[5], taken[5];
  *         int i;
  *
  *         buffer[1 * QUARTER] = 0x80; // the first digit of tributary 2
@@ -123,10 +123,12 @@
  *             return 1;
  *         printf("tributary 1 sent %u digits\n", (unsigned)sent[0]);
  *
- *         if (spritbobbin_demultiplex(2, line, sizeof line, notes, sizeof notes,
- *                                     buffer, sizeof buffer, received) != SPRITBOBBIN_ACCEPTED)
+ *         if (spritbobbin_read_notes(2, line, sizeof line, notes, sizeof notes, noted) != SPRITBOBBIN_ACCEPTED)
  *             return 1;
- *         printf("%u alignment digits differ\n", (unsigned)received[SPRITBOBBIN_ALIGNMENT]);
+ *         if (spritbobbin_extract(2, line, sizeof line, notes, sizeof notes,
+ *                                 buffer, sizeof buffer, taken) != SPRITBOBBIN_ACCEPTED)
+ *             return 1;
+ *         printf("%u alignment digits differ\n", (unsigned)noted[SPRITBOBBIN_ALIGNMENT]);
  *
  *         for (i = 0; i < 4; i++)
  *             memcpy(stream + i * FRAME, line, FRAME);
@@ -201,11 +203,11 @@ enum {
 };
 
 /* What stands where in the answers. The four digit counts, of tributaries 1 to 4, are elements 0
-   to 3 of the answers of the two multiplex calls. */
+   to 3 of the answers of multiplexing and of extraction. */
 enum {
-    SPRITBOBBIN_NAMED_FRAME = 4, /* multiplexing; 0 in demultiplexing */
-    SPRITBOBBIN_ALIGNMENT = 5,   /* demultiplexing: alignment digits that differ from the word */
-    SPRITBOBBIN_DISSENT = 6,     /* demultiplexing: dissenting digits of tributary 1; then of 2, 3, 4 */
+    SPRITBOBBIN_NAMED_FRAME = 4, /* multiplexing and extraction: under 5 */
+    SPRITBOBBIN_ALIGNMENT = 0,   /* reading notes: alignment digits that differ from the word */
+    SPRITBOBBIN_DISSENT = 1,     /* reading notes: dissenting digits of tributary 1; then of 2, 3, 4 */
     SPRITBOBBIN_TAKEN = 0,       /* receiver: digits taken */
     SPRITBOBBIN_READY = 1,       /* receiver: 1 if a frame is ready */
     SPRITBOBBIN_ALARM = 2,       /* receiver: 1 if alarm indication stands at the end */
@@ -251,18 +253,29 @@ uint64_t spritbobbin_multiplex(uint64_t level, uint8_t *line, size_t line_bytes,
                                const uint8_t *buffer, size_t buffer_bytes, uint64_t answer[5]);
 
 /*
- * Takes the frames of a line apart, from a known start: the line begins with a frame.
+ * Reads the notes of a line, from a known start: the line begins with a frame.
  *
- * Reads the line and writes all notes and the whole buffer: each tributary's digits, then zeros
- * to the end of its quarter. Whether a tributary is stuffed is the majority of its control digits
- * in the same frame. Wrong alignment digits are counted and never refused.
+ * Reads the line and writes all notes. Whether a tributary is stuffed is the majority of its
+ * control digits in the same frame. Wrong alignment digits are counted and never refused.
  *
- * answer: the four digit counts, 0, the alignment digits that differ from the word over all
- * frames, then for each tributary its dissenting digits: how many of its control digits differ
- * from the majority of their own group, over all frames. Returns 0, 1, 2, 3 or 4.
+ * answer: the alignment digits that differ from the word over all frames, then for each tributary
+ * its dissenting digits: how many of its control digits differ from the majority of their own
+ * group, over all frames. Returns 0, 1, 2 or 3.
  */
-uint64_t spritbobbin_demultiplex(uint64_t level, const uint8_t *line, size_t line_bytes, uint8_t *notes, size_t notes_bytes,
-                                 uint8_t *buffer, size_t buffer_bytes, uint64_t answer[10]);
+uint64_t spritbobbin_read_notes(uint64_t level, const uint8_t *line, size_t line_bytes, uint8_t *notes, size_t notes_bytes,
+                                uint64_t answer[5]);
+
+/*
+ * Takes the tributaries out of a line by the notes that are given: those that were read from it, or
+ * others, such as the same shifted by a frame. Looks at no control digit.
+ *
+ * Reads the line and the notes and writes the whole buffer: each tributary's digits, then zeros to
+ * the end of its quarter. Where a note says stuffed, the justification digit is left out.
+ *
+ * answer: the four digit counts, the named frame. Returns 0, 1, 2, 3, 4 or 5, as multiplexing does.
+ */
+uint64_t spritbobbin_extract(uint64_t level, const uint8_t *line, size_t line_bytes, const uint8_t *notes, size_t notes_bytes,
+                             uint8_t *buffer, size_t buffer_bytes, uint64_t answer[5]);
 
 /*
  * Makes a fresh receiver: hunting, nothing seen, the frame in hand all zero.

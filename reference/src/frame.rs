@@ -69,37 +69,43 @@ pub fn fill(row: &Row, note: u8, waiting: &mut [Waiting]) -> Vec<u8> {
 }
 
 /// What one received frame says.
-pub struct Taken {
+pub struct Read {
     pub note: u8,
-    /// The four tributaries' digits in this frame.
-    pub tributaries: [Vec<u8>; 4],
     /// Alignment digits that differ from the word.
     pub alignment: u64,
     /// Each tributary's control digits that differ from their majority.
     pub dissent: [u64; 4],
 }
 
-/// Takes one frame apart: first all control groups, since they decide what the
-/// justification digits of the same frame are, then the digits.
-pub fn take(row: &Row, digits: &[u8]) -> Taken {
+/// Reads the note of one frame, and counts its wrong digits.
+pub fn read(row: &Row, digits: &[u8]) -> Read {
     let named: Vec<(Place, u8)> = layout(row).into_iter().zip(digits.iter().copied()).collect();
     let group = |j| pick(&named, Place::Control(j));
-    let mut taken = Taken {
-        note: 0,
-        tributaries: [0, 1, 2, 3].map(|_| Vec::new()),
-        alignment: wrong_digits(row, digits),
-        dissent: [0, 1, 2, 3].map(|j| dissent(&group(j))),
-    };
+    let mut note = 0;
     for &(place, digit) in &named {
         match place {
-            Place::RemoteAlarm => taken.note |= digit << 4,
-            Place::National(k) => taken.note |= digit << (5 + k),
-            Place::Justification(j) if stuffed(&group(j)) => taken.note |= 1 << j,
-            Place::Justification(j) | Place::Tributary(j) => taken.tributaries[j].push(digit),
-            Place::Word(_) | Place::Control(_) => {}
+            Place::RemoteAlarm => note |= digit << 4,
+            Place::National(k) => note |= digit << (5 + k),
+            Place::Justification(j) => note |= u8::from(stuffed(&group(j))) << j,
+            Place::Word(_) | Place::Control(_) | Place::Tributary(_) => {}
         }
     }
-    taken
+    let dissent = [0, 1, 2, 3].map(|j| dissent(&group(j)));
+    Read { note, alignment: wrong_digits(row, digits), dissent }
+}
+
+/// The four tributaries' digits in one frame, by a note. Only its decisions are looked at,
+/// and no control digit is.
+pub fn take(row: &Row, note: u8, digits: &[u8]) -> [Vec<u8>; 4] {
+    let mut tributaries = [0, 1, 2, 3].map(|_| Vec::new());
+    for (place, &digit) in layout(row).into_iter().zip(digits) {
+        match place {
+            Place::Justification(j) if note_digit(note, j) == 1 => {}
+            Place::Justification(j) | Place::Tributary(j) => tributaries[j].push(digit),
+            Place::Word(_) | Place::RemoteAlarm | Place::National(_) | Place::Control(_) => {}
+        }
+    }
+    tributaries
 }
 
 fn pick(named: &[(Place, u8)], wanted: Place) -> Vec<u8> {

@@ -24,5 +24,7 @@ pub use captures::{read_capture, write_capture, Read, Written};
 pub use finder::{finder_feed, finder_refusal, FinderState, Found};
 pub use finder::{FRAME_DIGITS, SECOND_PLACE, WORD, WORD_PLACE};
 pub use multiframe::{build_multiframe, multiframe_refusal, take_multiframe_apart};
-pub use multiplexing::{demultiplex, length_refusal, multiplex, Demultiplexed, Multiplexed};
+pub use multiplexing::{
+    extract, frames_refusal, length_refusal, multiplex, read_notes, Counted, Noted,
+};
 pub use receiver::{feed, feed_refusal, fresh, line_digit, Fed, State};

@@ -1,35 +1,34 @@
-//! Multiplexing and demultiplexing from a known start.
+//! Multiplexing, reading notes and extracting by notes, from a known start.
 
 use crate::digits::{pack, unpack};
 use crate::frame::{self, Waiting};
 use crate::level::{row, Row, MOST_FRAMES};
 
+/// What multiplexing, and extracting by notes, answer.
 #[derive(Clone, Debug, Default, PartialEq, Eq)]
-pub struct Multiplexed {
+pub struct Counted {
     pub refusal: u64,
     /// The first frame whose note is wrong, under 5 only.
     pub frame: u64,
     pub counts: [u64; 4],
 }
 
+/// What reading notes answers.
 #[derive(Clone, Debug, Default, PartialEq, Eq)]
-pub struct Demultiplexed {
+pub struct Noted {
     pub refusal: u64,
-    pub counts: [u64; 4],
     /// Alignment digits that differ from the word, over all frames.
     pub alignment: u64,
     /// Each tributary's control digits that differ from their majority, over all frames.
     pub dissent: [u64; 4],
 }
 
-/// The refusals 1 to 4, which depend only on the level and on lengths. It takes lengths
-/// and not slices, so that it also answers for lengths that no memory holds.
-pub fn length_refusal(level: u64, line_bytes: u64, notes_bytes: u64, buffer_bytes: u64) -> u64 {
-    let row = match row(level) {
-        Some(row) => row,
+/// The refusals 1 to 3, of a line and its notes.
+pub fn frames_refusal(level: u64, line_bytes: u64, notes_bytes: u64) -> u64 {
+    let frame_bytes = match row(level) {
+        Some(row) => row.frame_bytes() as u64,
         None => return 1,
     };
-    let frame_bytes = row.frame_bytes() as u64;
     let frames = line_bytes / frame_bytes;
     if line_bytes % frame_bytes != 0 || frames > MOST_FRAMES {
         return 2;
@@ -37,26 +36,46 @@ pub fn length_refusal(level: u64, line_bytes: u64, notes_bytes: u64, buffer_byte
     if notes_bytes != frames {
         return 3;
     }
+    0
+}
+
+/// The refusals 1 to 4, which depend only on the level and on lengths. It takes lengths
+/// and not slices, so that it also answers for lengths that no memory holds.
+pub fn length_refusal(level: u64, line_bytes: u64, notes_bytes: u64, buffer_bytes: u64) -> u64 {
+    let refusal = frames_refusal(level, line_bytes, notes_bytes);
+    let row = match row(level).filter(|_| refusal == 0) {
+        Some(row) => row,
+        None => return refusal,
+    };
     // Wider numbers: eight times a quarter need not fit in 64 bits.
     let room = u128::from(buffer_bytes / 4) * 8;
-    let needed = u128::from(frames) * row.tributary_digits as u128;
+    let needed = u128::from(notes_bytes) * row.tributary_digits as u128;
     if buffer_bytes % 4 != 0 || room < needed {
         return 4;
     }
     0
 }
 
-/// Writes the line of the notes and of the four quarters' first digits.
-pub fn multiplex(level: u64, line: &mut [u8], notes: &[u8], buffer: &[u8]) -> Multiplexed {
-    let refused = |refusal, frame| Multiplexed { refusal, frame, counts: [0; 4] };
-    let refusal = refusal_of(level, line, notes, buffer);
+/// The refusals 1 to 5 of a call that goes by notes, or the level's row.
+fn judge<'a>(level: u64, line: &[u8], notes: &[u8], buffer: &[u8]) -> Result<&'a Row, Counted> {
+    let lengths = [line.len(), notes.len(), buffer.len()].map(|n| n as u64);
+    let refusal = length_refusal(level, lengths[0], lengths[1], lengths[2]);
     let row = match row(level).filter(|_| refusal == 0) {
         Some(row) => row,
-        None => return refused(refusal, 0),
+        None => return Err(Counted { refusal, ..Counted::default() }),
     };
-    if let Some(frame) = first_wrong_note(row, notes) {
-        return refused(5, frame as u64);
+    match first_wrong_note(row, notes) {
+        Some(frame) => Err(Counted { refusal: 5, frame: frame as u64, counts: [0; 4] }),
+        None => Ok(row),
     }
+}
+
+/// Writes the line of the notes and of the four quarters' first digits.
+pub fn multiplex(level: u64, line: &mut [u8], notes: &[u8], buffer: &[u8]) -> Counted {
+    let row = match judge(level, line, notes, buffer) {
+        Ok(row) => row,
+        Err(refused) => return refused,
+    };
     // At most F·n digits of a quarter are looked at, however long it is.
     let most = notes.len() * row.tributary_digits;
     let quarter = buffer.len() / 4;
@@ -68,39 +87,44 @@ pub fn multiplex(level: u64, line: &mut [u8], notes: &[u8], buffer: &[u8]) -> Mu
     }
     line.copy_from_slice(&pack(&digits));
     let counts = [0, 1, 2, 3].map(|j| (most - waiting[j].len()) as u64);
-    Multiplexed { refusal: 0, frame: 0, counts }
+    Counted { refusal: 0, frame: 0, counts }
 }
 
-/// Reads the line into the notes and the four quarters; the rest of each quarter is zero.
-pub fn demultiplex(level: u64, line: &[u8], notes: &mut [u8], buffer: &mut [u8]) -> Demultiplexed {
-    let refusal = refusal_of(level, line, notes, buffer);
-    let row = match row(level).filter(|_| refusal == 0) {
-        Some(row) => row,
-        None => return Demultiplexed { refusal, ..Demultiplexed::default() },
-    };
-    let mut answer = Demultiplexed::default();
-    let mut tributaries: [Vec<u8>; 4] = Default::default();
-    for (k, bytes) in line.chunks(row.frame_bytes()).enumerate() {
-        let taken = frame::take(row, &unpack(bytes, row.frame_digits));
-        notes[k] = taken.note;
-        answer.alignment += taken.alignment;
-        for (j, these) in taken.tributaries.iter().enumerate() {
-            answer.dissent[j] += taken.dissent[j];
-            tributaries[j].extend(these);
+/// Reads the notes of the line.
+pub fn read_notes(level: u64, line: &[u8], notes: &mut [u8]) -> Noted {
+    let refusal = frames_refusal(level, line.len() as u64, notes.len() as u64);
+    let mut answer = Noted { refusal, ..Noted::default() };
+    if let Some(row) = row(level).filter(|_| refusal == 0) {
+        for (note, bytes) in notes.iter_mut().zip(line.chunks(row.frame_bytes())) {
+            let read = frame::read(row, &unpack(bytes, row.frame_digits));
+            *note = read.note;
+            answer.alignment += read.alignment;
+            (0..4).for_each(|j| answer.dissent[j] += read.dissent[j]);
         }
+    }
+    answer
+}
+
+/// Extracts the four tributaries by the notes; the rest of each quarter is zero.
+pub fn extract(level: u64, line: &[u8], notes: &[u8], buffer: &mut [u8]) -> Counted {
+    let row = match judge(level, line, notes, buffer) {
+        Ok(row) => row,
+        Err(refused) => return refused,
+    };
+    let mut tributaries: [Vec<u8>; 4] = Default::default();
+    for (&note, bytes) in notes.iter().zip(line.chunks(row.frame_bytes())) {
+        let taken = frame::take(row, note, &unpack(bytes, row.frame_digits));
+        (0..4).for_each(|j| tributaries[j].extend(&taken[j]));
     }
     let quarter = buffer.len() / 4;
     buffer.fill(0);
+    let mut answer = Counted::default();
     for (j, digits) in tributaries.iter().enumerate() {
         let bytes = pack(digits);
         buffer[j * quarter..][..bytes.len()].copy_from_slice(&bytes);
         answer.counts[j] = digits.len() as u64;
     }
     answer
-}
-
-fn refusal_of(level: u64, line: &[u8], notes: &[u8], buffer: &[u8]) -> u64 {
-    length_refusal(level, line.len() as u64, notes.len() as u64, buffer.len() as u64)
 }
 
 /// The first frame whose note has a bit for a national digit that the level lacks.

@@ -5,14 +5,13 @@ use reference::digits::{pack, unpack};
 use reference::frame::{self, Place};
 use reference::level::row;
 use reference::{
-    demultiplex, feed, fresh, history, line_digit, multiplex, Demultiplexed, Fed, Multiplexed,
-    State,
+    extract, feed, fresh, history, line_digit, multiplex, read_notes, Counted, Fed, Noted, State,
 };
 
 const WORD: &str = "1111010000";
 
 /// Multiplexes from quarters that are zero.
-fn from_zero(level: u64, line: usize, notes: &[u8], buffer: usize) -> (Multiplexed, Vec<u8>) {
+fn from_zero(level: u64, line: usize, notes: &[u8], buffer: usize) -> (Counted, Vec<u8>) {
     let mut bytes = vec![0xA5; line];
     let answer = multiplex(level, &mut bytes, notes, &vec![0; buffer]);
     if answer.refusal != 0 {
@@ -32,20 +31,43 @@ fn refusal(level: u64, line: usize, notes: &[u8], buffer: usize) -> u64 {
     answer.refusal
 }
 
-/// The refusal of demultiplexing a line of zeros; a refused call must leave all it was lent.
+/// Notes read and tributaries extracted by them, the two calls in turn.
+struct Received {
+    refusal: u64,
+    counts: [u64; 4],
+    alignment: u64,
+    dissent: [u64; 4],
+}
+
+fn receive(level: u64, line: &[u8], notes: &mut [u8], buffer: &mut [u8]) -> Received {
+    let Noted { refusal, alignment, dissent } = read_notes(level, line, notes);
+    if refusal != 0 {
+        return Received { refusal, counts: [0; 4], alignment, dissent };
+    }
+    let Counted { refusal, counts, .. } = extract(level, line, notes, buffer);
+    Received { refusal, counts, alignment, dissent }
+}
+
+/// The refusal of the two calls on a line of zeros; a refused call must leave all it was lent.
 fn back_refusal(level: u64, line: usize, notes: usize, buffer: usize) -> u64 {
     let (mut notes, mut buffer) = (vec![0xA5; notes], vec![0xA5; buffer]);
-    let answer = demultiplex(level, &vec![0; line], &mut notes, &mut buffer);
+    let answer = receive(level, &vec![0; line], &mut notes, &mut buffer);
     if answer.refusal != 0 {
-        let refused = Demultiplexed { refusal: answer.refusal, ..Demultiplexed::default() };
-        assert_eq!(answer, refused);
-        assert!(notes.iter().chain(&buffer).all(|&byte| byte == 0xA5));
+        assert_eq!(answer.counts, [0; 4]);
+        assert!(buffer.iter().all(|&byte| byte == 0xA5));
+    }
+    if (1..4).contains(&answer.refusal) {
+        assert_eq!((answer.alignment, answer.dissent), (0, [0; 4]));
+        assert!(notes.iter().all(|&byte| byte == 0xA5));
+    }
+    if answer.refusal == 4 {
+        assert!(notes.iter().all(|&byte| byte == 0), "the notes are by then written");
     }
     answer.refusal
 }
 
-fn accepted(counts: [u64; 4]) -> Multiplexed {
-    Multiplexed { refusal: 0, frame: 0, counts }
+fn accepted(counts: [u64; 4]) -> Counted {
+    Counted { refusal: 0, frame: 0, counts }
 }
 
 /// A line of the given bytes, all others zero.
@@ -161,7 +183,7 @@ fn read_group(level: u64, group: &str) -> (u8, u64, u64) {
         list[(k + 1) * row.set_digits] = digit;
     }
     let mut notes = [0xA5];
-    let answer = demultiplex(level, &pack(&list), &mut notes, &mut [0; 4 * 91]);
+    let answer = receive(level, &pack(&list), &mut notes, &mut [0; 4 * 91]);
     assert_eq!((answer.refusal, answer.alignment), (0, 0));
     assert_eq!(answer.dissent[1..], [0; 3]);
     (notes[0], answer.dissent[0], answer.counts[0])
@@ -301,7 +323,7 @@ fn notes_with_bits_that_the_level_lacks() {
         for note in [0x40, 0x80, 0xC0, 0xFF] {
             let line = row(level).unwrap().frame_bytes();
             let (answer, _) = from_zero(level, 5 * line, &[0, 0x3F, note, 0, 0x80], 8000);
-            assert_eq!(answer, Multiplexed { refusal: 5, frame: 2, counts: [0; 4] });
+            assert_eq!(answer, Counted { refusal: 5, frame: 2, counts: [0; 4] });
         }
     }
     assert_eq!(refusal(4, 366, &[0xC0], 364), 0);
@@ -342,7 +364,7 @@ fn no_frames() {
     assert_eq!(back_refusal(2, 0, 0, 3), 4);
     assert_eq!(back_refusal(2, 0, 1, 0), 3);
     let mut buffer = [0xFF; 4];
-    assert_eq!(demultiplex(2, &[], &mut [], &mut buffer), Demultiplexed::default());
+    assert_eq!(receive(2, &[], &mut [], &mut buffer).refusal, 0);
     assert_eq!(buffer, [0; 4]);
 }
 
@@ -369,7 +391,7 @@ fn service_digits_of_level_4() {
 fn old_notes_are_not_judged() {
     let (_, line) = from_zero(2, 106, &[0], 104);
     let mut notes = [0xC0];
-    let answer = demultiplex(2, &line, &mut notes, &mut [0xFF; 104]);
+    let answer = receive(2, &line, &mut notes, &mut [0xFF; 104]);
     assert_eq!(answer.refusal, 0);
     assert_eq!(notes, [0]);
 }
@@ -377,14 +399,14 @@ fn old_notes_are_not_judged() {
 #[test]
 fn counts_over_all_frames() {
     assert_eq!(back_refusal(2, 106, 1, 4), 4);
-    let answer = demultiplex(2, &[0; 212], &mut [0; 2], &mut [0; 208]);
+    let answer = receive(2, &[0; 212], &mut [0; 2], &mut [0; 208]);
     assert_eq!((answer.alignment, answer.dissent), (10, [0; 4]));
-    let answer = demultiplex(4, &[0xFF; 366], &mut [0; 1], &mut [0; 364]);
+    let answer = receive(4, &[0xFF; 366], &mut [0; 1], &mut [0; 364]);
     assert_eq!((answer.alignment, answer.dissent), (6, [0; 4]));
     let mut line = vec![0; 366];
     line[61] = 0xF0;
     line[305] = 0x50;
-    let answer = demultiplex(4, &line.repeat(3), &mut [0; 3], &mut [0; 4 * 272]);
+    let answer = receive(4, &line.repeat(3), &mut [0; 3], &mut [0; 4 * 272]);
     assert_eq!((answer.alignment, answer.dissent), (18, [3, 6, 3, 6]));
     assert_eq!(answer.counts, [3 * 723; 4]);
 }
@@ -401,7 +423,7 @@ fn decisions_are_used_in_their_own_frame() {
         let stuffed = |j: usize| notes.iter().filter(|&&note| note >> j & 1 == 1).count();
         assert_eq!(there.counts, [0, 1, 2, 3].map(|j| (8 * quarter - stuffed(j)) as u64));
         let (mut read, mut received) = ([0xFF; 8], vec![0xFF; 4 * quarter]);
-        let back = demultiplex(level, &bytes, &mut read, &mut received);
+        let back = receive(level, &bytes, &mut read, &mut received);
         assert_eq!((back.counts, read), (there.counts, notes));
         for (j, &count) in back.counts.iter().enumerate() {
             let part = j * quarter..(j + 1) * quarter;
@@ -585,4 +607,40 @@ fn feeding_agrees_with_the_search_through_the_whole_stream() {
         let after: Vec<u64> = frames.iter().map(|frame| frame.after as u64).collect();
         assert_eq!((ready, state), (after, end), "seed {seed}");
     }
+}
+
+#[test]
+fn extraction_goes_by_the_notes_given() {
+    // Alternating decisions, extracted by the same notes a frame late: tributary 1, whose
+    // decision does not change, comes out as before, the others do not.
+    let (notes, late) = ([0x01, 0x0F, 0x01, 0x0F], [0x0F, 0x01, 0x0F, 0x01]);
+    let sent: Vec<u8> = (0..4 * 103).map(|k| (k * 151 % 251) as u8).collect();
+    let mut line = vec![0; 4 * 106];
+    assert_eq!(multiplex(2, &mut line, &notes, &sent).refusal, 0);
+    let (mut right, mut wrong) = (vec![0xFF; 4 * 103], vec![0xFF; 4 * 103]);
+    let counts = extract(2, &line, &notes, &mut right).counts;
+    assert_eq!(counts, [820, 822, 822, 822]);
+    assert_eq!(extract(2, &line, &late, &mut wrong).counts, counts);
+    assert_eq!(right[..103], wrong[..103]);
+    assert_ne!(right[103..], wrong[103..]);
+    // No control digit is looked at.
+    let controls = [212, 213, 214, 215, 424, 425, 426, 427, 636, 637, 638, 639];
+    controls.iter().for_each(|place| line[place / 8] ^= 0x80 >> (place % 8));
+    let before = right.clone();
+    extract(2, &line, &notes, &mut right);
+    assert_eq!(right, before);
+}
+
+#[test]
+fn extraction_refuses_with_5_last() {
+    let buffer = &mut [0xA5; 104];
+    let refused = |frame| Counted { refusal: 5, frame, counts: [0; 4] };
+    assert_eq!(extract(2, &[0; 106], &[0x40], buffer), refused(0));
+    assert_eq!(extract(3, &[0; 384], &[0, 0x80], &mut [0xA5; 4 * 95]), refused(1));
+    assert_eq!(extract(4, &[0; 366], &[0xC0], &mut [0; 364]).refusal, 0);
+    assert_eq!(extract(2, &[0; 106], &[0x40], &mut [0; 100]).refusal, 4);
+    assert_eq!(extract(2, &[0; 106], &[0x40; 2], &mut [0; 100]).refusal, 3);
+    assert_eq!(extract(2, &[0; 105], &[0x40; 2], &mut [0; 100]).refusal, 2);
+    assert_eq!(extract(5, &[0; 105], &[0x40; 2], &mut [0; 100]).refusal, 1);
+    assert_eq!(buffer, &[0xA5; 104]);
 }

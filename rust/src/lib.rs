@@ -4,8 +4,8 @@
 //! This crate is a thin, safe face of a library whose every answer is proved. It adds Rust's
 //! habits (slices, `Result`, iterators) and decides nothing itself.
 //!
-//! - [`multiplex`] builds the frames of a line out of four tributaries; [`demultiplex`] takes them
-//!   apart again.
+//! - [`multiplex`] builds the frames of a line out of four tributaries; [`read_notes`] reads the
+//!   notes of a line, and [`extract`] takes the tributaries out again by notes.
 //! - A [`Receiver`] finds frames in a stream that comes in pieces of any size; a [`FrameStream`]
 //!   reads the stream too.
 //! - A [`Finder`] finds the frames of a 2048 kbit/s line.
@@ -33,7 +33,7 @@
 //! # Example
 //!
 //! ```
-//! use spritbobbin::{demultiplex, multiplex, Level, Receiver};
+//! use spritbobbin::{extract, multiplex, read_notes, Level, Receiver};
 //!
 //! # fn main() -> Result<(), spritbobbin::Refusal> {
 //! let level = Level::Two;
@@ -45,9 +45,10 @@
 //! assert_eq!(sent.digits, [3 * 206 - 1, 3 * 206, 3 * 206, 3 * 206]);
 //!
 //! let (mut notes_back, mut buffer_back) = ([0; 3], vec![0; buffer.len()]);
-//! let received = demultiplex(level, &line, &mut notes_back, &mut buffer_back)?;
-//! assert_eq!(received.digits, sent.digits);
+//! read_notes(level, &line, &mut notes_back)?;
 //! assert_eq!(notes_back, notes);
+//! let extracted = extract(level, &line, &notes_back, &mut buffer_back)?;
+//! assert_eq!(extracted.digits, sent.digits);
 //!
 //! // A receiver hands over the frame that begins with the third good word in a row.
 //! let mut receiver = Receiver::new(level);
@@ -76,7 +77,7 @@ pub use finder::{Finder, FinderMode, FinderState, FinderTaken, Turn, Turns};
 pub use level::{Level, MOST_BYTES, MOST_FRAMES};
 pub use line::{digits, line_digit, Digits};
 pub use multiframe::{Multiframe, MULTIFRAME_BYTES};
-pub use multiplexing::{demultiplex, multiplex, Received, Sent};
+pub use multiplexing::{extract, multiplex, read_notes, Extracted, Noted, Sent};
 pub use receiver::{Frame, Frames, Mode, Receiver, State, Taken};
 pub use refusal::Refusal;
 pub use stream::FrameStream;

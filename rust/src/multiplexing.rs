@@ -11,16 +11,21 @@ pub struct Sent {
     pub digits: [usize; 4],
 }
 
-/// What demultiplexing received.
+/// What reading notes found wrong.
 #[derive(Clone, Copy, Debug, PartialEq, Eq, Hash)]
-pub struct Received {
-    /// How many digits of each tributary, 1 to 4, came: the first so many of its quarter.
-    pub digits: [usize; 4],
+pub struct Noted {
     /// How many alignment digits differ from the word, over all frames.
     pub alignment: usize,
     /// How many control digits of each tributary, 1 to 4, differ from the majority of their own
     /// group, over all frames.
     pub dissent: [usize; 4],
+}
+
+/// What extraction took out of a line.
+#[derive(Clone, Copy, Debug, PartialEq, Eq, Hash)]
+pub struct Extracted {
+    /// How many digits of each tributary, 1 to 4, came: the first so many of its quarter.
+    pub digits: [usize; 4],
 }
 
 /// Builds the frames of a line: writes the whole line from the notes and the buffer's quarters.
@@ -76,8 +81,7 @@ pub fn multiplex(
     }
 }
 
-/// Takes the frames of a line apart: writes the notes and the whole buffer, each tributary's
-/// digits and then zeros to the end of its quarter.
+/// Reads the notes of a line, a byte for each frame.
 ///
 /// The line must begin with a frame; a [`Receiver`](crate::Receiver) finds where frames begin.
 /// Whether a tributary is stuffed is the majority of its control digits in the same frame. Wrong
@@ -85,48 +89,89 @@ pub fn multiplex(
 ///
 /// # Errors
 ///
-/// In this order: [`Refusal::Line`], [`Refusal::Notes`], [`Refusal::Buffer`]. Notes and buffer are
-/// then as they were.
+/// In this order: [`Refusal::Line`], [`Refusal::Notes`]. The notes are then as they were.
 ///
 /// # Examples
 ///
 /// ```
-/// use spritbobbin::{demultiplex, Level};
+/// use spritbobbin::{read_notes, Level};
 ///
 /// # fn main() -> Result<(), spritbobbin::Refusal> {
-/// let (mut notes, mut buffer) = ([0], [0; 104]);
-/// let received = demultiplex(Level::Two, &[0xFF; 106], &mut notes, &mut buffer)?;
+/// let mut notes = [0];
+/// let noted = read_notes(Level::Two, &[0xFF; 106], &mut notes)?;
 /// assert_eq!(notes, [0x3F]); // all stuffed, both service digits 1
-/// assert_eq!(received.digits, [205; 4]);
-/// assert_eq!(received.alignment, 5); // 1111111111 and not 1111010000
-/// assert_eq!(received.dissent, [0; 4]);
+/// assert_eq!(noted.alignment, 5); // 1111111111 and not 1111010000
+/// assert_eq!(noted.dissent, [0; 4]);
 /// # Ok(())
 /// # }
 /// ```
-pub fn demultiplex(
-    level: Level,
-    line: &[u8],
-    notes: &mut [u8],
-    buffer: &mut [u8],
-) -> Result<Received, Refusal> {
-    let mut answer = [0; 10];
+pub fn read_notes(level: Level, line: &[u8], notes: &mut [u8]) -> Result<Noted, Refusal> {
+    let mut answer = [0; 5];
     // Sound as in multiplexing.
     let number = unsafe {
-        raw::spritbobbin_demultiplex(
+        raw::spritbobbin_read_notes(
             level.number(),
             line.as_ptr(),
             line.len(),
             notes.as_mut_ptr(),
+            notes.len(),
+            &mut answer,
+        )
+    };
+    let [alignment, dissent @ ..] = answer.map(count);
+    let lent = Lent { level, line: line.len(), notes: notes.len(), buffer: 0 };
+    match number {
+        0 => Ok(Noted { alignment, dissent }),
+        _ => Err(lent.refusal(number, 0)),
+    }
+}
+
+/// Extracts the tributaries of a line by the notes that are given: those that
+/// [`read_notes`] read, or others. Writes the whole buffer, each tributary's digits and then zeros
+/// to the end of its quarter. No control digit is looked at.
+///
+/// # Errors
+///
+/// In this order: [`Refusal::Line`], [`Refusal::Notes`], [`Refusal::Buffer`],
+/// [`Refusal::NoteBits`]. The buffer is then as it was.
+///
+/// # Examples
+///
+/// ```
+/// use spritbobbin::{extract, Level};
+///
+/// # fn main() -> Result<(), spritbobbin::Refusal> {
+/// let mut buffer = [0; 104];
+/// // Tributary 1 is stuffed, whatever the line's control digits say.
+/// let extracted = extract(Level::Two, &[0xFF; 106], &[0x01], &mut buffer)?;
+/// assert_eq!(extracted.digits, [205, 206, 206, 206]);
+/// # Ok(())
+/// # }
+/// ```
+pub fn extract(
+    level: Level,
+    line: &[u8],
+    notes: &[u8],
+    buffer: &mut [u8],
+) -> Result<Extracted, Refusal> {
+    let mut answer = [0; 5];
+    // Sound as in multiplexing.
+    let number = unsafe {
+        raw::spritbobbin_extract(
+            level.number(),
+            line.as_ptr(),
+            line.len(),
+            notes.as_ptr(),
             notes.len(),
             buffer.as_mut_ptr(),
             buffer.len(),
             &mut answer,
         )
     };
-    let [a, b, c, d, frame, alignment, dissent @ ..] = answer.map(count);
+    let [a, b, c, d, frame] = answer.map(count);
     let lent = Lent { level, line: line.len(), notes: notes.len(), buffer: buffer.len() };
     match number {
-        0 => Ok(Received { digits: [a, b, c, d], alignment, dissent }),
+        0 => Ok(Extracted { digits: [a, b, c, d] }),
         _ => Err(lent.refusal(number, frame)),
     }
 }

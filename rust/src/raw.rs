@@ -22,17 +22,26 @@ extern "C" {
         answer: &mut [u64; 5],
     ) -> u64;
 
-    /// Answer: four digit counts, 0, alignment digits that differ, dissenting digits of
-    /// tributaries 1 to 4.
-    pub fn spritbobbin_demultiplex(
+    /// Answer: alignment digits that differ, dissenting digits of tributaries 1 to 4.
+    pub fn spritbobbin_read_notes(
         level: u64,
         line: *const u8,
         line_bytes: usize,
         notes: *mut u8,
         notes_bytes: usize,
+        answer: &mut [u64; 5],
+    ) -> u64;
+
+    /// Answer: four digit counts, named frame.
+    pub fn spritbobbin_extract(
+        level: u64,
+        line: *const u8,
+        line_bytes: usize,
+        notes: *const u8,
+        notes_bytes: usize,
         buffer: *mut u8,
         buffer_bytes: usize,
-        answer: &mut [u64; 10],
+        answer: &mut [u64; 5],
     ) -> u64;
 
     /// State: level, window, digits seen, mode, place, the stretch's digits and zeros, 1 if the

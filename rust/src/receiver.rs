@@ -258,7 +258,7 @@ impl Frame {
     }
 
     /// Its digits as received, from its word on. This is a line of one frame for
-    /// [`demultiplex`](crate::demultiplex).
+    /// [`read_notes`](crate::read_notes) and [`extract`](crate::extract).
     pub fn bytes(&self) -> &[u8] {
         &self.store[..self.level.frame_bytes()]
     }

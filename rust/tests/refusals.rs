@@ -1,20 +1,27 @@
 //! Every refusal: exactly when, in which order, what it prints, and that nothing is written.
 
-use spritbobbin::{demultiplex, multiplex, Level, Receiver, Refusal, State};
+use spritbobbin::{extract, multiplex, read_notes, Level, Receiver, Refusal, State};
 
-/// The refusals of multiplexing and of demultiplexing that are lent so many bytes and these notes.
+/// The refusals of multiplexing and of extraction, which are the same, that are lent so many bytes and
+/// these notes; and that reading notes is refused for the line and the number of notes alone.
 fn refusals(level: Level, line: usize, notes: &[u8], buffer: usize) -> [Option<Refusal>; 2] {
     let (mut frames, quarters) = (vec![0xA5; line], vec![0xA5; buffer]);
     let sent = multiplex(level, &mut frames, notes, &quarters).err();
     if sent.is_some() {
         assert_eq!(frames, vec![0xA5; line], "a refused call wrote the line");
     }
-    let (mut notes_out, mut quarters_out) = (notes.to_vec(), quarters.clone());
-    let received = demultiplex(level, &frames, &mut notes_out, &mut quarters_out).err();
-    if received.is_some() {
-        assert_eq!((&notes_out[..], quarters_out), (notes, quarters), "a refused call wrote");
+    let mut quarters_out = quarters.clone();
+    let taken = extract(level, &frames, notes, &mut quarters_out).err();
+    if taken.is_some() {
+        assert_eq!(quarters_out, quarters, "a refused call wrote");
     }
-    [sent, received]
+    let mut notes_out = notes.to_vec();
+    let read = read_notes(level, &frames, &mut notes_out).err();
+    assert_eq!(read, taken.filter(|refusal| refusal.number() < 4));
+    if read.is_some() {
+        assert_eq!(notes_out, notes, "a refused call wrote");
+    }
+    [sent, taken]
 }
 
 fn numbers(level: Level, line: usize, notes: &[u8], buffer: usize) -> [u64; 2] {
@@ -55,7 +62,7 @@ fn the_first_that_applies_is_the_answer() {
     assert_eq!(numbers(Level::Two, 105, &[0x40; 2], 103), [2; 2]);
     assert_eq!(numbers(Level::Two, 106, &[0x40; 2], 103), [3; 2]);
     assert_eq!(numbers(Level::Two, 106, &[0x40], 103), [4; 2]);
-    assert_eq!(numbers(Level::Two, 106, &[0x40], 104), [5, 0]);
+    assert_eq!(numbers(Level::Two, 106, &[0x40], 104), [5; 2]);
 }
 
 #[test]
@@ -63,10 +70,8 @@ fn bits_6_and_7_belong_to_level_4() {
     for bit in [0x40, 0x80, 0xC0] {
         let notes = [0x3F, 0x00, bit, bit];
         for level in [Level::Two, Level::Three] {
-            let [sent, received] =
-                refusals(level, 4 * level.frame_bytes(), &notes, level.buffer_bytes(4));
-            assert_eq!(sent, Some(Refusal::NoteBits { level, frame: 2 }));
-            assert_eq!(received, None);
+            let both = refusals(level, 4 * level.frame_bytes(), &notes, level.buffer_bytes(4));
+            assert_eq!(both, [Some(Refusal::NoteBits { level, frame: 2 }); 2]);
         }
         assert_eq!(numbers(Level::Four, 4 * 366, &notes, 4 * 362), [0; 2]);
     }

@@ -1,6 +1,6 @@
 //! The specification's frames worked by hand, through the crate.
 
-use spritbobbin::{demultiplex, multiplex, Level, Receiver, Refusal, Sent};
+use spritbobbin::{extract, multiplex, read_notes, Level, Receiver, Refusal, Sent};
 
 /// Multiplexes from a buffer of zeros that is just long enough.
 fn from_zeros(level: Level, notes: &[u8]) -> (Result<Sent, Refusal>, Vec<u8>) {
@@ -25,9 +25,10 @@ fn works(level: Level, note: u8, digits: [usize; 4], set: &[(usize, u8)]) {
     assert_eq!(line, bytes(level.frame_bytes(), set));
 
     let (mut notes, mut buffer) = ([!note], vec![0xA5; level.buffer_bytes(1)]);
-    let received = demultiplex(level, &line, &mut notes, &mut buffer).unwrap();
-    assert_eq!((received.digits, received.alignment, received.dissent), (digits, 0, [0; 4]));
+    let noted = read_notes(level, &line, &mut notes).unwrap();
+    assert_eq!((noted.alignment, noted.dissent), (0, [0; 4]));
     assert_eq!(notes, [note]);
+    assert_eq!(extract(level, &line, &notes, &mut buffer).unwrap().digits, digits);
     assert_eq!(buffer, vec![0; level.buffer_bytes(1)]);
 }
 
@@ -64,10 +65,10 @@ fn vote(level: Level, control: &[u8]) -> (bool, usize) {
         let place = (set + 1) * level.frame_digits() / sets;
         line[place / 8] |= digit << (7 - place % 8);
     }
-    let (mut notes, mut buffer) = ([0], vec![0; level.buffer_bytes(1)]);
-    let received = demultiplex(level, &line, &mut notes, &mut buffer).unwrap();
-    assert_eq!(received.dissent[1..], [0; 3]);
-    (notes == [1], received.dissent[0])
+    let mut notes = [0];
+    let noted = read_notes(level, &line, &mut notes).unwrap();
+    assert_eq!(noted.dissent[1..], [0; 3]);
+    (notes == [1], noted.dissent[0])
 }
 
 #[test]
@@ -127,8 +128,9 @@ fn alternating_decisions_come_back() {
         assert_eq!(sent.digits, [64 * level.tributary_digits() - 32; 4]);
 
         let (mut notes_back, mut back) = ([0; 64], vec![0xA5; length]);
-        demultiplex(level, &line, &mut notes_back, &mut back).unwrap();
+        read_notes(level, &line, &mut notes_back).unwrap();
         assert_eq!(notes_back[..], notes);
+        extract(level, &line, &notes_back, &mut back).unwrap();
         let quarters = buffer.chunks(length / 4).zip(back.chunks(length / 4));
         for ((sent, back), digits) in quarters.zip(sent.digits) {
             assert!(spritbobbin::digits(sent)

@@ -47,15 +47,16 @@ static int all_zero(const uint64_t *numbers, size_t count)
     return count == 0;
 }
 
-/* Multiplexes notes of one value and a buffer of zeros, then takes the line apart again. Checks
-   the two refusals, that a refused call leaves what it was lent, and what case 1 says. */
+/* Multiplexes notes of one value and a buffer of zeros, extracts the line by these notes, and reads the notes back.
+   Checks the refusals, which are multiplexing's but that reading has no buffer and judges no old notes, that a refused
+   call leaves what it was lent, and what case 1 says. */
 static void both_ways(uint64_t level, size_t frame_bytes, size_t frames, size_t notes_bytes,
-                      uint8_t note, size_t buffer_bytes, uint64_t sent, uint64_t received)
+                      uint8_t note, size_t buffer_bytes, uint64_t sent)
 {
     size_t line_bytes = frame_bytes * frames;
     uint8_t *line = lend(line_bytes, 0xA5), *notes = lend(notes_bytes, note);
     uint8_t *buffer = lend(buffer_bytes, 0);
-    uint64_t answer[10];
+    uint64_t answer[5], read = sent > 3 ? 0 : sent;
 
     memset(answer, 0xA5, sizeof answer);
     check(spritbobbin_multiplex(level, line, line_bytes, notes, notes_bytes, buffer, buffer_bytes, answer) == sent,
@@ -73,14 +74,21 @@ static void both_ways(uint64_t level, size_t frame_bytes, size_t frames, size_t 
     if (buffer)
         memset(buffer, 0x5A, buffer_bytes);
     memset(answer, 0xA5, sizeof answer);
-    check(spritbobbin_demultiplex(level, line, line_bytes, notes, notes_bytes, buffer, buffer_bytes, answer) == received,
-          "the refusal of demultiplexing");
-    if (received) {
-        check(all(notes, notes_bytes, note) && all(buffer, buffer_bytes, 0x5A), "a refused call writes nothing");
-        check(all_zero(answer, 10), "a refused demultiplexing counts nothing");
+    check(spritbobbin_extract(level, line, line_bytes, notes, notes_bytes, buffer, buffer_bytes, answer) == sent,
+          "the refusal of extraction");
+    if (sent) {
+        check(all(buffer, buffer_bytes, 0x5A), "a refused extraction writes nothing");
+        check(all_zero(answer, 5), "a refused extraction counts nothing, and names frame 0 or none");
+    } else {
+        check(answer[1] == 206 * frames && all(buffer, buffer_bytes, 0), "what went in comes out");
+    }
+
+    memset(answer, 0xA5, sizeof answer);
+    check(spritbobbin_read_notes(level, line, line_bytes, notes, notes_bytes, answer) == read, "the refusal of reading notes");
+    if (read) {
+        check(all(notes, notes_bytes, note) && all_zero(answer, 5), "a refused reading writes and counts nothing");
     } else if (!sent) {
-        check(answer[1] == 206 * frames && all_zero(answer + 4, 6), "what went in comes out");
-        check(all(notes, notes_bytes, note) && all(buffer, buffer_bytes, 0), "notes and zeros come back");
+        check(all(notes, notes_bytes, note) && all_zero(answer, 5), "the notes come back");
     }
     free(line);
     free(notes);
@@ -93,13 +101,13 @@ static void counts_dissent(void)
 {
     size_t line_bytes = 2 * SPRITBOBBIN_FRAME_BYTES_4, set_bytes = 61, buffer_bytes = 4 * 181;
     uint8_t *line = lend(line_bytes, 0), *notes = lend(2, 0), *buffer = lend(buffer_bytes, 0);
-    uint64_t answer[10], *dissent = answer + SPRITBOBBIN_DISSENT;
+    uint64_t answer[5], *dissent = answer + SPRITBOBBIN_DISSENT;
 
     check(spritbobbin_multiplex(4, line, line_bytes, notes, 2, buffer, buffer_bytes, answer) == 0, "sent");
     line[set_bytes] ^= 0x40;
     line[3 * set_bytes] ^= 0x40;
     line[SPRITBOBBIN_FRAME_BYTES_4 + 5 * set_bytes] ^= 0x50;
-    check(spritbobbin_demultiplex(4, line, line_bytes, notes, 2, buffer, buffer_bytes, answer) == 0, "received");
+    check(spritbobbin_read_notes(4, line, line_bytes, notes, 2, answer) == 0, "read");
     check(dissent[0] == 0 && dissent[1] == 3 && dissent[2] == 0 && dissent[3] == 1, "three digits of tributary 2, one of 4");
     check(notes[0] == 0 && notes[1] == 0 && answer[SPRITBOBBIN_ALIGNMENT] == 0, "which change no decision");
     free(line);
@@ -116,6 +124,8 @@ static void names_the_frame(void)
     notes[2] = notes[3] = SPRITBOBBIN_NATIONAL_2;
     check(spritbobbin_multiplex(3, line, 768, notes, 4, buffer, 756, answer) == SPRITBOBBIN_REFUSED_NOTE_BITS, "refusal 5");
     check(all_zero(answer, 4) && answer[SPRITBOBBIN_NAMED_FRAME] == 2, "refusal 5 names frame 2");
+    check(spritbobbin_extract(3, line, 768, notes, 4, buffer, 756, answer) == SPRITBOBBIN_REFUSED_NOTE_BITS, "extraction's too");
+    check(all_zero(answer, 4) && answer[SPRITBOBBIN_NAMED_FRAME] == 2, "and names frame 2");
     free(line);
     free(notes);
     free(buffer);
@@ -372,19 +382,19 @@ static void finder(void)
 
 int main(void)
 {
-    both_ways(2, 106, 1, 1, 0, 104, 0, 0);      /* case 1; case 9: a quarter of 26 bytes */
-    both_ways(2, 106, 64, 64, 0, 6592, 0, 0);   /* case 9: 64 frames */
-    both_ways(2, 106, 65, 65, 0, 6696, 2, 2);   /* case 9: 65 frames */
-    both_ways(2, 105, 1, 1, 0, 104, 2, 2);      /* case 9: 105 bytes */
-    both_ways(2, 106, 1, 1, 0, 100, 4, 4);      /* case 9: a quarter of 25 bytes */
-    both_ways(2, 106, 1, 1, 0x40, 100, 4, 4);   /* case 10 */
-    both_ways(2, 106, 1, 1, 0x40, 104, 5, 0);   /* demultiplexing does not judge old notes */
-    both_ways(2, 106, 1, 2, 0, 104, 3, 3);
-    both_ways(2, 106, 1, 1, 0, 105, 4, 4);
-    both_ways(5, 106, 1, 1, 0, 104, 1, 1);
-    both_ways(UINT64_C(1) << 32 | 2, 106, 1, 1, 0, 104, 1, 1);
-    both_ways(2, 106, 0, 0, 0, 0, 0, 0);        /* no frames: three null pointers */
-    both_ways(4, 366, 0, 0, 0, 3, 4, 4);
+    both_ways(2, 106, 1, 1, 0, 104, 0);      /* case 1; case 9: a quarter of 26 bytes */
+    both_ways(2, 106, 64, 64, 0, 6592, 0);   /* case 9: 64 frames */
+    both_ways(2, 106, 65, 65, 0, 6696, 2);   /* case 9: 65 frames */
+    both_ways(2, 105, 1, 1, 0, 104, 2);      /* case 9: 105 bytes */
+    both_ways(2, 106, 1, 1, 0, 100, 4);      /* case 9: a quarter of 25 bytes */
+    both_ways(2, 106, 1, 1, 0x40, 100, 4);   /* case 10 */
+    both_ways(2, 106, 1, 1, 0x40, 104, 5);   /* reading does not judge old notes */
+    both_ways(2, 106, 1, 2, 0, 104, 3);
+    both_ways(2, 106, 1, 1, 0, 105, 4);
+    both_ways(5, 106, 1, 1, 0, 104, 1);
+    both_ways(UINT64_C(1) << 32 | 2, 106, 1, 1, 0, 104, 1);
+    both_ways(2, 106, 0, 0, 0, 0, 0);        /* no frames: three null pointers */
+    both_ways(4, 366, 0, 0, 0, 3, 4);
     counts_dissent();
     names_the_frame();
     receiver();

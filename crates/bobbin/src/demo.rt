@@ -85,7 +85,8 @@ fn show(line: &[u8; 848], sent: &[u8; 824], counts: [usize; 4]) {
     digits_row(b"  justification digits 1-4     ", line, LAST_HEAD + 4);
     let mut notes = [0u8; 8];
     let mut back = [0u8; 824];
-    let r = demultiplex::demultiplex(2, line, &mut notes, &mut back);
+    reading::read_notes(2, line, &mut notes);
+    let r = extraction::extract(2, line, &notes, &mut back);
     let came = r.counts;
     say::text(b"  tributary   digits sent   come back   first wrong digit   wrong digits\n");
     table(sent, &back, counts, came);

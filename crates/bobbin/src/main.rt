@@ -8,13 +8,15 @@ use console::words::NO_NOTE;
 use finding::find;
 use keeping::keep;
 use keeping::opened;
+use noting::extract;
+use noting::notes;
 use passages::send;
-use passages::take;
 use pictures::frame;
 use pictures::frame::Noted;
 use recordings::sizes;
 use table::Level;
 use table::Row;
+use taking::take;
 ghost use Rattle.levels.specs.Table.{Shared};
 
 // The words of every call by number; word 0 is the program's own name.
@@ -38,7 +40,11 @@ const FIND: u8 = 3;
 
 const KEEP: u8 = 4;
 
-const SHOW: u8 = 5;
+const NOTES: u8 = 5;
+
+const EXTRACT: u8 = 6;
+
+const SHOW: u8 = 7;
 
 // Beside NO_NOTE, where there is none: a word that should be a note and is none.
 const WRONG_NOTE: u16 = 257;
@@ -87,6 +93,12 @@ fn which_command(word: &[u8]) -> u8 {
     if check::same(word, b"keep") {
         return KEEP;
     }
+    if check::same(word, b"notes") {
+        return NOTES;
+    }
+    if check::same(word, b"extract") {
+        return EXTRACT;
+    }
     if check::same(word, b"show") {
         return SHOW;
     }
@@ -101,6 +113,8 @@ fn fits(which: u8, last: usize) -> bool {
         TAKE => last == take::TRIBUTARIES || last == opened::TRIBUTARIES,
         FIND => last == find::STREAM || last == find::PREFIX,
         KEEP => last == keep::CAPTURE || last == keep::LABEL,
+        NOTES => last == notes::LINE || last == notes::NOTES,
+        EXTRACT => last == extract::TRIBUTARIES,
         _ => last == opened::CAPTURE || last == opened::LINE,
     }
 }
@@ -116,6 +130,10 @@ fn wrong_words(which: u8) {
             help::wrong_call(b"find takes a level and a file, and a prefix where files are wanted.")
         }
         KEEP => help::wrong_call(b"keep takes a level and two files, and a label where wanted."),
+        NOTES => help::wrong_call(
+            b"notes takes a level and a file, and a file for the notes where wanted.",
+        ),
+        EXTRACT => help::wrong_call(b"extract takes a level and three files."),
         _ => help::wrong_call(b"show takes a capture, and a file where its line is wanted."),
     }
 }
@@ -175,6 +193,8 @@ fn started(which: u8, last: usize, row: Row, level: u64)
         SEND => send::run(row, level),
         TAKE => take_line(row, level, last),
         FIND => find::run(row, level, last == find::PREFIX),
+        NOTES => notes::run(row, level, last == notes::NOTES),
+        EXTRACT => extract::run(row, level),
         _ => keep::run(row, level, last == keep::LABEL),
     }
 }

@@ -2,16 +2,16 @@
 // stretches of the alarm, and more of the kind: each refusal at its border, and each pair of faults that tells the order. What it must write
 // was worked out by the separate program of reference/, which shares nothing with the crates.
 use capture_cases::capture;
-use demultiplex::Demultiplexed;
+use levels::judging::Counted;
 use multiframe_cases::hunt;
 use multiframe_cases::whole;
-use multiplex::Multiplexed;
+use reading::Noted;
 use stream_cases::alarm;
 use stream_cases::stream;
 use telling::inputs;
 use telling::say;
 
-// A multiplex call: the notes are 0 before frame `from` and `note` from there on.
+// A multiplex call: the notes are 0 before frame `from` and `note` from there on. The line that it leaves is then extracted by these notes.
 struct Sending {
     level: u64,
     line: usize,
@@ -21,7 +21,7 @@ struct Sending {
     buffer: usize,
 }
 
-// A demultiplex call on a line whose bytes are all `fill`.
+// A line whose bytes are all `fill`: its notes are read, and it is extracted by them.
 struct Receiving {
     level: u64,
     line: usize,
@@ -387,16 +387,29 @@ fn send_on(c: Sending, line: &mut [u8], notes: &mut [u8], buffer: &mut [u8]) {
     inputs::notes_from(notes, c.note, c.from);
     inputs::count_up(buffer);
     let r = multiplex::multiplex(c.level, line, notes, buffer);
+    say::text(b"multiplex");
     sent(c, r, inputs::sum(line));
+    extract_on(c, line, notes, buffer);
 }
 
-fn sent(c: Sending, r: Multiplexed, sum: u64) {
-    say::counted(b"multiplex level ", c.level);
+fn extract_on(c: Sending, line: &[u8], notes: &[u8], buffer: &mut [u8]) {
+    inputs::fill(buffer, 165);
+    let r = extraction::extract(c.level, line, notes, buffer);
+    say::text(b"extract");
+    sent(c, r, inputs::sum(buffer));
+}
+
+fn sent(c: Sending, r: Counted, sum: u64) {
+    say::counted(b" level ", c.level);
     say::labelled(b" line ", c.line);
     say::labelled(b" notes ", c.notes);
     say::labelled(b" note ", c.note as usize);
     say::labelled(b" from ", c.from);
     say::labelled(b" buffer ", c.buffer);
+    counted(r, sum);
+}
+
+fn counted(r: Counted, sum: u64) {
     say::counted(b": refusal ", r.refusal);
     say::labelled(b" frame ", r.frame);
     let counts = r.counts;
@@ -428,23 +441,30 @@ fn receive_on(c: Receiving, line: &mut [u8], notes: &mut [u8], buffer: &mut [u8]
     inputs::fill(line, c.fill);
     inputs::fill(notes, 165);
     inputs::fill(buffer, 165);
-    let r = demultiplex::demultiplex(c.level, line, notes, buffer);
-    received(c, r, inputs::sum(notes), inputs::sum(buffer));
+    let r = reading::read_notes(c.level, line, notes);
+    noted(c, r, inputs::sum(notes));
+    let e = extraction::extract(c.level, line, notes, buffer);
+    extracted(c, e, inputs::sum(buffer));
 }
 
-fn received(c: Receiving, r: Demultiplexed, notes: u64, buffer: u64) {
-    say::counted(b"demultiplex level ", c.level);
+fn noted(c: Receiving, r: Noted, sum: u64) {
+    say::counted(b"read_notes level ", c.level);
+    say::labelled(b" line ", c.line);
+    say::labelled(b" fill ", c.fill as usize);
+    say::labelled(b" notes ", c.notes);
+    say::counted(b": refusal ", r.refusal);
+    say::labelled(b" alignment ", r.alignment);
+    let dissent = r.dissent;
+    say::four(b" dissent ", dissent);
+    say::counted(b" sum ", sum);
+    say::text(b"\n");
+}
+
+fn extracted(c: Receiving, r: Counted, sum: u64) {
+    say::counted(b"extract level ", c.level);
     say::labelled(b" line ", c.line);
     say::labelled(b" fill ", c.fill as usize);
     say::labelled(b" notes ", c.notes);
     say::labelled(b" buffer ", c.buffer);
-    say::counted(b": refusal ", r.refusal);
-    let counts = r.counts;
-    say::four(b" counts ", counts);
-    say::labelled(b" alignment ", r.alignment);
-    let dissent = r.dissent;
-    say::four(b" dissent ", dissent);
-    say::counted(b" notes sum ", notes);
-    say::counted(b" sum ", buffer);
-    say::text(b"\n");
+    counted(r, sum);
 }

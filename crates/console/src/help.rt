@@ -4,38 +4,46 @@ use crate::say;
 
 pub fn forms() {
     form(
-        b"demo                              ",
+        b"demo                                 ",
         b"a multiplexer that acts a frame late, on built-in data",
     );
     form(
-        b"frame LEVEL [NOTE] [FILE.svg]     ",
+        b"frame LEVEL [NOTE] [FILE.svg]        ",
         b"the frame of level 2, 3 or 4; NOTE as 3F: what it holds",
     );
     form(
-        b"send LEVEL NOTES TRIBUTARIES LINE ",
+        b"send LEVEL NOTES TRIBUTARIES LINE    ",
         b"makes the file LINE",
     );
     form(
-        b"take LEVEL LINE NOTES TRIBUTARIES ",
+        b"take LEVEL LINE NOTES TRIBUTARIES    ",
         b"takes the file LINE apart, from its first digit on",
     );
     form(
-        b"take CAPTURE NOTES TRIBUTARIES    ",
+        b"take CAPTURE NOTES TRIBUTARIES       ",
         b"takes the line of a capture apart",
     );
     form(
-        b"find LEVEL STREAM [PREFIX]        ",
+        b"notes LEVEL LINE [NOTES]             ",
+        b"the notes of a line as a table; NOTES: writes them",
+    );
+    form(
+        b"extract LEVEL LINE NOTES TRIBUTARIES ",
+        b"takes LINE apart by the notes of a file",
+    );
+    form(
+        b"find LEVEL STREAM [PREFIX]           ",
         b"finds the frames in a recording; PREFIX: takes them apart",
     );
     form(
-        b"keep LEVEL LINE CAPTURE [LABEL]   ",
+        b"keep LEVEL LINE CAPTURE [LABEL]      ",
         b"makes a capture of up to 64 frames, with a site label",
     );
     form(
-        b"show CAPTURE [LINE]               ",
+        b"show CAPTURE [LINE]                  ",
         b"what a capture holds; LINE: writes its line out",
     );
-    form(b"help                              ", b"these forms");
+    form(b"help                                 ", b"these forms");
 }
 
 fn form(words: &[u8], what: &[u8]) {
@@ -67,6 +75,16 @@ pub fn no_whole_frames(k: usize, bytes: usize, level: u64, frame: usize) {
     say::text(b" has ");
     say::number(frame);
     say::text(b" bytes.\n");
+}
+
+pub fn no_note_each(k: usize, bytes: usize, line: usize, frames: usize) {
+    say::text(b"refused 3: ");
+    has_bytes(k, bytes);
+    say::text(b", and ");
+    files::say_word(line);
+    say::text(b" has ");
+    say::number(frames);
+    say::text(b" frames; a note is one byte for each.\n");
 }
 
 pub fn no_room(k: usize, bytes: usize, level: u64, frames: usize, wanted: usize) {

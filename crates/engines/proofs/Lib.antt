@@ -4,4 +4,5 @@ pub mod Order
 pub mod Line
 pub mod Notes
 pub mod Quarters
-pub mod Multiplexing
+pub mod Judging
+pub mod Engines

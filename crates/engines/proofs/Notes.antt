@@ -24,7 +24,7 @@ use Rattle.levels.proofs.Choice.{cond-by}
 use Rattle.levels.proofs.Groups.{group-binary}
 use Rattle.levels.proofs.Majority.{votes-append, votes-all, votes-le}
 use Rattle.levels.proofs.Sentences.{set-start}
-use Rattle.demultiplex.specs.Notes as quick
+use Rattle.reading.specs.Notes as quick
 use Rattle.plain.specs.declared.frame.Place.{Place}
 use Rattle.plain.specs.declared.frame.Place.the-variants.{Alignment, Service, Control, Justification, Tributary}
 use Rattle.plain.specs.Engine.{digitAt, sumOver, placeIn, received, wrongBy, wrongTo, votesBy, votesTo, majority, dissentIn, nationalIn, noteIn, notesTo, alignmentTo, dissentTo, dissentsTo}

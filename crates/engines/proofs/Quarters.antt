@@ -16,8 +16,8 @@ use Rattle.levels.specs.Table.{Shared}
 use Rattle.levels.specs.Order.{decisions, carries, before, placesOf, countOf}
 use Rattle.levels.proofs.Counts.{count-of, count-room}
 use Rattle.levels.proofs.Inverse.{places-length}
-use Rattle.demultiplex.specs.Extract as quick
-use Rattle.demultiplex.proofs.Taking as taking
+use Rattle.extraction.specs.Quarters as quick
+use Rattle.extraction.proofs.Taking as taking
 use Rattle.plain.specs.Engine.{digitAt, packed, carriesFor, takenTo, handedAt}
 use Rattle.plain.proofs.Packing.{packed-is}
 use Rattle.plain.proofs.Handing as plain

@@ -2,7 +2,6 @@
 // over are held until there are 64 of them.
 use console::files;
 use console::say;
-use passages::apart;
 use passages::passage;
 use passages::passage::OpenFiles;
 use passages::passage::Passage;
@@ -14,6 +13,7 @@ use recordings::watch;
 use recordings::watch::Change;
 use recordings::watch::Heard;
 use table::Row;
+use taking::apart;
 ghost use mathlib.Core.Path.{_≡_};
 ghost use Prim.Native.Nat.{_<_, _≤_};
 ghost use lib.ListN.{length};

@@ -3,11 +3,11 @@ use crate::capture;
 use crate::capture::Opened;
 use crate::refusals;
 use crate::show;
-use passages::take;
-use passages::take::Source;
 use recordings::sizes;
 use table::Level;
 use table::Row;
+use taking::take;
+use taking::take::Source;
 ghost use Rattle.levels.specs.Table.{Shared};
 
 // The words of the calls by number.

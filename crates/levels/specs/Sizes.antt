@@ -33,20 +33,28 @@ badNotes row line notes = not (eqb notes (framesOf row line))
 abbrev pub badBuffer : Row → ℕ → ℕ → Bool
 badBuffer row line buffer = not (eqb (buffer % 4) 0) || ltb (8 * (buffer / 4)) (framesOf row line * row .room)
 
--- the first of them that applies, or 0, by the lengths of line, notes and buffer in bytes
+-- the first of 2 and 3 that applies, or 0, by the lengths of line and notes in bytes
+unfoldable pub framesRefusal : Row → ℕ → ℕ → ℕ
+framesRefusal row line notes = cond (badLine row line) 2 (cond (badNotes row line notes) 3 0)
+
+-- the first of 2, 3 and 4, by the lengths of line, notes and buffer
 unfoldable pub sizeRefusal : Row → ℕ → ℕ → ℕ → ℕ
 sizeRefusal row line notes buffer =
-    cond (badLine row line) 2 (cond (badNotes row line notes) 3 (cond (badBuffer row line buffer) 4 0))
+    cond (eqb (framesRefusal row line notes) 0) (cond (badBuffer row line buffer) 4 0) (framesRefusal row line notes)
 
 -- "one buffer in four equal quarters, quarter j for tributary j": j from 0 here
 abbrev pub quarterOf : List ℕ → ℕ → List ℕ
 quarterOf buffer j = take (length buffer / 4) (drop (j * (length buffer / 4)) buffer)
 
--- what accepted lengths say: the line is F whole frames, at most 64; there are F notes; the buffer is four quarters with room for F frames each
-pub record Accepted (row : Row) (line notes buffer : ℕ) : Type 0 where
+-- what accepted lengths say: the line is F whole frames, at most 64, and there are F notes
+pub record Framed (row : Row) (line notes : ℕ) : Type 0 where
   pub frames : line ≡ framesOf row line * row .bytes
   pub few : framesOf row line ≤ 64
   pub noted : notes ≡ framesOf row line
+
+-- and the buffer is four quarters with room for F frames each
+pub record Accepted (row : Row) (line notes buffer : ℕ) : Type 0 where
+  pub framed : Framed row line notes
   pub quarters : buffer ≡ 4 * (buffer / 4)
   pub room : framesOf row line * row .room ≤ 8 * (buffer / 4)
 

@@ -25,9 +25,10 @@ use Rattle.levels.specs.Sizes.{onLevel, badBuffer, quarterOf, sizeRefusal}
 use Rattle.levels.proofs.Rows.{shared-row}
 use Rattle.levels.proofs.Counts.{count-of}
 use Rattle.levels.proofs.Inverse.{before-rises}
-use Rattle.levels.proofs.Judged.{accepted}
+use Rattle.levels.proofs.Refusals.{faultless}
 use Rattle.multiplex.specs.Line.{digitBy, lineDigit, lineOf}
-use Rattle.multiplex.specs.Multiplex.{refusalOn, refusedWith, answerOn, lineOn, multiplexed, lineAfter}
+use Rattle.levels.specs.Judging.{fault, faultOf, refusedWith, answerOn, answered}
+use Rattle.multiplex.specs.Multiplex.{lineOn, lineAfter}
 
 -- a place that carries no digit does not look at one
 idle : (row : Row) (note j r a b : ℕ) (k : Kind) → carried k (stuffed note j) ≡ false → digitBy row note j r a k ≡ digitBy row note j r b k
@@ -67,42 +68,32 @@ module _ (row : Row) (sh : Shared row) (notes : List ℕ) (t u : ℕ → List �
       ap (λ (ds : List ℕ). bytesOf bytes ds)
       (tab-of (tab n 0 f) n (lineDigit row notes u) (tab-length n 0 f) (λ p h. tab-at n 0 f p h ∙ ap f (zero-add p) ∙ same-digit p h))
 
--- a call that is not refused has accepted lengths
-pub size-accepted : (row : Row) (line : ℕ) (notes : List ℕ) (buffer : ℕ) → refusalOn row line notes buffer ≡ 0 → sizeRefusal row line (length notes) buffer ≡ 0
-unfolding refusalOn
-size-accepted row line notes buffer e =
-    let size = sizeRefusal row line (length notes) buffer in
-    elim (ℕ-discrete size 0) [
-      | yes z ↦ z
-      | no n ↦ let is : refusalOn row line notes buffer ≡ size = rw (ne-eqb size 0 n) in sym is ∙ e
-    ]
-
 -- of the buffer's length a call asks only whether there is room
-same-refusal : (row : Row) (line : ℕ) (notes : List ℕ) (b b′ : ℕ) → badBuffer row line b ≡ badBuffer row line b′ → refusalOn row line notes b ≡ refusalOn row line notes b′
-unfolding refusalOn sizeRefusal
-same-refusal row line notes b b′ e = rw e
+same-fault : (row : Row) (line : ℕ) (notes : List ℕ) (b b′ : ℕ) → badBuffer row line b ≡ badBuffer row line b′ → faultOf row line notes b ≡ faultOf row line notes b′
+unfolding faultOf sizeRefusal
+same-fault row line notes b b′ e = rw e
 
 -- the same of the call
 pub not-looked-at : (level : ℕ) (line notes b b′ : List ℕ)
     → ((row : Row) → levelOf level ≡ Of row → badBuffer row (length line) (length b) ≡ badBuffer row (length line) (length b′))
     → ((row : Row) → levelOf level ≡ Of row → Agree row notes (λ (j : ℕ). digitsOf (quarterOf b j)) (λ (j : ℕ). digitsOf (quarterOf b′ j)))
-    → (multiplexed level (length line) notes (length b) ≡ multiplexed level (length line) notes (length b′)) × (lineAfter level line notes b ≡ lineAfter level line notes b′)
+    → (answered level (length line) notes (length b) ≡ answered level (length line) notes (length b′)) × (lineAfter level line notes b ≡ lineAfter level line notes b′)
 not-looked-at level line notes b b′ room same = go (levelOf level) refl
   where
-    on-row : (row : Row) → levelOf level ≡ Of row → (r : Bool) → eqb (refusalOn row (length line) notes (length b′)) 0 ≡ r
+    on-row : (row : Row) → levelOf level ≡ Of row → (r : Bool) → eqb (faultOf row (length line) notes (length b′) .refusal) 0 ≡ r
         → lineOn row line notes b ≡ lineOn row line notes b′
     on-row row e true er =
-        let er′ : eqb (refusalOn row (length line) notes (length b)) 0 ≡ true = rw (same-refusal row (length line) notes (length b) (length b′) (room row e)) er in
-        let ok = accepted row (length line) (length notes) (length b′) (size-accepted row (length line) notes (length b′) (eqb-true (refusalOn row (length line) notes (length b′)) 0 er)) in
+        let er′ : eqb (faultOf row (length line) notes (length b) .refusal) 0 ≡ true = rw (same-fault row (length line) notes (length b) (length b′) (room row e)) er in
+        let ok = faultless row (length line) notes (length b′) (eqb-true (faultOf row (length line) notes (length b′) .refusal) 0 er) .0 .framed in
         rw (er′, er)
         (same-line row (shared-row level row e) notes _ _ (same row e) (length line) (ok .frames ∙ ap (λ (F : ℕ). F * row .bytes) (sym (ok .noted))))
     on-row row e false er =
-        let er′ : eqb (refusalOn row (length line) notes (length b)) 0 ≡ false = rw (same-refusal row (length line) notes (length b) (length b′) (room row e)) er in
+        let er′ : eqb (faultOf row (length line) notes (length b) .refusal) 0 ≡ false = rw (same-fault row (length line) notes (length b) (length b′) (room row e)) er in
         rw (er′, er)
 
     go : (l : Level) → levelOf level ≡ l
-        → (onLevel l (λ (row : Row). answerOn row (length line) notes (length b)) (refusedWith 1 0) ≡ onLevel l (λ (row : Row). answerOn row (length line) notes (length b′)) (refusedWith 1 0))
+        → (onLevel l (λ (row : Row). answerOn row (length line) notes (length b)) (refusedWith (fault 1 0)) ≡ onLevel l (λ (row : Row). answerOn row (length line) notes (length b′)) (refusedWith (fault 1 0)))
         × (onLevel l (λ (row : Row). lineOn row line notes b) line ≡ onLevel l (λ (row : Row). lineOn row line notes b′) line)
     go (Of row) e =
-        (rw (same-refusal row (length line) notes (length b) (length b′) (room row e)), on-row row e (eqb (refusalOn row (length line) notes (length b′)) 0) refl)
+        (rw (same-fault row (length line) notes (length b) (length b′) (room row e)), on-row row e (eqb (faultOf row (length line) notes (length b′) .refusal) 0) refl)
     go NoSuchLevel e = (refl, refl)

@@ -1,5 +1,8 @@
 // Multiplexing from a known start: four tributaries and the notes of the frames become a line. specs/Multiplex.antt says what the call
 // answers and leaves, specs/Line.antt what each digit of the line is.
+use levels::judging;
+use levels::judging::Counted;
+use levels::judging::Fault;
 use levels::lent;
 use levels::order;
 use levels::places;
@@ -7,7 +10,6 @@ use levels::places::At;
 use levels::places::FramePlace;
 use levels::places::Kind;
 use levels::places::TributaryPlace;
-use levels::sizes;
 use table::Level;
 use table::Row;
 use weave::Next;
@@ -26,39 +28,8 @@ ghost use Rattle.levels.specs.Places.{headEnd, kindOf};
 ghost use Rattle.levels.specs.Order.{stuffed, carried};
 ghost use Rattle.multiplex.specs.Line.{digitBy};
 ghost use Rattle.multiplex.specs.Sending.{idleDigit, Placed, nextOf, Ran, Sending, AllSent};
-ghost use Rattle.multiplex.specs.Multiplex.{firstFaulty, refusedWith, answerOn, lineOn, Met};
-
-pub struct Multiplexed {
-    pub refusal: u64,
-    pub frame: usize,
-    pub counts: [usize; 4],
-}
-
-fn refused(refusal: u64, frame: usize) -> Multiplexed
-    ensures { λ r. ⌜ r ≡ refusedWith refusal frame ⌝ }
-{
-    Multiplexed {
-        refusal,
-        frame,
-        counts: [0; 4],
-    }
-}
-
-// The first frame whose note has a bit that the level has not, or the number of notes where there is none.
-fn first_faulty(row: Row, notes: &[u8]) -> usize
-    requires { ⌜ Shared row ⌝ }
-    ensures { λ r. ⌜ r ≡ firstFaulty row (now (notes .entry)) ⌝ }
-{
-    let limit: usize = 1 << (5 + row.nationals);
-    let mut f: usize = 0;
-    while f < notes.len() {
-        if limit <= notes[f] as usize {
-            return f;
-        }
-        f += 1;
-    }
-    f
-}
+ghost use Rattle.levels.specs.Judging.{answerOn};
+ghost use Rattle.multiplex.specs.Multiplex.{lineOn, Met};
 
 // The digit at place r of a frame's head: the word's, then the note's service bits in the order of their places.
 fn head_digit(row: Row, note: u8, r: FramePlace) -> u8
@@ -278,23 +249,19 @@ fn send_frames(row: Row, line: &mut [u8], notes: &[u8], buffer: &[u8]) -> [usize
 }
 
 // A level's row is known: the lengths and the notes are judged, and the line is written.
-fn multiplex_on(row: Row, line: &mut [u8], notes: &[u8], buffer: &[u8]) -> Multiplexed
+fn multiplex_on(row: Row, line: &mut [u8], notes: &[u8], buffer: &[u8]) -> Counted
     requires { ⌜ Shared row ⌝ }
     ensures { λ r. ⌜
         (r ≡ answerOn row (length (now (line .entry))) (now (notes .entry)) (length (now (buffer .entry))))
         × (now (line .exit) ≡ lineOn row (now (line .entry)) (now (notes .entry)) (now (buffer .entry)))
         ⌝ }
 {
-    let no = sizes::size_refusal(row, line.len(), notes.len(), buffer.len());
-    if no != 0 {
-        return refused(no, 0);
-    }
-    let f = first_faulty(row, notes);
-    if f < notes.len() {
-        return refused(5, f);
+    let found = judging::fault_of(row, line.len(), notes, buffer.len());
+    if found.refusal != 0 {
+        return judging::refused(found);
     }
     let counts = send_frames(row, line, notes, buffer);
-    Multiplexed {
+    Counted {
         refusal: 0,
         frame: 0,
         counts,
@@ -302,12 +269,15 @@ fn multiplex_on(row: Row, line: &mut [u8], notes: &[u8], buffer: &[u8]) -> Multi
 }
 
 // Multiplexes the notes and the quarters of the buffer into the line. Any level number, any lengths: see specs/Multiplex.antt.
-pub fn multiplex(level: u64, line: &mut [u8], notes: &[u8], buffer: &[u8]) -> Multiplexed
+pub fn multiplex(level: u64, line: &mut [u8], notes: &[u8], buffer: &[u8]) -> Counted
     ensures { λ r. ⌜ Met level (now (line .entry)) (now (notes .entry)) (now (buffer .entry)) r (now (line .exit)) ⌝ }
 {
     let found = table::level_of(level);
     match found {
         Level::Of(row) => multiplex_on(row, line, notes, buffer),
-        Level::NoSuchLevel => refused(1, 0),
+        Level::NoSuchLevel => judging::refused(Fault {
+            refusal: 1,
+            frame: 0,
+        }),
     }
 }

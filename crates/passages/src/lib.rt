@@ -1,6 +1,4 @@
-// The commands by which frames pass between files and the calls, 64 at a time: send and take. The command find takes frames apart as here.
-pub mod apart;
+// A passage of frames between files and the calls, 64 at a time, and the command send. The crates taking and noting take frames apart by it.
 pub mod passage;
 mod runs;
 pub mod send;
-pub mod take;

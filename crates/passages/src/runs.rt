@@ -1,32 +1,29 @@
-// A passage of any number of frames, sent or taken apart 64 at a time.
+// A passage of any number of frames that are sent, 64 at a time.
 use crate::passage;
 use crate::passage::Passage;
 use crate::send;
-use crate::take;
 use recordings::sizes;
 use table::Row;
 ghost use Prim.Native.Nat.{_*_, _≤_};
-ghost use lib.ListN.{length};
 ghost use Rattle.levels.specs.Table.{Shared};
 ghost use Rattle.recordings.specs.Sizes.{longest};
 
-// Whether the frames are sent, or else taken apart, is `sends`.
-pub fn all(row: Row, level: u64, sends: bool, frames: usize, t: Passage) -> Passage
+pub fn all(row: Row, level: u64, frames: usize, t: Passage) -> Passage
     requires { ⌜ Shared row × (frames ≤ longest) ⌝ }
 {
     let mut u = t;
     let mut k: usize = 0;
     while k < (frames + 63) / 64 {
         if u.failed == passage::NONE {
-            u = one(row, level, sends, k, sizes::frames_in(k, frames), u);
+            u = one(row, level, k, sizes::frames_in(k, frames), u);
         }
         k += 1;
     }
     u
 }
 
-// Run k, of f frames.
-fn one(row: Row, level: u64, sends: bool, k: usize, f: usize, t: Passage) -> Passage
+// Run k, of f frames: its part of the line, which stands in its file at this place, its notes and the four quarters.
+fn one(row: Row, level: u64, k: usize, f: usize, t: Passage) -> Passage
     requires { ⌜ Shared row × (f ≤ 64) × (64 * k ≤ longest) ⌝ }
 {
     let mut line = io::large_buffer();
@@ -35,33 +32,13 @@ fn one(row: Row, level: u64, sends: bool, k: usize, f: usize, t: Passage) -> Pas
     let n = sizes::frame_bytes(row, f);
     let b = 4 * sizes::quarter_bytes(row, f);
     let at = sizes::frame_bytes(row, 64 * k);
-    one_way(
+    send::one_run(
         row,
         level,
-        sends,
         at,
         &mut line[..n],
         &mut notes[..f],
         &mut buffer[..b],
         t,
     )
-}
-
-// The same, with the run's part of the line, which stands in its file at this place, its notes and the four quarters.
-fn one_way(
-    row: Row,
-    level: u64,
-    sends: bool,
-    at: usize,
-    line: &mut [u8],
-    notes: &mut [u8],
-    buffer: &mut [u8],
-    t: Passage,
-) -> Passage
-    requires { ⌜ Shared row × (length (now notes) ≤ 64) × (length (now buffer) ≤ 65536) ⌝ }
-{
-    if sends {
-        return send::one_run(row, level, at, line, notes, buffer, t);
-    }
-    take::one_run(level, at, line, notes, buffer, t)
 }

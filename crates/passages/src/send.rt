@@ -47,7 +47,7 @@ pub fn run(row: Row, level: u64)
         tributaries: tributaries.fd,
         quarter: tributaries.bytes / 4,
     });
-    end(level, runs::all(row, level, true, notes.bytes, start));
+    end(level, runs::all(row, level, notes.bytes, start));
 }
 
 fn is_short(bytes: usize, wanted: usize) -> bool {

@@ -25,19 +25,20 @@ use Rattle.levels.proofs.Rows.{shared-row}
 use Rattle.levels.proofs.Counts.{line-count, count-room}
 use Rattle.levels.proofs.Columns.{columns, frame-start}
 use Rattle.levels.proofs.Inverse.{places-length}
-use Rattle.levels.proofs.Judged.{accepted, fits-quarter}
-use Rattle.multiplex.specs.declared.Multiplexed.{Multiplexed}
+use Rattle.levels.proofs.Judged.{accepted, fits-quarter, no-size-refused}
+use Rattle.levels.specs.declared.judging.Counted.{Counted}
+use Rattle.levels.specs.declared.judging.Fault.{Fault}
+use Rattle.levels.specs.Judging.{fault, faultOf, refusedWith, counted, answerOn, answered}
+use Rattle.levels.proofs.Refusals.{NotesFit, faultless, fit-faultless}
 use Rattle.multiplex.specs.Line.{lineDigit, lineOf}
-use Rattle.multiplex.specs.Multiplex.{firstOver, firstFaulty, refusalOn, multiplexed}
-use Rattle.multiplex.specs.Multiplex as send
-use Rattle.demultiplex.specs.declared.Demultiplexed.{Demultiplexed}
-use Rattle.demultiplex.specs.Notes.{noteOf, notesOf, dissentTo, dissentsOf}
-use Rattle.demultiplex.specs.Extract.{takenTo, quarterFrom, quartersFrom}
-use Rattle.demultiplex.specs.Demultiplex.{demultiplexed, bufferAfter}
-use Rattle.demultiplex.specs.Demultiplex as read
+use Rattle.reading.specs.Notes.{noteOf, notesOf, dissentTo, dissentsOf}
+use Rattle.extraction.specs.Quarters.{takenTo, quarterFrom, quartersFrom}
+use Rattle.extraction.specs.Extract.{bufferAfter}
 use Rattle.promises.specs.Damage.{lineDigits}
 use Rattle.promises.specs.Carried.{Sound, digitsSent, digitsRead}
-use Rattle.promises.specs.Calls.{Lent, SendAccepted, sentLine, sentCounts, sentDigits, ReadAccepted, readNotes, readDigits, LentFor}
+use Rattle.promises.specs.Calls.{Lent, SendAccepted, sentLine, sentCounts, sentDigits, outcome, ReadAccepted, readNotes, readDigits, LentFor}
+use Rattle.promises.specs.Together.{Outcome, refusedWhole, readWhole, togetherOn, together}
+use Rattle.promises.proofs.Together.{split}
 use Rattle.promises.proofs.RoundTrip.{line-binary}
 
 -- an answer that the call on no level does not give was given on a level's row
@@ -47,11 +48,26 @@ some-level P NoSuchLevel go none n h = absurd (n h)
 
 pub send-level : (level : ℕ) (c : Lent) → SendAccepted level c → (row : Row) × (levelOf level ≡ Of row)
 send-level level c ok =
-    some-level (λ (r : Multiplexed). r .refusal ≡ 0) (levelOf level) (λ (row : Row). send.answerOn row (length (c .line)) (c .notes) (length (c .buffer))) (send.refusedWith 1 0) (λ e. omega arith) ok
+    some-level (λ (r : Counted). r .refusal ≡ 0) (levelOf level) (λ (row : Row). answerOn row (length (c .line)) (c .notes) (length (c .buffer))) (refusedWith (fault 1 0)) (λ e. omega arith) ok
+
+-- a reading that was accepted is that of the one call
+pub as-together : (level : ℕ) (c : Lent) → ReadAccepted level c → outcome level c ≡ together level (c .line) (c .notes) (c .buffer)
+as-together level c ok =
+    elim (ℕ-discrete (together level (c .line) (c .notes) (c .buffer) .refusal) 4) [
+      | yes four ↦ absurd (some (sym (ap (λ (o : Outcome). o .refusal) (split level (c .line) (c .notes) (c .buffer) .room four)) ∙ ok))
+      | no n ↦ split level (c .line) (c .notes) (c .buffer) .same n
+    ]
+  where
+    some : _≡_ {A = ℕ} 4 0 → ⊥
+    some e = omega arith
+
+accepted-together : (level : ℕ) (c : Lent) → ReadAccepted level c → together level (c .line) (c .notes) (c .buffer) .refusal ≡ 0
+accepted-together level c ok = sym (ap (λ (o : Outcome). o .refusal) (as-together level c ok)) ∙ ok
 
 pub read-level : (level : ℕ) (c : Lent) → ReadAccepted level c → (row : Row) × (levelOf level ≡ Of row)
 read-level level c ok =
-    some-level (λ (r : Demultiplexed). r .refusal ≡ 0) (levelOf level) (λ (row : Row). read.answerOn row (c .line) (length (c .notes)) (length (c .buffer))) (read.refusedWith 1) (λ e. omega arith) ok
+    some-level (λ (o : Outcome). o .refusal ≡ 0) (levelOf level) (λ (row : Row). togetherOn row (c .line) (c .notes) (c .buffer)) (refusedWhole 1 (c .notes) (c .buffer)) (λ e. omega arith)
+    (accepted-together level c ok)
 
 -- an answer that is given by a refusal number is accepted where that number is 0
 zero-refusal : {A : Type 0} (refusal : A → ℕ) (n : ℕ) (sent refused : A) → refusal refused ≡ n → refusal (cond (eqb n 0) sent refused) ≡ 0 → n ≡ 0
@@ -60,39 +76,6 @@ zero-refusal refusal n sent refused r e =
       | yes z ↦ z
       | no z ↦ sym r ∙ rw (ne-eqb n 0 z) at e
     ]
-
--- no note is at or over a limit that none was found to be
-none-over : (limit : ℕ) (notes : List ℕ) → length notes ≤ firstOver limit notes → (f : ℕ) → f < length notes → getD notes f 0 < limit
-unfolding firstOver
-none-over limit [] h f hf = absurd (not-suc-le-zero hf)
-none-over limit (x ∷ xs) h f hf = go (leb limit x) refl h (none-over limit xs) f hf
-  where
-    go : (t : Bool) → leb limit x ≡ t → suc (length xs) ≤ cond t 0 (suc (firstOver limit xs))
-        → (length xs ≤ firstOver limit xs → (f : ℕ) → f < length xs → getD xs f 0 < limit) → (f : ℕ) → f < suc (length xs) → getD (x ∷ xs) f 0 < limit
-    go true e h rest f hf = absurd (not-suc-le-zero h)
-    go false e h rest zero hf = leb-false limit x e
-    go false e h rest (suc f) hf = rest (omega arith) f (omega arith)
-
--- and none is found to be where none is
-none-found : (limit : ℕ) (notes : List ℕ) → ((f : ℕ) → f < length notes → getD notes f 0 < limit) → firstOver limit notes ≡ length notes
-unfolding firstOver
-none-found limit [] h = refl
-none-found limit (x ∷ xs) h = rw (lt-leb limit x (h 0 (omega arith))) (ap (λ (n : ℕ). suc n) (none-found limit xs (λ f hf. h (suc f) (omega arith))))
-
--- the tests of the lengths and of the notes, where none refuses
-no-refusal : (size : ℕ) (faulty : Bool) → cond {A = ℕ} (eqb size 0) (cond faulty 5 0) size ≡ 0 → (size ≡ 0) × (faulty ≡ false)
-no-refusal size faulty e =
-    elim (ℕ-discrete size 0) [
-      | yes z ↦ (z, note faulty (rw (eq-eqb size 0 z) at e))
-      | no n ↦ absurd (n (rw (ne-eqb size 0 n) at e))
-    ]
-  where
-    note : (t : Bool) → cond {A = ℕ} t 5 0 ≡ 0 → t ≡ false
-    note true e = absurd (five e)
-      where
-        five : _≡_ {A = ℕ} 5 0 → ⊥
-        five e = omega arith
-    note false e = refl
 
 -- the count of a tributary is its own of the four
 pub count-at : (row : Row) (notes : List ℕ) (F j : ℕ) → j < 4 → getD (countsOf row notes F) j 0 ≡ countOf row (decisions notes j) F
@@ -153,17 +136,30 @@ taken-length row sh notes ds F j hj =
     ∙ places-length row (decisions notes j) j (F * columns row)
     ∙ omega (arith, line-count row sh j hj (decisions notes j) F)
 
--- lengths that are what accepted lengths say are refused by no test
-no-test : (row : Row) (line notes buffer : ℕ) → Accepted row line notes buffer → sizeRefusal row line notes buffer ≡ 0
-unfolding sizeRefusal
-no-test row line notes buffer sizes =
-    let whole : line % row .bytes ≡ 0 = omega (arith, sizes .frames, div-add-mod' line (row .bytes)) in
-    let fours : buffer % 4 ≡ 0 = omega (arith, sizes .quarters) in
-    rw (whole, le-ltb 64 (framesOf row line) (sizes .few), eq-eqb notes (framesOf row line) (sizes .noted), fours, le-ltb (8 * (buffer / 4)) (framesOf row line * row .room) (sizes .room))
+-- so a quarter with room has a tributary's digits first, as many as are counted
+module _ (row : Row) (sh : Shared row) (notes line : List ℕ) (F q j : ℕ) (hj : j < 4) (places : 8 * length line ≡ F * row .digits) (room : F * row .room ≤ 8 * q) where
+  abbrev count : ℕ
+  count = countOf row (decisions notes j) F
+
+  abbrev taken : List ℕ
+  taken = takenTo row notes (digitsOf line) j (F * columns row)
+
+  whole : takenTo row notes (digitsOf line) j (2 * length line) ≡ taken
+  whole =
+      let all : 2 * length line ≡ F * columns row = omega (arith, places, frame-start row sh j hj F) in
+      rw all
+
+  pub quarter-taken : take count (digitsOf (quarterOf (quartersFrom row notes line q) j)) ≡ taken
+  unfolding countOf
+  quarter-taken =
+      let all = taken-length row sh notes (digitsOf line) F j hj in
+      ap (λ (l : List ℕ). take count (digitsOf l)) (quarter-is row notes line q j hj)
+      ∙ ap (λ (l : List ℕ). take count l) (quarter-digits row notes line taken q j whole (omega (arith, all, count-room row sh j hj (decisions notes j) F, room)))
+      ∙ take-at taken (replicate (8 * q - length taken) 0) count all
 
 -- a line of accepted length is its frames, in bytes and in digits
 line-bytes : (row : Row) (line notes buffer : ℕ) → Accepted row line notes buffer → line ≡ notes * row .bytes
-line-bytes row line notes buffer sizes = sizes .frames ∙ ap (λ (F : ℕ). F * row .bytes) (sym (sizes .noted))
+line-bytes row line notes buffer sizes = sizes .framed .frames ∙ ap (λ (F : ℕ). F * row .bytes) (sym (sizes .framed .noted))
 
 line-places : (row : Row) → Shared row → (line notes buffer : ℕ) → Accepted row line notes buffer → 8 * line ≡ notes * row .digits
 line-places row sh line notes buffer sizes =
@@ -180,22 +176,30 @@ module _ (level : ℕ) (row : Row) (e : levelOf level ≡ Of row) where
   shared = shared-row level row e
 
   -- a reading of a line as long as that of an accepted call, lent enough for as many frames, is accepted, whatever it is lent
+  pub lent-accepted : (one other : Lent) → Accepted row (length (one .line)) (length (one .notes)) (length (one .buffer))
+      → length (other .line) ≡ length (one .line) → LentFor (row .room) one other → Accepted row (length (other .line)) (length (other .notes)) (length (other .buffer))
+  lent-accepted one other sizes same lent =
+      let F : framesOf row (length (other .line)) ≡ length (one .notes) = ap (λ (n : ℕ). framesOf row n) same ∙ sym (sizes .framed .noted) in
+      record {
+        framed = record { frames = rw same (sizes .framed .frames); few = rw same (sizes .framed .few); noted = lent .noted ∙ sym F };
+        quarters = omega (arith, lent .quarters);
+        room = rw F (lent .room);
+      }
+
   pub read-accepted : (one other : Lent) → Accepted row (length (one .line)) (length (one .notes)) (length (one .buffer))
       → length (other .line) ≡ length (one .line) → LentFor (row .room) one other → ReadAccepted level other
   read-accepted one other sizes same lent =
-      let F : framesOf row (length (other .line)) ≡ length (one .notes) = ap (λ (n : ℕ). framesOf row n) same ∙ sym (sizes .noted) in
-      let found : Accepted row (length (other .line)) (length (other .notes)) (length (other .buffer)) =
-      record { frames = rw same (sizes .frames); few = rw same (sizes .few); noted = lent .noted ∙ sym F; quarters = omega (arith, lent .quarters); room = rw F (lent .room) } in
-      rw (e, no-test row (length (other .line)) (length (other .notes)) (length (other .buffer)) found)
+      let whole = no-size-refused row (length (other .line)) (length (other .notes)) (length (other .buffer)) (lent-accepted one other sizes same lent) in
+      let zero : together level (other .line) (other .notes) (other .buffer) .refusal ≡ 0 = rw (e, whole) in
+      ap (λ (o : Outcome). o .refusal) (split level (other .line) (other .notes) (other .buffer) .same (λ four. some (sym zero ∙ four))) ∙ zero
+    where
+      some : _≡_ {A = ℕ} 0 4 → ⊥
+      some e = omega arith
 
-  -- a send of accepted lengths, with no bit in its notes that the level has not, is accepted
-  pub send-accepted : (c : Lent) → sizeRefusal row (length (c .line)) (length (c .notes)) (length (c .buffer)) ≡ 0
-      → ((f : ℕ) → f < length (c .notes) → getD (c .notes) f 0 < 2 ^ (5 + row .nationals)) → SendAccepted level c
-  unfolding refusalOn
+  -- a call of accepted lengths, with no bit in its notes that the level has not, is accepted
+  pub send-accepted : (c : Lent) → sizeRefusal row (length (c .line)) (length (c .notes)) (length (c .buffer)) ≡ 0 → NotesFit row (c .notes) → SendAccepted level c
   send-accepted c size fit =
-      let F = length (c .notes) in
-      let none : ltb (firstFaulty row (c .notes)) F ≡ false = rw (none-found (2 ^ (5 + row .nationals)) (c .notes) fit) (le-ltb F F (omega arith)) in
-      rw (e, size, none)
+      rw (e, fit-faultless row (length (c .line)) (c .notes) (length (c .buffer)) (accepted row (length (c .line)) (length (c .notes)) (length (c .buffer)) size) fit)
 
   -- an accepted send
   module _ (c : Lent) (ok : SendAccepted level c) where
@@ -205,18 +209,14 @@ module _ (level : ℕ) (row : Row) (e : levelOf level ≡ Of row) where
     abbrev pub tributary : ℕ → List ℕ
     tributary j = digitsOf (quarterOf (c .buffer) j)
 
-    abbrev refusal : ℕ
-    refusal = refusalOn row (length (c .line)) (c .notes) (length (c .buffer))
+    abbrev pub found : Fault
+    found = faultOf row (length (c .line)) (c .notes) (length (c .buffer))
 
-    unrefused : refusal ≡ 0
-    unrefused = zero-refusal (λ (r : Multiplexed). r .refusal) refusal (send.sent row (c .notes)) (send.refusedWith refusal (cond (eqb refusal 5) (firstFaulty row (c .notes)) 0)) refl (rw e at ok)
-
-    tests : (sizeRefusal row (length (c .line)) F (length (c .buffer)) ≡ 0) × (ltb (firstFaulty row (c .notes)) F ≡ false)
-    unfolding refusalOn
-    tests = no-refusal (sizeRefusal row (length (c .line)) F (length (c .buffer))) (ltb (firstFaulty row (c .notes)) F) unrefused
+    pub unrefused : found .refusal ≡ 0
+    unrefused = zero-refusal (λ (r : Counted). r .refusal) (found .refusal) (counted row (c .notes)) (refusedWith found) refl (rw e at ok)
 
     pub send-sizes : Accepted row (length (c .line)) F (length (c .buffer))
-    send-sizes = accepted row (length (c .line)) F (length (c .buffer)) (tests .0)
+    send-sizes = faultless row (length (c .line)) (c .notes) (length (c .buffer)) unrefused .0
 
     pub send-whole : length (c .line) ≡ F * row .bytes
     send-whole = line-bytes row (length (c .line)) F (length (c .buffer)) send-sizes
@@ -228,22 +228,22 @@ module _ (level : ℕ) (row : Row) (e : levelOf level ≡ Of row) where
     send-sound =
         record {
           all-noted = refl;
-          notes-fit = none-over (2 ^ (5 + row .nationals)) (c .notes) (ltb-false (firstFaulty row (c .notes)) F (tests .1));
+          notes-fit = faultless row (length (c .line)) (c .notes) (length (c .buffer)) unrefused .1;
           digits = λ j hj. digits-binary (quarterOf (c .buffer) j);
           room = λ j hj. rw (digits-length, quarter-length (c .buffer) j hj) (fits-quarter shared send-sizes .room);
         }
 
     pub send-bytes : sentLine level c ≡ lineOf row (c .notes) tributary (length (c .line))
-    send-bytes = rw (e, eq-eqb refusal 0 unrefused)
+    send-bytes = rw (e, eq-eqb (found .refusal) 0 unrefused)
 
     pub send-line : digitsOf (sentLine level c) ≡ lineDigits row (c .notes) tributary F
     send-line = ap digitsOf send-bytes ∙ line-digits row (c .notes) tributary (send-sound .digits) (length (c .line)) F send-places
 
-    send-answer : multiplexed level (length (c .line)) (c .notes) (length (c .buffer)) ≡ send.sent row (c .notes)
-    send-answer = rw (e, eq-eqb refusal 0 unrefused)
+    send-answer : answered level (length (c .line)) (c .notes) (length (c .buffer)) ≡ counted row (c .notes)
+    send-answer = rw (e, eq-eqb (found .refusal) 0 unrefused)
 
     pub send-counts : sentCounts level c ≡ countsOf row (c .notes) F
-    send-counts = ap (λ (r : Multiplexed). r .counts) send-answer
+    send-counts = ap (λ (r : Counted). r .counts) send-answer
 
     pub send-count : (j : ℕ) → j < 4 → getD (sentCounts level c) j 0 ≡ countOf row (decisions (c .notes) j) F
     send-count j hj = ap (λ (counts : List ℕ). getD counts j 0) send-counts ∙ count-at row (c .notes) F j hj
@@ -266,7 +266,7 @@ module _ (level : ℕ) (row : Row) (e : levelOf level ≡ Of row) where
     size = sizeRefusal row (length (c .line)) frames (length (c .buffer))
 
     pub accepted-size : size ≡ 0
-    accepted-size = zero-refusal (λ (r : Demultiplexed). r .refusal) size (read.received row notes ds frames) (read.refusedWith size) refl (rw e at ok)
+    accepted-size = zero-refusal (λ (o : Outcome). o .refusal) size (readWhole row (c .line) frames (length (c .buffer) / 4)) (refusedWhole size (c .notes) (c .buffer)) refl (rw e at (accepted-together level c ok))
 
     pub read-sizes : Accepted row (length (c .line)) frames (length (c .buffer))
     read-sizes = accepted row (length (c .line)) frames (length (c .buffer)) accepted-size
@@ -274,42 +274,19 @@ module _ (level : ℕ) (row : Row) (e : levelOf level ≡ Of row) where
     pub read-places : 8 * length (c .line) ≡ frames * row .digits
     read-places = line-places row shared (length (c .line)) frames (length (c .buffer)) read-sizes
 
-    pub read-answer : demultiplexed level (c .line) frames (length (c .buffer)) ≡ read.received row notes ds frames
-    read-answer = rw (e, eq-eqb size 0 accepted-size)
+    pub read-answer : outcome level c ≡ readWhole row (c .line) frames (length (c .buffer) / 4)
+    read-answer = as-together level c ok ∙ rw (e, eq-eqb size 0 accepted-size)
 
     pub read-notes : readNotes level c ≡ notes
-    read-notes = rw (e, eq-eqb size 0 accepted-size)
+    read-notes = ap (λ (o : Outcome). o .notes) read-answer
 
     pub read-frames : length (readNotes level c) ≡ frames
     read-frames = rw read-notes (tab-length frames 0 (noteOf row ds))
 
-    pub read-buffer : bufferAfter level (c .line) frames (c .buffer) ≡ quartersFrom row notes (c .line) (length (c .buffer) / 4)
-    read-buffer = rw (e, eq-eqb size 0 accepted-size)
+    pub read-buffer : outcome level c .buffer ≡ quartersFrom row notes (c .line) (length (c .buffer) / 4)
+    read-buffer = ap (λ (o : Outcome). o .buffer) read-answer
 
     pub read-digits : (j : ℕ) → j < 4 → readDigits level c j ≡ digitsRead row frames ds j
-    unfolding countOf
     read-digits j hj =
-        rw (ap (λ (r : Demultiplexed). r .counts) read-answer, count-at row notes frames j hj)
-        (ap (λ (l : List ℕ). take count (digitsOf l)) (rw read-buffer (quarter-is row notes (c .line) q j hj))
-        ∙ ap (λ (l : List ℕ). take count l) (quarter-digits row notes (c .line) taken q j whole (omega (arith, long, count-room row shared j hj (decisions notes j) frames, room)))
-        ∙ take-at taken (replicate (8 * q - length taken) 0) count long)
-      where
-        q : ℕ
-        q = length (c .buffer) / 4
-
-        count : ℕ
-        count = countOf row (decisions notes j) frames
-
-        taken : List ℕ
-        taken = digitsRead row frames ds j
-
-        long : length taken ≡ count
-        long = taken-length row shared notes ds frames j hj
-
-        room : frames * row .room ≤ 8 * q
-        room = fits-quarter shared read-sizes .room
-
-        whole : takenTo row notes ds j (2 * length (c .line)) ≡ taken
-        whole =
-            let all : 2 * length (c .line) ≡ frames * columns row = omega (arith, read-places, frame-start row shared j hj frames) in
-            rw all
+        rw (ap (λ (o : Outcome). o .counts) read-answer, count-at row notes frames j hj, read-buffer)
+        (quarter-taken row shared notes (c .line) frames (length (c .buffer) / 4) j hj read-places (fits-quarter shared read-sizes .room))

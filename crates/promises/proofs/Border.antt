@@ -23,7 +23,7 @@ use Rattle.levels.specs.declared.places.Kind.{Kind}
 use Rattle.levels.specs.declared.places.Kind.the-variants.{Word, Service, Control, Justification, Tributary}
 use Rattle.table.specs.Table.{row2, row3, row4, levelOf}
 use Rattle.levels.specs.Table.{Shared}
-use Rattle.levels.specs.Sizes.{sizeRefusal}
+use Rattle.levels.specs.Sizes.{framesRefusal, sizeRefusal}
 use Rattle.levels.specs.Places.{firstSet, middleSet, lastSet, kindOf, kindAt, posOf}
 use Rattle.levels.specs.Order.{stuffed, decisions, carries, before, placesOf, countOf}
 use Rattle.levels.specs.Vote.{groupOf, votesFor, voteBy}
@@ -32,13 +32,13 @@ use Rattle.levels.proofs.Positions.{stands, pos-of-sum}
 use Rattle.levels.proofs.Majority.{group-length}
 use Rattle.levels.proofs.Ways.{kind-control}
 use Rattle.multiplex.specs.Line.{digitBy, lineDigit}
-use Rattle.multiplex.specs.Multiplex.{firstOver, refusalOn}
-use Rattle.demultiplex.specs.Notes.{voteAt, serviceAt, noteOf}
-use Rattle.demultiplex.specs.Extract.{takenTo, quarterFrom, quartersFrom}
-use Rattle.demultiplex.specs.Demultiplex.{demultiplexed, bufferAfter}
+use Rattle.levels.specs.Judging.{firstOver, faultOf}
+use Rattle.reading.specs.Notes.{voteAt, serviceAt, noteOf}
+use Rattle.extraction.specs.Quarters.{takenTo, quarterFrom, quartersFrom}
 use Rattle.promises.specs.Damage.{Liberty, at-will, counted, kept, liberty, libertyAt, groupAt, allowed, DamageUpTo, Damage, controlsChanged, lineDigits}
 use Rattle.promises.specs.Carried.{Sound}
-use Rattle.promises.specs.Calls.{SendAccepted, sentLine, readNotes, LentAt, DamageAt}
+use Rattle.promises.specs.Calls.{SendAccepted, sentLine, outcome, LentAt, DamageAt}
+use Rattle.promises.specs.Together.{Outcome}
 use Rattle.promises.specs.Border.{inverted, spoilt, changes, early, late, noneStuffed, allStuffed, idle, Border, exampleSend, exampleLine, exampleDamaged, exampleRead, Example}
 use Rattle.promises.proofs.Sent.{control-place, in-line, sent-at}
 use Rattle.promises.proofs.Recovered.{dissent-changed}
@@ -231,7 +231,7 @@ three-of-five = border row4 shared4 1
 
 -- the example, by computation
 example-leaves : sentLine 2 exampleSend ≡ exampleLine
-unfolding levelOf refusalOn sizeRefusal firstOver bytesOf tab lineDigit before carries posOf kindOf firstSet middleSet lastSet digitsOf exampleLine
+unfolding levelOf faultOf framesRefusal sizeRefusal firstOver bytesOf tab lineDigit before carries posOf kindOf firstSet middleSet lastSet digitsOf exampleLine
 example-leaves = refl
 
 example-spoilt : spoilt row2 (1 ∷ []) (early row2) 1 (digitsOf exampleLine) ≡ digitsOf exampleDamaged
@@ -239,7 +239,7 @@ unfolding tab posOf kindOf firstSet middleSet lastSet digitsOf exampleLine examp
 example-spoilt = refl
 
 example-accepted : SendAccepted 2 exampleSend
-unfolding levelOf refusalOn sizeRefusal firstOver
+unfolding levelOf faultOf framesRefusal sizeRefusal firstOver
 example-accepted = refl
 
 example-seventeen : differing (digitsOf exampleLine) (digitsOf exampleDamaged) ≡ 17
@@ -250,11 +250,18 @@ example-damaged : DamageAt 2 (exampleSend .notes) (sentLine 2 exampleSend) examp
 unfolding levelOf
 example-damaged = rw (example-leaves, ← example-spoilt) (all-allowed row2 shared2 (1 ∷ []) 1 (digitsOf exampleLine) (digits-binary exampleLine))
 
-example-read : (demultiplexed 2 exampleDamaged 1 104 ≡ record { refusal = 0; counts = 205 ∷ 206 ∷ 206 ∷ 206 ∷ []; alignment = 10; dissent = 1 ∷ 1 ∷ 1 ∷ 1 ∷ [] })
-    × (readNotes 2 exampleRead ≡ 0x31 ∷ [])
-    × (bufferAfter 2 exampleDamaged 1 (exampleRead .buffer) ≡ exampleSend .buffer)
-unfolding levelOf sizeRefusal noteOf voteAt serviceAt voteBy votesFor groupOf countOf sumTo quartersFrom quarterFrom takenTo placesOf carries posOf kindOf firstSet middleSet lastSet tab bytesOf digitsOf exampleDamaged
-example-read = (refl, refl, refl)
+example-read : outcome 2 exampleRead
+    ≡ record {
+      refusal = 0;
+      frame = 0;
+      counts = 205 ∷ 206 ∷ 206 ∷ 206 ∷ [];
+      alignment = 10;
+      dissent = 1 ∷ 1 ∷ 1 ∷ 1 ∷ [];
+      notes = 0x31 ∷ [];
+      buffer = exampleSend .buffer;
+    }
+unfolding levelOf framesRefusal sizeRefusal firstOver faultOf noteOf voteAt serviceAt voteBy votesFor groupOf countOf sumTo quartersFrom quarterFrom takenTo placesOf carries posOf kindOf firstSet middleSet lastSet tab bytesOf digitsOf exampleDamaged
+example-read = refl
 
 example-lent : LentAt 2 exampleSend exampleRead
 unfolding levelOf
@@ -268,7 +275,5 @@ example =
       damaged = example-damaged;
       seventeen = example-seventeen;
       returned = send-returned 2 exampleSend exampleRead example-accepted example-lent example-damaged;
-      answers = example-read .0;
-      noted = example-read .1;
-      filled = example-read .2;
+      answers = example-read;
     }

@@ -4,7 +4,7 @@
 use mathlib.Core.Path.{_≡_, refl, sym, _∙_, ap}
 use mathlib.Core.Logic.{_≢_}
 use mathlib.Core.List.{List}
-use Prim.Native.Nat.{ℕ, _*_, _%_, _<_}
+use Prim.Native.Nat.{ℕ, _*_, _/_, _%_, _<_}
 use native.Mathlib.Omega.{arith}
 use native.Mathlib.Nat.{eq-of-mul-eq-mul-right}
 use lib.Dec.{lit<}
@@ -21,13 +21,12 @@ use Rattle.levels.specs.Sizes.{onLevel}
 use Rattle.levels.specs.Order.{decisions, countOf, countsOf}
 use Rattle.levels.proofs.Positions.{in-frame}
 use Rattle.multiplex.specs.Line.{lineDigit}
-use Rattle.demultiplex.specs.declared.Demultiplexed.{Demultiplexed}
-use Rattle.demultiplex.specs.Notes.{notesOf, dissentTo}
-use Rattle.demultiplex.specs.Demultiplex.{demultiplexed, received}
+use Rattle.reading.specs.Notes.{notesOf, alignmentTo, dissentTo, dissentsOf}
 use Rattle.promises.specs.Damage.{Damage, controlsChanged, lineDigits, SameBut}
 use Rattle.promises.specs.Carried.{decisionRead, digitsRead, countRead, Returned}
-use Rattle.promises.specs.Calls.{Lent, SendAccepted, sentLine, sentCounts, sentDigits, ReadAccepted, readNotes, readCounts, readDigits, readDissent}
+use Rattle.promises.specs.Calls.{Lent, SendAccepted, sentLine, sentCounts, sentDigits, outcome, ReadAccepted, readNotes, readCounts, readDigits, readDissent}
 use Rattle.promises.specs.Calls.{LentFor, LentAt, DamageAt, SameButAt, SendsSame, SendReturned, DissentAt, SendBack, ReadsSame}
+use Rattle.promises.specs.Together.{Outcome, readWhole}
 use Rattle.promises.specs.Plain.{SameOutside}
 use Rattle.promises.proofs.Recovered.{dissent-changed, damage-recovered}
 use Rattle.promises.proofs.Others.{others-untouched}
@@ -97,22 +96,27 @@ module _ (level : ℕ) (row : Row) (e : levelOf level ≡ Of row) where
     accepted : ReadAccepted level c
     noted : readNotes level c ≡ notesOf row ds F
     frames : length (readNotes level c) ≡ F
-    answered : demultiplexed level (c .line) (length (c .notes)) (length (c .buffer)) ≡ received row (notesOf row ds F) ds F
+    counted : readCounts level c ≡ countsOf row (notesOf row ds F) F
+    aligned : outcome level c .alignment ≡ alignmentTo row ds F
+    dissenting : readDissent level c ≡ dissentsOf row ds F
     digits : (j : ℕ) → j < 4 → readDigits level c j ≡ digitsRead row F ds j
 
   reads : (c : Lent) → ReadAccepted level c → (F : ℕ) → length (c .notes) ≡ F → Reads c F (digitsOf (c .line))
   reads c ok F same =
       let ds = digitsOf (c .line) in
+      let whole = read-answer level row e c ok ∙ ap (λ (n : ℕ). readWhole row (c .line) n (length (c .buffer) / 4)) same in
       record {
         accepted = ok;
         noted = read-notes level row e c ok ∙ ap (λ (n : ℕ). notesOf row ds n) same;
         frames = read-frames level row e c ok ∙ same;
-        answered = read-answer level row e c ok ∙ ap (λ (n : ℕ). received row (notesOf row ds n) ds n) same;
+        counted = ap (λ (r : Outcome). r .counts) whole;
+        aligned = ap (λ (r : Outcome). r .alignment) whole;
+        dissenting = ap (λ (r : Outcome). r .dissent) whole;
         digits = λ j hj. read-digits level row e c ok j hj ∙ ap (λ (n : ℕ). digitsRead row n ds j) same;
       }
 
   dissent-of : (c : Lent) (F : ℕ) (ds : List ℕ) → Reads c F ds → (j : ℕ) → j < 4 → getD (readDissent level c) j 0 ≡ dissentTo row ds j F
-  dissent-of c F ds got j hj = ap (λ (r : Demultiplexed). getD (r .dissent) j 0) (got .answered) ∙ dissent-at row ds F j hj
+  dissent-of c F ds got j hj = ap (λ (l : List ℕ). getD l j 0) (got .dissenting) ∙ dissent-at row ds F j hj
 
   -- a reading of a line of the send's frames
   reading : (send read : Lent) → SendAccepted level send → LentFor (row .room) send read → length (digitsOf (read .line)) ≡ length (send .notes) * row .digits
@@ -127,7 +131,7 @@ module _ (level : ℕ) (row : Row) (e : levelOf level ≡ Of row) where
         accepted = got .accepted;
         frames = got .frames;
         decided = λ j f hj hf. ap (λ (notes : List ℕ). decisions notes j f) (got .noted) ∙ sym (sent .decided j f hj hf);
-        counted = ap (λ (r : Demultiplexed). r .counts) (got .answered) ∙ sym (sent .counted);
+        counted = got .counted ∙ sym (sent .counted);
         digits = λ j hj. got .digits j hj ∙ sym (sent .digits j hj);
       }
 
@@ -163,8 +167,8 @@ module _ (level : ℕ) (row : Row) (e : levelOf level ≡ Of row) where
       record {
         noted = got .noted ∙ trip .noted;
         returned = returns send read line (as-read send ok line (trip .returned)) got;
-        aligned = ap (λ (r : Demultiplexed). r .alignment) (got .answered) ∙ trip .aligned;
-        unanimous = ap (λ (r : Demultiplexed). r .dissent) (got .answered) ∙ rw (trip .unanimous 0 (lit< tt), trip .unanimous 1 (lit< tt), trip .unanimous 2 (lit< tt), trip .unanimous 3 (lit< tt));
+        aligned = got .aligned ∙ trip .aligned;
+        unanimous = got .dissenting ∙ rw (trip .unanimous 0 (lit< tt), trip .unanimous 1 (lit< tt), trip .unanimous 2 (lit< tt), trip .unanimous 3 (lit< tt));
       }
 
   others-on : (j k : ℕ) (a b : Lent) → ReadAccepted level a → LentFor (row .room) a b → length (a .line) ≡ length (b .line) → SameOutside j (a .line) (b .line)
@@ -178,7 +182,7 @@ module _ (level : ℕ) (row : Row) (e : levelOf level ≡ Of row) where
       let one = reads a ok F refl in
       let two = reads b (read-accepted level row e a b (read-sizes level row e a ok) (sym len) lent) F (lent .noted) in
       let counts : (c : Lent) (ds : List ℕ) → Reads c F ds → getD (readCounts level c) k 0 ≡ countRead row F ds k =
-      λ c ds got. ap (λ (r : Demultiplexed). getD (r .counts) k 0) (got .answered) ∙ count-at row (notesOf row ds F) F k hk in
+      λ c ds got. ap (λ (l : List ℕ). getD l k 0) (got .counted) ∙ count-at row (notesOf row ds F) F k hk in
       record {
         accepted = two .accepted;
         frames = one .frames ∙ sym (two .frames);

@@ -19,10 +19,11 @@ use Rattle.table.specs.declared.Level.the-variants.{Of}
 use Rattle.table.specs.Table.{levelOf, row2, row3, row4}
 use Rattle.levels.specs.Places.{firstSet, middleSet, lastSet, kindOf, posOf}
 use Rattle.levels.specs.Order.{carries, decisions, before, placesOf, countOf, countsOf}
-use Rattle.levels.specs.Sizes.{quarterOf, sizeRefusal}
+use Rattle.levels.specs.Sizes.{quarterOf, framesRefusal, sizeRefusal}
 use Rattle.levels.specs.Vote.{votesFor, voteBy}
 use Rattle.multiplex.specs.Line.{lineDigit, lineOf}
-use Rattle.multiplex.specs.Multiplex.{firstOver, firstFaulty, refusalOn, multiplexed, lineAfter}
+use Rattle.levels.specs.Judging.{firstOver, firstFaulty, fault, faultOf, answered}
+use Rattle.multiplex.specs.Multiplex.{lineAfter}
 use Rattle.promises.specs.Cases.{Every, cases}
 
 -- every part of a list of zeros has 0 at every place
@@ -56,17 +57,17 @@ sent-frame : (level : ℕ) (row : Row) → levelOf level ≡ Of row → (note : 
     → row .bytes % row .bytes ≡ 0 → row .bytes / row .bytes ≡ 1 → firstFaulty row (note ∷ []) ≡ 1
     → lineOf row (note ∷ []) (λ (j : ℕ). []) (row .bytes) ≡ bytes → countsOf row (note ∷ []) 1 ≡ counts
     → (line : List ℕ) (q : ℕ) → length line ≡ row .bytes → row .room ≤ 8 * q
-    → (multiplexed level (length line) (note ∷ []) (4 * q) ≡ record { refusal = 0; frame = 0; counts = counts })
+    → (answered level (length line) (note ∷ []) (4 * q) ≡ record { refusal = 0; frame = 0; counts = counts })
     × (lineAfter level line (note ∷ []) (replicate (4 * q) 0) ≡ bytes)
-unfolding refusalOn sizeRefusal
+unfolding faultOf framesRefusal sizeRefusal
 sent-frame level row e note bytes counts whole one fits is are line q len room =
     let zeros = length-replicate {A = ℕ} (4 * q) 0 in
     let quarters : 4 * q % 4 ≡ 0 = omega arith in
     let enough : ltb (8 * (4 * q / 4)) (1 * row .room) ≡ false = le-ltb (8 * (4 * q / 4)) (1 * row .room) (omega arith) in
-    let ok : refusalOn row (length line) (note ∷ []) (4 * q) ≡ 0 = rw (len, whole, one, quarters, enough, fits) in
+    let ok : faultOf row (length line) (note ∷ []) (4 * q) ≡ fault 0 0 = rw (len, whole, one, quarters, enough, fits) in
     let made = rw zeros at (zero-quarters row (note ∷ []) (λ (j : ℕ). digitsOf (quarterOf (replicate (4 * q) 0) j)) (length line) (quarter-digit (4 * q))) in (
-      rw (e, eq-eqb (refusalOn row (length line) (note ∷ []) (4 * q)) 0 ok) (ap (λ (c : List ℕ). record { refusal = 0; frame = 0; counts = c }) are),
-      rw (e, zeros, eq-eqb (refusalOn row (length line) (note ∷ []) (4 * q)) 0 ok) (made ∙ rw len is),
+      rw (e, ok) (ap (λ (c : List ℕ). record { refusal = 0; frame = 0; counts = c }) are),
+      rw (e, zeros, ok) (made ∙ rw len is),
     )
 
 pub all-hold : Every cases

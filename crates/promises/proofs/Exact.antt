@@ -22,11 +22,11 @@ use Rattle.levels.specs.Order.{decisions, carries}
 use Rattle.levels.proofs.Columns.{columns, frame-start}
 use Rattle.multiplex.specs.Line.{lineDigit, lineOf}
 use Rattle.multiplex.proofs.Unread.{Agree, same-line}
-use Rattle.demultiplex.specs.declared.Demultiplexed.{Demultiplexed}
-use Rattle.demultiplex.specs.Notes.{notesOf}
+use Rattle.reading.specs.Notes.{notesOf}
 use Rattle.promises.specs.Damage.{kept, libertyAt, Damage, lineDigits}
 use Rattle.promises.specs.Calls.{Lent, SendAccepted, sentLine, sentCounts, sentDigits, ReadAccepted, readCounts, readDigits, readDissent}
 use Rattle.promises.specs.Calls.{sentOn, LentAt, DamageAt, SendsSame, SendReturned, SendBack, ReadsSame}
+use Rattle.promises.specs.Together.{Outcome}
 use Rattle.promises.proofs.Sent.{sent-group, sent-carried}
 use Rattle.promises.proofs.Reading.{note-fits}
 use Rattle.promises.proofs.Order.{carries-same, before-same}
@@ -111,12 +111,12 @@ module _ (level : ℕ) (row : Row) (e : levelOf level ≡ Of row) (c : Lent) (ok
   counts-on : sentCounts level (sentOn level c) ≡ readCounts level c
   counts-on =
       send-counts level row e (sentOn level c) accepted-on
-      ∙ rw (read-frames level row e c ok, read-notes level row e c ok) (sym (ap (λ (r : Demultiplexed). r .counts) (read-answer level row e c ok)))
+      ∙ rw (read-frames level row e c ok, read-notes level row e c ok) (sym (ap (λ (r : Outcome). r .counts) (read-answer level row e c ok)))
 
   fours : (length (readCounts level c) ≡ 4) × (length (readDissent level c) ≡ 4)
   fours =
       let answer = read-answer level row e c ok in
-      (ap (λ (r : Demultiplexed). length (r .counts)) answer, ap (λ (r : Demultiplexed). length (r .dissent)) answer)
+      (ap (λ (r : Outcome). length (r .counts)) answer, ap (λ (r : Outcome). length (r .dissent)) answer)
 
   digits-on : (j : ℕ) → sentDigits level (sentOn level c) j ≡ readDigits level c j
   digits-on j = ap (λ (counts : List ℕ). take (getD counts j 0) (digitsOf (quarterOf (sentOn level c .buffer) j))) counts-on

@@ -5,8 +5,10 @@ pub mod Order
 pub mod Recovered
 pub mod Others
 pub mod RoundTrip
+pub mod Together
 pub mod Accepted
 pub mod Calls
+pub mod Extraction
 pub mod Levels
 pub mod Exact
 pub mod Border

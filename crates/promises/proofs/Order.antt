@@ -64,12 +64,16 @@ module _ (row : Row) (d : ℕ → Bool) (j : ℕ) where
       go true = refl
       go false = refl
 
-  -- lines with the same digits in the tributary's columns
-  pub digits-same : (ds es : List ℕ) (x : ℕ) → ((y : ℕ) → y < x → getD ds (4 * y + j) 0 ≡ getD es (4 * y + j) 0) → digitsAt ds x ≡ digitsAt es x
+  -- lines with the same digits in the tributary's columns that carry one
+  pub digits-same : (ds es : List ℕ) (x : ℕ) → ((y : ℕ) → y < x → at y ≡ true → getD ds (4 * y + j) 0 ≡ getD es (4 * y + j) 0) → digitsAt ds x ≡ digitsAt es x
   unfolding placesOf
   digits-same ds es zero h = refl
   digits-same ds es (suc x) h =
-      rw (one-more ds x, one-more es x, digits-same ds es x (λ y hy. h y (omega arith)), h x (omega arith))
+      rw (one-more ds x, one-more es x, digits-same ds es x (λ y hy. h y (omega arith))) (ap (λ (l : List ℕ). digitsAt es x ++ l) (go (at x) (h x (omega arith))))
+    where
+      go : (t : Bool) → (t ≡ true → getD ds (4 * x + j) 0 ≡ getD es (4 * x + j) 0) → cond t (getD ds (4 * x + j) 0 ∷ []) [] ≡ cond t (getD es (4 * x + j) 0 ∷ []) []
+      go true same = rw (same refl)
+      go false same = refl
 
   -- where every carrying place has the tributary's next digit, the digits come back in order
   pub digits-back : (ds t : List ℕ) (x : ℕ) → ((y : ℕ) → y < x → at y ≡ true → getD ds (4 * y + j) 0 ≡ getD t (before row d j y) 0)

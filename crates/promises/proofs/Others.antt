@@ -15,8 +15,8 @@ use Rattle.levels.specs.Table.{Shared}
 use Rattle.levels.specs.Order.{decisions}
 use Rattle.levels.specs.Vote.{voteOf}
 use Rattle.levels.proofs.Columns.{columns}
-use Rattle.demultiplex.specs.Notes.{voteAt, notesOf}
-use Rattle.demultiplex.specs.Extract.{takenTo}
+use Rattle.reading.specs.Notes.{voteAt, notesOf}
+use Rattle.extraction.specs.Quarters.{takenTo}
 use Rattle.promises.specs.Carried.{decisionRead, digitsRead, SameRead}
 use Rattle.promises.proofs.Sent.{control-place, in-line, whose}
 use Rattle.promises.proofs.Reading.{decisions-read}
@@ -47,7 +47,7 @@ module _ (row : Row) (sh : Shared row) (F j : ℕ) (ds es : List ℕ) (bin-ds : 
   unfolding takenTo
   same-digits =
       rw (places-same row sh F k kh (decisions (notesOf row ds F) k) (decisions (notesOf row es F) k) same-decision (F * columns row) (omega arith))
-      (digits-same row (decisions (notesOf row es F) k) k ds es (F * columns row) (λ x h. same-at (4 * x + k) (column-place row sh F k kh x h) (omega arith)))
+      (digits-same row (decisions (notesOf row es F) k) k ds es (F * columns row) (λ x h _. same-at (4 * x + k) (column-place row sh F k kh x h) (omega arith)))
 
   pub others-untouched : SameRead row F k ds es
   others-untouched =

@@ -14,8 +14,8 @@ use Rattle.table.specs.declared.Row.{Row}
 use Rattle.levels.specs.Table.{Shared}
 use Rattle.levels.specs.Order.{decisions}
 use Rattle.levels.proofs.Choice.{cond-by}
-use Rattle.demultiplex.specs.Notes.{voteAt, serviceAt, bitOf, noteOf, notesOf}
-use Rattle.demultiplex.proofs.NoteBits.{note-decision}
+use Rattle.reading.specs.Notes.{voteAt, serviceAt, bitOf, noteOf, notesOf}
+use Rattle.reading.proofs.NoteBits.{note-decision}
 
 pub decisions-read : (row : Row) (ds : List ℕ) → Binary ds → (F f j : ℕ) → f < F → j < 4 → decisions (notesOf row ds F) j f ≡ voteAt row ds f j .stuffed
 decisions-read row ds bin F f j hf hj =

@@ -20,8 +20,8 @@ use Rattle.levels.specs.Vote.{votesFor}
 use Rattle.levels.proofs.Columns.{columns}
 use Rattle.levels.proofs.Counts.{line-count, count-room}
 use Rattle.levels.proofs.Majority.{group-length, vote-stands}
-use Rattle.demultiplex.specs.Notes.{voteAt, notesOf, dissentTo}
-use Rattle.demultiplex.specs.Extract.{takenTo}
+use Rattle.reading.specs.Notes.{voteAt, notesOf, dissentTo}
+use Rattle.extraction.specs.Quarters.{takenTo}
 use Rattle.promises.specs.Damage.{kept, liberty, libertyAt, groupAt, Damage, controlsChanged, lineDigits}
 use Rattle.promises.specs.Carried.{digitsRead, digitsSent, countSent, Room, Returned}
 use Rattle.promises.proofs.Sent.{sent-group, sent-carried}

@@ -27,7 +27,7 @@ use Rattle.levels.specs.Word.{wordDigit, wrongDigits}
 use Rattle.levels.proofs.Choice.{cond-by}
 use Rattle.levels.proofs.Majority.{digit-counts}
 use Rattle.multiplex.specs.Line.{digitBy, lineDigit}
-use Rattle.demultiplex.specs.Notes.{voteAt, serviceAt, bitOf, noteOf}
+use Rattle.reading.specs.Notes.{voteAt, serviceAt, bitOf, noteOf}
 use Rattle.promises.specs.Damage.{Damage, groupAt, lineDigits}
 use Rattle.promises.specs.Carried.{Sound, CameBack}
 use Rattle.promises.proofs.Sent.{sent-word, sent-service}

@@ -11,11 +11,11 @@ use Rattle.digits.specs.Sums.{sumTo}
 use Rattle.table.specs.declared.Row.{Row}
 use Rattle.levels.specs.Places.{posOf}
 use Rattle.levels.specs.Order.{decisions}
-use Rattle.demultiplex.specs.Notes.{dissentTo}
-use Rattle.demultiplex.specs.Demultiplex.{demultiplexed, bufferAfter}
+use Rattle.reading.specs.Notes.{dissentTo}
 use Rattle.promises.specs.Damage.{Liberty, at-will, counted, kept, libertyAt, allowed, DamageUpTo, Damage, controlsChanged, lineDigits}
 use Rattle.promises.specs.Carried.{Sound}
-use Rattle.promises.specs.Calls.{Lent, SendAccepted, sentLine, readNotes, DamageAt, SendReturned}
+use Rattle.promises.specs.Calls.{Lent, SendAccepted, sentLine, outcome, DamageAt, SendReturned}
+use Rattle.promises.specs.Together.{Outcome}
 
 -- every digit that may be changed at will is inverted, and every control digit of the sets that change says
 abbrev pub inverted : Liberty → Bool → ℕ → ℕ
@@ -85,6 +85,13 @@ pub record Example : Type 0 where
   pub damaged : DamageAt 2 (exampleSend .notes) (sentLine 2 exampleSend) exampleDamaged
   pub seventeen : differing (digitsOf exampleLine) (digitsOf exampleDamaged) ≡ 17
   pub returned : SendReturned 2 exampleSend exampleRead
-  pub answers : demultiplexed 2 exampleDamaged 1 104 ≡ record { refusal = 0; counts = 205 ∷ 206 ∷ 206 ∷ 206 ∷ []; alignment = 10; dissent = 1 ∷ 1 ∷ 1 ∷ 1 ∷ [] }
-  pub noted : readNotes 2 exampleRead ≡ 0x31 ∷ []
-  pub filled : bufferAfter 2 exampleDamaged 1 (exampleRead .buffer) ≡ exampleSend .buffer
+  pub answers : outcome 2 exampleRead
+      ≡ record {
+        refusal = 0;
+        frame = 0;
+        counts = 205 ∷ 206 ∷ 206 ∷ 206 ∷ [];
+        alignment = 10;
+        dissent = 1 ∷ 1 ∷ 1 ∷ 1 ∷ [];
+        notes = 0x31 ∷ [];
+        buffer = exampleSend .buffer;
+      }

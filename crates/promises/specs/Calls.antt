@@ -1,5 +1,5 @@
--- Demand 3 and the round trip, said of the two calls. A call is lent a line, notes and a buffer, as bytes; what it leaves and answers is
--- given by the definitions that the statements of `multiplex` and `demultiplex` cite. Of a send nothing is assumed but that it was accepted:
+-- Demand 3 and the round trip, said of the calls. A call is lent a line, notes and a buffer, as bytes; what it leaves and answers is
+-- given by the definitions that the statements of the calls cite. Reading is two calls in turn: `read_notes`, and `extract` by the notes that it leaves. Of a send nothing is assumed but that it was accepted:
 -- that it answered refusal 0. A reading is lent enough, and that it is accepted is part of what is said. Levels are the numbers 2, 3 and 4;
 -- tributaries are counted from 0.
 use mathlib.Core.Path.{_≡_}
@@ -11,9 +11,10 @@ use Rattle.table.specs.declared.Row.{Row}
 use Rattle.table.specs.Table.{levelOf}
 use Rattle.levels.specs.Sizes.{onLevel, quarterOf}
 use Rattle.levels.specs.Order.{decisions}
-use Rattle.multiplex.specs.Multiplex.{multiplexed, lineAfter}
-use Rattle.demultiplex.specs.Demultiplex.{demultiplexed, notesAfter, bufferAfter}
+use Rattle.levels.specs.Judging.{answered}
+use Rattle.multiplex.specs.Multiplex.{lineAfter}
 use Rattle.promises.specs.Damage.{Damage, SameBut, controlsChanged}
+use Rattle.promises.specs.Together.{Outcome, inTurn}
 
 -- what is lent to a call, as it was at the call's entry
 pub record Lent : Type 0 where
@@ -23,38 +24,40 @@ pub record Lent : Type 0 where
 
 -- multiplexing: it was accepted; the line it leaves; the counts it answers; the digits of tributary j that it was given and counts
 abbrev pub SendAccepted : ℕ → Lent → Type 0
-SendAccepted level c = multiplexed level (length (c .line)) (c .notes) (length (c .buffer)) .refusal ≡ 0
+SendAccepted level c = answered level (length (c .line)) (c .notes) (length (c .buffer)) .refusal ≡ 0
 
 abbrev pub sentLine : ℕ → Lent → List ℕ
 sentLine level c = lineAfter level (c .line) (c .notes) (c .buffer)
 
 abbrev pub sentCounts : ℕ → Lent → List ℕ
-sentCounts level c = multiplexed level (length (c .line)) (c .notes) (length (c .buffer)) .counts
+sentCounts level c = answered level (length (c .line)) (c .notes) (length (c .buffer)) .counts
 
 abbrev pub sentDigits : ℕ → Lent → ℕ → List ℕ
 sentDigits level c j = take (getD (sentCounts level c) j 0) (digitsOf (quarterOf (c .buffer) j))
 
--- demultiplexing: it was accepted; the notes it leaves; the counts it answers; the digits of tributary j that it leaves and counts; how many
--- digits of each tributary dissented
+-- reading, by the two calls in turn: both were accepted; the notes and the buffer they leave; the counts they answer; the digits of tributary j
+-- that they leave and count; how many digits of each tributary dissented
+abbrev pub outcome : ℕ → Lent → Outcome
+outcome level c = inTurn level (c .line) (c .notes) (c .buffer)
+
 abbrev pub ReadAccepted : ℕ → Lent → Type 0
-ReadAccepted level c = demultiplexed level (c .line) (length (c .notes)) (length (c .buffer)) .refusal ≡ 0
+ReadAccepted level c = outcome level c .refusal ≡ 0
 
 abbrev pub readNotes : ℕ → Lent → List ℕ
-readNotes level c = notesAfter level (c .line) (c .notes) (length (c .buffer))
+readNotes level c = outcome level c .notes
 
 abbrev pub readCounts : ℕ → Lent → List ℕ
-readCounts level c = demultiplexed level (c .line) (length (c .notes)) (length (c .buffer)) .counts
+readCounts level c = outcome level c .counts
 
 abbrev pub readDigits : ℕ → Lent → ℕ → List ℕ
-readDigits level c j =
-    take (getD (readCounts level c) j 0) (digitsOf (quarterOf (bufferAfter level (c .line) (length (c .notes)) (c .buffer)) j))
+readDigits level c j = take (getD (readCounts level c) j 0) (digitsOf (quarterOf (outcome level c .buffer) j))
 
 abbrev pub readDissent : ℕ → Lent → List ℕ
-readDissent level c = demultiplexed level (c .line) (length (c .notes)) (length (c .buffer)) .dissent
+readDissent level c = outcome level c .dissent
 
--- what a reading leaves, sent on: multiplexing is lent the notes and the buffer as demultiplexing leaves them, and a line of that length
+-- what a reading leaves, sent on: multiplexing is lent the notes and the buffer as the reading leaves them, and a line of that length
 abbrev pub sentOn : ℕ → Lent → Lent
-sentOn level c = record { line = c .line; notes = readNotes level c; buffer = bufferAfter level (c .line) (length (c .notes)) (c .buffer) }
+sentOn level c = record { line = c .line; notes = readNotes level c; buffer = outcome level c .buffer }
 
 -- a call for as many frames as another: it is lent as many notes, and four equal quarters, each with room for n digits of every frame; what
 -- notes and buffer hold is no matter
@@ -82,7 +85,7 @@ pub record SendsSame (level : ℕ) (a b : Lent) : Type 0 where
   pub counted : sentCounts level a ≡ sentCounts level b
   pub digits : (j : ℕ) → j < 4 → sentDigits level a j ≡ sentDigits level b j
 
--- "and demultiplexing returns them"
+-- "and demultiplexing returns them": the two calls in turn
 pub record SendReturned (level : ℕ) (send read : Lent) : Type 0 where
   pub accepted : ReadAccepted level read
   pub frames : length (readNotes level read) ≡ length (send .notes)
@@ -99,7 +102,7 @@ DissentAt level dissent F sent received =
 pub record SendBack (level : ℕ) (send read : Lent) : Type 0 where
   pub noted : readNotes level read ≡ send .notes
   pub returned : SendReturned level send read
-  pub aligned : demultiplexed level (read .line) (length (read .notes)) (length (read .buffer)) .alignment ≡ 0
+  pub aligned : outcome level read .alignment ≡ 0
   pub unanimous : readDissent level read ≡ 0 ∷ 0 ∷ 0 ∷ 0 ∷ []
 
 -- "come out as before: digits, numbers of digits and decisions", of tributary k; "Demand 3's last part now covers dissent too"

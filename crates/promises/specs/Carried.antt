@@ -9,8 +9,8 @@ use lib.ListN.{length, getD, take}
 use Rattle.digits.specs.Digits.{Binary}
 use Rattle.table.specs.declared.Row.{Row}
 use Rattle.levels.specs.Order.{decisions, countOf}
-use Rattle.demultiplex.specs.Notes.{voteAt, notesOf, alignmentTo, dissentTo}
-use Rattle.demultiplex.specs.Extract.{takenTo}
+use Rattle.reading.specs.Notes.{voteAt, notesOf, alignmentTo, dissentTo}
+use Rattle.extraction.specs.Quarters.{takenTo}
 
 -- what a send with these notes and these tributaries' digits carries of tributary j: its number of digits, and its digits
 abbrev pub countSent : Row → ℕ → List ℕ → ℕ → ℕ

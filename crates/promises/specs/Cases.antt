@@ -9,7 +9,8 @@ use Rattle.table.specs.Table.{levelOf}
 use Rattle.levels.specs.Sizes.{onLevel}
 use Rattle.levels.specs.Order.{placesOf}
 use Rattle.levels.specs.Vote.{voteOf}
-use Rattle.multiplex.specs.Multiplex.{multiplexed, lineAfter}
+use Rattle.levels.specs.Judging.{answered}
+use Rattle.multiplex.specs.Multiplex.{lineAfter}
 
 -- a byte of a frame and what it holds
 pub record Byte : Type 0 where
@@ -39,7 +40,7 @@ Claim (frame level note bytes counts) =
     onLevel (levelOf level)
     (λ (row : Row).
     (line : List ℕ) (q : ℕ) → length line ≡ row .bytes → row .room ≤ 8 * q
-    → (multiplexed level (length line) (note ∷ []) (4 * q) ≡ record { refusal = 0; frame = 0; counts = counts })
+    → (answered level (length line) (note ∷ []) (4 * q) ≡ record { refusal = 0; frame = 0; counts = counts })
     × (lineAfter level line (note ∷ []) (replicate (4 * q) 0) ≡ bytesWith (row .bytes) bytes))
     ⊥
 Claim (digit level tributary number stuffed place) =

@@ -8,11 +8,13 @@ use contract.Lifetimes.{Lfts}
 use denote.Ref.{now}
 use denote.Triple.Clauses.{AtExit}
 use borrow.Fn.World.{ArgsD, ResD}
-use Rattle.spritbobbin.specs.Face.{MultiplexMet, DemultiplexMet, FreshMet, FeedMet, LineDigitMet, CaptureWriteMet, CaptureReadMet, MultiframeBuildMet, MultiframeApartMet}
+use Rattle.spritbobbin.specs.Face.{MultiplexMet, ReadNotesMet, ExtractMet, FreshMet, FeedMet, LineDigitMet, CaptureWriteMet, CaptureReadMet, MultiframeBuildMet, MultiframeApartMet}
 use Rattle.spritbobbin.proofs.spritbobbin_multiplex as multiplex
 use Rattle.spritbobbin.proofs.spritbobbin_multiplex.Reads as multiplex-reads
-use Rattle.spritbobbin.proofs.spritbobbin_demultiplex as demultiplex
-use Rattle.spritbobbin.proofs.spritbobbin_demultiplex.Reads as demultiplex-reads
+use Rattle.spritbobbin.proofs.spritbobbin_read_notes as read-notes
+use Rattle.spritbobbin.proofs.spritbobbin_read_notes.Reads as read-notes-reads
+use Rattle.spritbobbin.proofs.spritbobbin_extract as extract
+use Rattle.spritbobbin.proofs.spritbobbin_extract.Reads as extract-reads
 use Rattle.spritbobbin.proofs.spritbobbin_receiver_fresh as fresh
 use Rattle.spritbobbin.proofs.spritbobbin_receiver_fresh.Reads as fresh-reads
 use Rattle.spritbobbin.proofs.spritbobbin_receiver_feed as feed
@@ -35,9 +37,13 @@ pub multiplex-one-answer : (level : ℕ) (line notes buffer : List ℕ) (r s : �
     → MultiplexMet level line notes buffer r l a → MultiplexMet level line notes buffer s m b → (r ≡ s) × (l ≡ m) × (a ≡ b)
 multiplex-one-answer level line notes buffer r s l m a b x y = (cc, cc, cc)
 
-pub demultiplex-one-answer : (level : ℕ) (line notes buffer : List ℕ) (r s : ℕ) (n m c d a b : List ℕ)
-    → DemultiplexMet level line notes buffer r n c a → DemultiplexMet level line notes buffer s m d b → (r ≡ s) × (n ≡ m) × (c ≡ d) × (a ≡ b)
-demultiplex-one-answer level line notes buffer r s n m c d a b x y = (cc, cc, cc, cc)
+pub read-notes-one-answer : (level : ℕ) (line notes : List ℕ) (r s : ℕ) (n m a b : List ℕ)
+    → ReadNotesMet level line notes r n a → ReadNotesMet level line notes s m b → (r ≡ s) × (n ≡ m) × (a ≡ b)
+read-notes-one-answer level line notes r s n m a b x y = (cc, cc, cc)
+
+pub extract-one-answer : (level : ℕ) (line notes buffer : List ℕ) (r s : ℕ) (c d a b : List ℕ)
+    → ExtractMet level line notes buffer r c a → ExtractMet level line notes buffer s d b → (r ≡ s) × (c ≡ d) × (a ≡ b)
+extract-one-answer level line notes buffer r s c d a b x y = (cc, cc, cc)
 
 pub fresh-one-answer : (level r s : ℕ) (t u f g : List ℕ) → FreshMet level r t f → FreshMet level s u g → (r ≡ s) × (t ≡ u) × (f ≡ g)
 fresh-one-answer level r s t u f g x y = (cc, cc, cc)
@@ -73,10 +79,14 @@ pub multiplex-met : (κs : Lfts 4) (a : ArgsD multiplex.signature κs) (r : ResD
     → MultiplexMet (a .0) (now (a .1 .0)) (now (a .1 .1 .0)) (now (a .1 .1 .1 .0)) r (now (e .1 .0)) (now (e .1 .1 .1 .1 .0))
 multiplex-met κs a r e met = met
 
-pub demultiplex-met : (κs : Lfts 4) (a : ArgsD demultiplex.signature κs) (r : ResD demultiplex.signature κs) (e : AtExit demultiplex.ended κs)
-    → demultiplex-reads.Learnt κs a r e
-    → DemultiplexMet (a .0) (now (a .1 .0)) (now (a .1 .1 .0)) (now (a .1 .1 .1 .0)) r (now (e .1 .1 .0)) (now (e .1 .1 .1 .0)) (now (e .1 .1 .1 .1 .0))
-demultiplex-met κs a r e met = met
+pub read-notes-met : (κs : Lfts 3) (a : ArgsD read-notes.signature κs) (r : ResD read-notes.signature κs) (e : AtExit read-notes.ended κs)
+    → read-notes-reads.Learnt κs a r e → ReadNotesMet (a .0) (now (a .1 .0)) (now (a .1 .1 .0)) r (now (e .1 .1 .0)) (now (e .1 .1 .1 .0))
+read-notes-met κs a r e met = met
+
+pub extract-met : (κs : Lfts 4) (a : ArgsD extract.signature κs) (r : ResD extract.signature κs) (e : AtExit extract.ended κs)
+    → extract-reads.Learnt κs a r e
+    → ExtractMet (a .0) (now (a .1 .0)) (now (a .1 .1 .0)) (now (a .1 .1 .1 .0)) r (now (e .1 .1 .1 .0)) (now (e .1 .1 .1 .1 .0))
+extract-met κs a r e met = met
 
 pub fresh-met : (κs : Lfts 2) (a : ArgsD fresh.signature κs) (r : ResD fresh.signature κs) (e : AtExit fresh.ended κs) → fresh-reads.Learnt κs a r e
     → FreshMet (a .0) r (now (e .1 .0)) (now (e .1 .1 .0))
@@ -114,8 +124,11 @@ multiframe-apart-met κs a r e met = met
 pub multiplex-asks-nothing : (κs : Lfts 4) (a : ArgsD multiplex.signature κs) → multiplex-reads.Asked κs a
 multiplex-asks-nothing κs a = tt
 
-pub demultiplex-asks-nothing : (κs : Lfts 4) (a : ArgsD demultiplex.signature κs) → demultiplex-reads.Asked κs a
-demultiplex-asks-nothing κs a = tt
+pub read-notes-asks-nothing : (κs : Lfts 3) (a : ArgsD read-notes.signature κs) → read-notes-reads.Asked κs a
+read-notes-asks-nothing κs a = tt
+
+pub extract-asks-nothing : (κs : Lfts 4) (a : ArgsD extract.signature κs) → extract-reads.Asked κs a
+extract-asks-nothing κs a = tt
 
 pub fresh-asks-nothing : (κs : Lfts 2) (a : ArgsD fresh.signature κs) → fresh-reads.Asked κs a
 fresh-asks-nothing κs a = tt

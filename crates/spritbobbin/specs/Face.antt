@@ -6,8 +6,8 @@ use mathlib.Core.List.{List, [], _∷_}
 use Prim.Native.Nat.{ℕ, zero, suc, _+_, _-_}
 use lib.Dec.{eqb, leb, ltb}
 use lib.ListN.{length, getD}
-use Rattle.multiplex.specs.declared.Multiplexed.{Multiplexed}
-use Rattle.demultiplex.specs.declared.Demultiplexed.{Demultiplexed}
+use Rattle.levels.specs.declared.judging.Counted.{Counted}
+use Rattle.reading.specs.declared.Noted.{Noted}
 use Rattle.receiver.specs.declared.Mode.{Mode}
 use Rattle.receiver.specs.declared.Mode.the-variants.{Hunting, OneFound, TwoFound, Aligned}
 use Rattle.receiver.specs.declared.State.{State}
@@ -15,8 +15,10 @@ use Rattle.receiver.specs.declared.Fed.{Fed}
 use Rattle.captures.specs.declared.Written.{Written}
 use Rattle.captures.specs.declared.Reading.{Reading}
 use Rattle.multiframe.specs.declared.Built.{Built}
-use Rattle.multiplex.specs.Multiplex.{multiplexed, lineAfter}
-use Rattle.demultiplex.specs.Demultiplex.{demultiplexed, notesAfter, bufferAfter}
+use Rattle.levels.specs.Judging.{answered}
+use Rattle.multiplex.specs.Multiplex.{lineAfter}
+use Rattle.reading.specs.Reading.{noted, notesAfter}
+use Rattle.extraction.specs.Extract.{bufferAfter}
 use Rattle.receiver.specs.declared.alarm.Stretch.{Stretch}
 use Rattle.receiver.specs.Feed.{refused, freshOf, feedOf}
 use Rattle.line_reader.specs.Step.{stepAt, digitOrEnd}
@@ -25,14 +27,12 @@ use Rattle.multiframe.specs.Multiframe.{multiframeOf}
 use Rattle.multiframe.specs.Calls.{builtOf, ApartMet}
 
 -- answer: four digit counts, named frame
-abbrev pub sentAnswer : Multiplexed → List ℕ
-sentAnswer m = getD (m .counts) 0 0 ∷ getD (m .counts) 1 0 ∷ getD (m .counts) 2 0 ∷ getD (m .counts) 3 0 ∷ m .frame ∷ []
+abbrev pub countedAnswer : Counted → List ℕ
+countedAnswer m = getD (m .counts) 0 0 ∷ getD (m .counts) 1 0 ∷ getD (m .counts) 2 0 ∷ getD (m .counts) 3 0 ∷ m .frame ∷ []
 
--- answer: four digit counts, named frame (0), alignment digits that differ, dissenting digits of tributaries 1 to 4
-abbrev pub receivedAnswer : Demultiplexed → List ℕ
-receivedAnswer d =
-    getD (d .counts) 0 0 ∷ getD (d .counts) 1 0 ∷ getD (d .counts) 2 0 ∷ getD (d .counts) 3 0 ∷ 0 ∷ d .alignment
-    ∷ getD (d .dissent) 0 0 ∷ getD (d .dissent) 1 0 ∷ getD (d .dissent) 2 0 ∷ getD (d .dissent) 3 0 ∷ []
+-- answer: alignment digits that differ, dissenting digits of tributaries 1 to 4
+abbrev pub notedAnswer : Noted → List ℕ
+notedAnswer n = n .alignment ∷ getD (n .dissent) 0 0 ∷ getD (n .dissent) 1 0 ∷ getD (n .dissent) 2 0 ∷ getD (n .dissent) 3 0 ∷ []
 
 -- mode: 0 hunting, 1 one found, 2 two found, 3 + m aligned with m missed
 abbrev pub modeNumber : Mode → ℕ
@@ -112,15 +112,20 @@ builtAnswer b = b .channel ∷ []
 -- spritbobbin_multiplex returns the refusal number, and leaves the line and the answer
 abbrev pub MultiplexMet : ℕ → List ℕ → List ℕ → List ℕ → ℕ → List ℕ → List ℕ → Type 0
 MultiplexMet level line notes buffer returned lineLeft answerLeft =
-    let m = multiplexed level (length line) notes (length buffer) in
-    (returned ≡ m .refusal) × (lineLeft ≡ lineAfter level line notes buffer) × (answerLeft ≡ sentAnswer m)
+    let m = answered level (length line) notes (length buffer) in
+    (returned ≡ m .refusal) × (lineLeft ≡ lineAfter level line notes buffer) × (answerLeft ≡ countedAnswer m)
 
--- spritbobbin_demultiplex returns the refusal number, and leaves the notes, the buffer and the answer
-abbrev pub DemultiplexMet : ℕ → List ℕ → List ℕ → List ℕ → ℕ → List ℕ → List ℕ → List ℕ → Type 0
-DemultiplexMet level line notes buffer returned notesLeft bufferLeft answerLeft =
-    let d = demultiplexed level line (length notes) (length buffer) in
-    (returned ≡ d .refusal) × (notesLeft ≡ notesAfter level line notes (length buffer))
-    × (bufferLeft ≡ bufferAfter level line (length notes) buffer) × (answerLeft ≡ receivedAnswer d)
+-- spritbobbin_read_notes returns the refusal number, and leaves the notes and the answer
+abbrev pub ReadNotesMet : ℕ → List ℕ → List ℕ → ℕ → List ℕ → List ℕ → Type 0
+ReadNotesMet level line notes returned notesLeft answerLeft =
+    let n = noted level line (length notes) in
+    (returned ≡ n .refusal) × (notesLeft ≡ notesAfter level line notes) × (answerLeft ≡ notedAnswer n)
+
+-- spritbobbin_extract returns the refusal number, and leaves the buffer and the answer
+abbrev pub ExtractMet : ℕ → List ℕ → List ℕ → List ℕ → ℕ → List ℕ → List ℕ → Type 0
+ExtractMet level line notes buffer returned bufferLeft answerLeft =
+    let m = answered level (length line) notes (length buffer) in
+    (returned ≡ m .refusal) × (bufferLeft ≡ bufferAfter level line notes buffer) × (answerLeft ≡ countedAnswer m)
 
 -- spritbobbin_receiver_fresh returns the refusal number, and leaves the state's numbers and its frame
 abbrev pub FreshMet : ℕ → ℕ → List ℕ → List ℕ → Type 0

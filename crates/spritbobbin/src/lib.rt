@@ -4,23 +4,23 @@ pub mod finder_face;
 
 use captures::Reading;
 use captures::Written;
-use demultiplex::Demultiplexed;
+use levels::judging::Counted;
 use multiframe::Built;
-use multiplex::Multiplexed;
+use reading::Noted;
 use receiver::Fed;
 use receiver::Mode;
 use receiver::State;
 use receiver::alarm::Stretch;
 ghost use mathlib.Core.Path.{_≡_};
 ghost use mathlib.Core.Bool.{cond};
-ghost use Rattle.spritbobbin.specs.Face.{sentAnswer, receivedAnswer, modeNumber, modeOf, stateNumbers, fedBy, fedAnswer};
+ghost use Rattle.spritbobbin.specs.Face.{countedAnswer, notedAnswer, modeNumber, modeOf, stateNumbers, fedBy, fedAnswer};
 ghost use Rattle.spritbobbin.specs.Face.{writtenAnswer, readAnswer, CaptureWriteMet, CaptureReadMet};
 ghost use Rattle.spritbobbin.specs.Face.{builtAnswer, MultiframeBuildMet, MultiframeApartMet};
-ghost use Rattle.spritbobbin.specs.Face.{MultiplexMet, DemultiplexMet, FreshMet, FeedMet, LineDigitMet};
+ghost use Rattle.spritbobbin.specs.Face.{MultiplexMet, ReadNotesMet, ExtractMet, FreshMet, FeedMet, LineDigitMet};
 
 // An answer as the numbers of the array that C lends for it.
-fn sent_numbers(m: Multiplexed) -> [u64; 5]
-    ensures { λ r. ⌜ r ≡ sentAnswer m ⌝ }
+fn counted_numbers(m: Counted) -> [u64; 5]
+    ensures { λ r. ⌜ r ≡ countedAnswer m ⌝ }
 {
     let c = m.counts;
     [
@@ -44,22 +44,16 @@ pub extern "C" fn spritbobbin_multiplex(
     ensures { λ r. ⌜ MultiplexMet level (now (line .entry)) (now (notes .entry)) (now (buffer .entry)) r (now (line .exit)) (now (answer .exit)) ⌝ }
 {
     let sent = multiplex::multiplex(level, line, notes, buffer);
-    *answer = sent_numbers(sent);
+    *answer = counted_numbers(sent);
     sent.refusal
 }
 
-fn received_numbers(d: Demultiplexed) -> [u64; 10]
-    ensures { λ r. ⌜ r ≡ receivedAnswer d ⌝ }
+fn noted_numbers(n: Noted) -> [u64; 5]
+    ensures { λ r. ⌜ r ≡ notedAnswer n ⌝ }
 {
-    let c = d.counts;
-    let e = d.dissent;
+    let e = n.dissent;
     [
-        c[0] as u64,
-        c[1] as u64,
-        c[2] as u64,
-        c[3] as u64,
-        0,
-        d.alignment as u64,
+        n.alignment as u64,
         e[0] as u64,
         e[1] as u64,
         e[2] as u64,
@@ -67,22 +61,35 @@ fn received_numbers(d: Demultiplexed) -> [u64; 10]
     ]
 }
 
-// Demultiplexes; answer: four digit counts, named frame (0), alignment digits that differ, dissenting digits of tributaries 1 to 4.
+// Reads notes; answer: alignment digits that differ, dissenting digits of tributaries 1 to 4.
 #[no_mangle]
-pub extern "C" fn spritbobbin_demultiplex(
+pub extern "C" fn spritbobbin_read_notes(
     level: u64,
     line: &[u8],
     notes: &mut [u8],
-    buffer: &mut [u8],
-    answer: &mut [u64; 10],
+    answer: &mut [u64; 5],
 ) -> u64
-    ensures { λ r. ⌜
-        DemultiplexMet level (now (line .entry)) (now (notes .entry)) (now (buffer .entry)) r (now (notes .exit)) (now (buffer .exit)) (now (answer .exit))
-        ⌝ }
+    ensures { λ r. ⌜ ReadNotesMet level (now (line .entry)) (now (notes .entry)) r (now (notes .exit)) (now (answer .exit)) ⌝ }
 {
-    let received = demultiplex::demultiplex(level, line, notes, buffer);
-    *answer = received_numbers(received);
-    received.refusal
+    let read = reading::read_notes(level, line, notes);
+    *answer = noted_numbers(read);
+    read.refusal
+}
+
+// Extracts by notes; answer: four digit counts, named frame.
+#[no_mangle]
+pub extern "C" fn spritbobbin_extract(
+    level: u64,
+    line: &[u8],
+    notes: &[u8],
+    buffer: &mut [u8],
+    answer: &mut [u64; 5],
+) -> u64
+    ensures { λ r. ⌜ ExtractMet level (now (line .entry)) (now (notes .entry)) (now (buffer .entry)) r (now (buffer .exit)) (now (answer .exit)) ⌝ }
+{
+    let taken = extraction::extract(level, line, notes, buffer);
+    *answer = counted_numbers(taken);
+    taken.refusal
 }
 
 fn mode_number(mode: Mode) -> u64

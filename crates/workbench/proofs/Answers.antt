@@ -14,7 +14,7 @@ use Rattle.digits.specs.Digits.{digitsOf}
 use Rattle.table.specs.declared.Row.{Row}
 use Rattle.levels.specs.Places.{kindAt}
 use Rattle.levels.specs.Sizes.{quarterOf}
-use Rattle.multiplex.specs.declared.Multiplexed.{Multiplexed}
+use Rattle.levels.specs.declared.judging.Counted.{Counted}
 use Rattle.workbench.specs.declared.Compared.{Compared}
 use Rattle.workbench.specs.Bench.{LateLineMet, DelayMet, ScatterMet, Comparison, quarterNamed, QuartersCompared, KindNumberMet, KindRun}
 use Rattle.workbench.proofs.late_line
@@ -27,7 +27,7 @@ use Rattle.workbench.proofs.picture.run_end
 
 -- ---- the late multiplexer, and the digits that are sent
 
-pub late-line-once : (level : ℕ) (line said notes late buffer : List ℕ) (a b : Multiplexed) (k l m n : List ℕ)
+pub late-line-once : (level : ℕ) (line said notes late buffer : List ℕ) (a b : Counted) (k l m n : List ℕ)
     → LateLineMet level line said notes late buffer a k m → LateLineMet level line said notes late buffer b l n → (a ≡ b) × (k ≡ l) × (m ≡ n)
 late-line-once level line said notes late buffer a b k l m n x y = (x .0 ∙ sym (y .0), x .1 ∙ sym (y .1), x .2 ∙ sym (y .2))
 

@@ -17,11 +17,12 @@ use Rattle.table.specs.declared.Level.{Level}
 use Rattle.table.specs.declared.Level.the-variants.{Of, NoSuchLevel}
 use Rattle.table.specs.Table.{levelOf}
 use Rattle.levels.specs.Table.{Shared}
-use Rattle.levels.specs.Sizes.{onLevel, sizeRefusal}
-use Rattle.levels.proofs.Judged.{accepted}
+use Rattle.levels.specs.Sizes.{onLevel}
+use Rattle.levels.proofs.Refusals.{faultless}
 use Rattle.levels.proofs.Rows.{shared-row}
-use Rattle.multiplex.specs.declared.Multiplexed.{Multiplexed}
-use Rattle.multiplex.specs.Multiplex.{refusalOn, answerOn, refusedWith, lineOn, multiplexed, lineAfter}
+use Rattle.levels.specs.declared.judging.Counted.{Counted}
+use Rattle.levels.specs.Judging.{fault, faultOf, refusedWith, answerOn, answered}
+use Rattle.multiplex.specs.Multiplex.{lineOn, lineAfter}
 use Rattle.workbench.specs.Bench.{mixed, mixedLine, lateLine}
 
 module _ (row : Row) (said old new : List ℕ) (same : length new ≡ length old) where
@@ -37,31 +38,23 @@ none-bytes bs e i = rw (none i) (lit< tt)
     none i = List·getD-eq-default bs 0 (omega arith)
 
 -- an accepted line is at most 64 frames
-size-accepted : (row : Row) (line : ℕ) (notes : List ℕ) (buffer : ℕ) → refusalOn row line notes buffer ≡ 0 → sizeRefusal row line (length notes) buffer ≡ 0
-unfolding refusalOn
-size-accepted row line notes buffer e =
-    elim (ℕ-discrete (sizeRefusal row line (length notes) buffer) 0) [
-      | yes z ↦ z
-      | no n ↦ rw (ne-eqb (sizeRefusal row line (length notes) buffer) 0 n) at e
-    ]
-
-accepted-short : (row : Row) → Shared row → (line : ℕ) (notes : List ℕ) (buffer : ℕ) → refusalOn row line notes buffer ≡ 0 → line ≤ 65536
+accepted-short : (row : Row) → Shared row → (line : ℕ) (notes : List ℕ) (buffer : ℕ) → faultOf row line notes buffer .refusal ≡ 0 → line ≤ 65536
 accepted-short row sh line notes buffer e =
-    let ok = accepted row line (length notes) buffer (size-accepted row line notes buffer e) in
+    let ok = faultless row line notes buffer e .0 .framed in
     omega (arith, ok .frames, mul-le-mul {n₁ = _} {m₁ = row .bytes} {n₂ = 64} {m₂ = 366} (ok .few) (omega (arith, sh .packed, sh .short)))
 
 -- the answer's number is the refusal
-answer-number : (row : Row) (line : ℕ) (notes : List ℕ) (buffer : ℕ) → answerOn row line notes buffer .refusal ≡ refusalOn row line notes buffer
+answer-number : (row : Row) (line : ℕ) (notes : List ℕ) (buffer : ℕ) → answerOn row line notes buffer .refusal ≡ faultOf row line notes buffer .refusal
 answer-number row line notes buffer =
-    elim (ℕ-discrete (refusalOn row line notes buffer) 0) [
-      | yes z ↦ rw (eq-eqb (refusalOn row line notes buffer) 0 z) (sym z)
-      | no n ↦ rw (ne-eqb (refusalOn row line notes buffer) 0 n) refl
+    elim (ℕ-discrete (faultOf row line notes buffer .refusal) 0) [
+      | yes z ↦ rw (eq-eqb (faultOf row line notes buffer .refusal) 0 z) (sym z)
+      | no n ↦ rw (ne-eqb (faultOf row line notes buffer .refusal) 0 n) refl
     ]
 
 -- the cases of a call, a level's row or no such level: its answer's number is 0 or it is not
 module _ (line said notes late buffer : List ℕ) where
   abbrev number : Level → ℕ
-  number l = onLevel l (λ (row : Row). answerOn row (length line) late (length buffer)) (refusedWith 1 0) .refusal
+  number l = onLevel l (λ (row : Row). answerOn row (length line) late (length buffer)) (refusedWith (fault 1 0)) .refusal
 
   abbrev after : Level → List ℕ → List ℕ → List ℕ
   after l xs ns = onLevel l (λ (row : Row). lineOn row xs ns buffer) xs
@@ -70,17 +63,17 @@ module _ (line said notes late buffer : List ℕ) where
   Ends l end =
       end
       ≡ onLevel l
-      (λ (row : Row). cond (eqb (refusalOn row (length line) late (length buffer)) 0) (mixedLine row (lineOn row said notes buffer) (lineOn row line late buffer)) line)
+      (λ (row : Row). cond (eqb (faultOf row (length line) late (length buffer) .refusal) 0) (mixedLine row (lineOn row said notes buffer) (lineOn row line late buffer)) line)
       line
 
   refused-ends : (l : Level) → (number l ≡ 0 → ⊥) → Ends l (after l line late)
   refused-ends (Of row) n =
-      rw (ne-eqb (refusalOn row (length line) late (length buffer)) 0 (λ z. n (answer-number row (length line) late (length buffer) ∙ z))) refl
+      rw (ne-eqb (faultOf row (length line) late (length buffer) .refusal) 0 (λ z. n (answer-number row (length line) late (length buffer) ∙ z))) refl
   refused-ends NoSuchLevel n = refl
 
   sent-ends : (l : Level) → number l ≡ 0 → Ends l (onLevel l (λ (row : Row). mixedLine row (after l said notes) (after l line late)) (after l line late))
   sent-ends (Of row) e =
-      rw (eq-eqb (refusalOn row (length line) late (length buffer)) 0 (sym (answer-number row (length line) late (length buffer)) ∙ e)) refl
+      rw (eq-eqb (faultOf row (length line) late (length buffer) .refusal) 0 (sym (answer-number row (length line) late (length buffer)) ∙ e)) refl
   sent-ends NoSuchLevel e = refl
 
   sent-short : (l : Level) → ((row : Row) → l ≡ Of row → Shared row) → number l ≡ 0 → length line ≤ 65536
@@ -89,7 +82,7 @@ module _ (line said notes late buffer : List ℕ) where
   sent-short NoSuchLevel known e = omega arith
 
   -- the same of a level's number, and of what the call answered and left
-  module _ (level : ℕ) (r : Multiplexed) (is : r ≡ multiplexed level (length line) late (length buffer)) where
+  module _ (level : ℕ) (r : Counted) (is : r ≡ answered level (length line) late (length buffer)) where
     pub late-refused : (r .refusal ≡ 0 → ⊥) → lineAfter level line late buffer ≡ lateLine level line said notes late buffer
     late-refused n = refused-ends (levelOf level) (λ z. n (rw is z))
 

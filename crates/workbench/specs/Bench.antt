@@ -16,8 +16,9 @@ use Rattle.levels.specs.declared.places.ServiceDigit.the-variants.{RemoteAlarm,
 use Rattle.levels.specs.Places.{kindAt}
 use Rattle.table.specs.Table.{levelOf}
 use Rattle.levels.specs.Sizes.{onLevel, quarterOf}
-use Rattle.multiplex.specs.declared.Multiplexed.{Multiplexed}
-use Rattle.multiplex.specs.Multiplex.{refusalOn, lineOn, multiplexed, lineAfter}
+use Rattle.levels.specs.declared.judging.Counted.{Counted}
+use Rattle.levels.specs.Judging.{answered, leftOn}
+use Rattle.multiplex.specs.Multiplex.{lineOn, lineAfter}
 use Rattle.workbench.specs.declared.Compared.{Compared}
 
 abbrev pub isControl : Kind → Bool
@@ -41,15 +42,13 @@ abbrev pub lateLine : ℕ → List ℕ → List ℕ → List ℕ → List ℕ �
 lateLine level line said notes late buffer =
     onLevel (levelOf level)
     (λ (row : Row).
-    cond (eqb (refusalOn row (length line) late (length buffer)) 0)
-    (mixedLine row (lineOn row said notes buffer) (lineOn row line late buffer))
-    line)
+    leftOn row (length line) late (length buffer) (mixedLine row (lineOn row said notes buffer) (lineOn row line late buffer)) line)
     line
 
 -- `late_line`: its answer is that of multiplexing by the late notes, `said` is left as the line of a right multiplexer, and the line as above
-abbrev pub LateLineMet : ℕ → List ℕ → List ℕ → List ℕ → List ℕ → List ℕ → Multiplexed → List ℕ → List ℕ → Type 0
+abbrev pub LateLineMet : ℕ → List ℕ → List ℕ → List ℕ → List ℕ → List ℕ → Counted → List ℕ → List ℕ → Type 0
 LateLineMet level line said notes late buffer answer saidLeft lineLeft =
-    (answer ≡ multiplexed level (length line) late (length buffer))
+    (answer ≡ answered level (length line) late (length buffer))
     × (saidLeft ≡ lineAfter level said notes buffer)
     × (lineLeft ≡ lateLine level line said notes late buffer)
 

@@ -3,10 +3,10 @@
 pub mod picture;
 
 use digits::digit_or_zero;
+use levels::judging::Counted;
 use levels::places;
 use levels::places::FramePlace;
 use levels::places::Kind;
-use multiplex::Multiplexed;
 use table::Level;
 use table::Row;
 ghost use mathlib.Core.Path.{_≡_};
@@ -163,7 +163,7 @@ pub fn late_line(
     notes: &[u8],
     late: &[u8],
     buffer: &[u8],
-) -> Multiplexed
+) -> Counted
     ensures { λ r. ⌜
         LateLineMet level (now (line .entry)) (now (said .entry)) (now (notes .entry)) (now (late .entry)) (now (buffer .entry))
         r (now (said .exit)) (now (line .exit))

@@ -5,11 +5,13 @@
 //! The text is made so that a program in any language can write it: fixed words, single
 //! spaces, and numbers in the decimal system. How the inputs are made:
 //!
-//! - the line of a multiplex call and the notes and buffer of a demultiplex call hold 165
-//!   in every byte beforehand, so that a byte left alone can be told from a byte cleared;
+//! - the line of a multiplex call, the notes that are read and the buffer of an extract call hold
+//!   165 in every byte beforehand, so that a byte left alone can be told from a byte cleared;
 //! - byte i of a multiplex call's buffer is i modulo 256;
 //! - a multiplex call's notes are 0 before frame `from`, and `note` from that frame on;
-//! - every byte of a demultiplex call's line is `fill`;
+//! - the line that a multiplex call leaves is then extracted by the same notes;
+//! - every byte of a line whose notes are read is `fill`, and it is then extracted by the notes that
+//!   the reading leaves;
 //! - the bytes of a piece, and of the frame store of a given state, are 0, but the piece of
 //!   a given stretch is one byte, `fill`, and its state hunts with no digits seen;
 //! - byte i of the line and of the label of a capture that is written is i modulo 256, and
@@ -24,7 +26,7 @@
 //! A `sum` is taken after the call over all bytes: byte i counts i + 1 times.
 
 use reference::{build_multiframe, take_multiframe_apart};
-use reference::{demultiplex, feed, fresh, multiplex, Fed, State};
+use reference::{extract, feed, fresh, multiplex, read_notes, Counted, Fed, State};
 use reference::{finder_feed, FinderState, Found};
 use reference::{read_capture, write_capture};
 
@@ -259,34 +261,38 @@ fn counts(counts: [u64; 4]) -> String {
     format!("{} {} {} {}", counts[0], counts[1], counts[2], counts[3])
 }
 
+fn counted(answer: &Counted, bytes: &[u8]) -> String {
+    let Counted { refusal, frame, counts: [a, b, c, d] } = answer;
+    format!("refusal {refusal} frame {frame} counts {a} {b} {c} {d} sum {}", sum(bytes))
+}
+
 fn sending((level, line, notes, note, from, buffer): Sending) {
     let mut bytes = vec![BEFORE; line];
     let list: Vec<u8> = (0..notes).map(|k| if k < from { 0 } else { note }).collect();
     let quarters: Vec<u8> = (0..buffer).map(|i| (i % 256) as u8).collect();
+    let with =
+        format!("level {level} line {line} notes {notes} note {note} from {from} buffer {buffer}");
     let answer = multiplex(level, &mut bytes, &list, &quarters);
-    println!(
-        "multiplex level {level} line {line} notes {notes} note {note} from {from} \
-         buffer {buffer}: refusal {} frame {} counts {} sum {}",
-        answer.refusal,
-        answer.frame,
-        counts(answer.counts),
-        sum(&bytes),
-    );
+    println!("multiplex {with}: {}", counted(&answer, &bytes));
+    let mut back = vec![BEFORE; buffer];
+    let answer = extract(level, &bytes, &list, &mut back);
+    println!("extract {with}: {}", counted(&answer, &back));
 }
 
 fn receiving((level, line, fill, notes, buffer): Receiving) {
     let (mut list, mut quarters) = (vec![BEFORE; notes], vec![BEFORE; buffer]);
-    let answer = demultiplex(level, &vec![fill; line], &mut list, &mut quarters);
+    let bytes = vec![fill; line];
+    let with = format!("level {level} line {line} fill {fill} notes {notes}");
+    let answer = read_notes(level, &bytes, &mut list);
     println!(
-        "demultiplex level {level} line {line} fill {fill} notes {notes} \
-         buffer {buffer}: refusal {} counts {} alignment {} dissent {} notes sum {} sum {}",
+        "read_notes {with}: refusal {} alignment {} dissent {} sum {}",
         answer.refusal,
-        counts(answer.counts),
         answer.alignment,
         counts(answer.dissent),
         sum(&list),
-        sum(&quarters),
     );
+    let answer = extract(level, &bytes, &list, &mut quarters);
+    println!("extract {with} buffer {buffer}: {}", counted(&answer, &quarters));
 }
 
 /// The part of a line that every call of the finder has.

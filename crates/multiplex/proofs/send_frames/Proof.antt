@@ -35,7 +35,7 @@ add-f : tie.Need-add-f Inv-loop μ-loop
 add-f c =
     let test = c .before .before .before .before .before .before .loop-test in
     let pre = c .before .before .before .before .before .before .before .before .before .before .before .before .pre in
-    omega (arith, test .taken, pre .1 .noted, pre .1 .few)
+    omega (arith, test .taken, pre .1 .framed .noted, pre .1 .framed .few)
 
 loop-less : tie.Need-loop-less Inv-loop μ-loop
 loop-less c = omega (arith, c .before .before .before .before .before .before .loop-test .taken)

@@ -2,10 +2,11 @@
 
 use crate::case::{words, Case};
 
-const COMMANDS: [&str; 8] = ["demo", "frame", "send", "take", "find", "keep", "show", "help"];
+const COMMANDS: [&str; 10] =
+    ["demo", "frame", "send", "take", "notes", "extract", "find", "keep", "show", "help"];
 
 /// Wrong calls. The files that they name are there.
-const WRONG: [&str; 31] = [
+const WRONG: [&str; 36] = [
     "",
     "bogus",
     "sen 2 notes tributaries out",
@@ -25,6 +26,11 @@ const WRONG: [&str; 31] = [
     "take 2 line out",
     "take 2 line out more yet-more",
     "take 2 line out out",
+    "notes",
+    "notes 2",
+    "notes 2 line out more",
+    "extract 2 line notes",
+    "extract 2 line notes out more",
     "find",
     "find 2",
     "find 2 line out more",

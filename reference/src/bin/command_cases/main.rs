@@ -21,6 +21,7 @@ mod case;
 mod finding;
 mod inputs;
 mod keeping;
+mod noting;
 mod pictures;
 mod sending;
 mod showing;
@@ -46,6 +47,7 @@ fn main() -> io::Result<()> {
     let mut cases = pictures::cases();
     cases.extend(sending::cases());
     cases.extend(taking::cases());
+    cases.extend(noting::cases());
     cases.extend(finding::cases());
     cases.extend(keeping::cases());
     cases.extend(showing::cases());

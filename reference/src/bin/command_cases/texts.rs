@@ -2,6 +2,8 @@
 
 use crate::inputs::room;
 use crate::worked::{Counts, Event, Found, Taken};
+use reference::digits::unpack;
+use reference::frame;
 use reference::level::{row, Row, MOST_FRAMES};
 use reference::read_capture;
 
@@ -36,6 +38,37 @@ pub fn sent(row: &Row, frames: usize, counts: &Counts) -> String {
 pub fn taken(row: &Row, taken: &Taken) -> String {
     let heading = format!("Level {}: {} frames taken apart.\n", row.level, taken.notes.len());
     heading + &table_and_errors(taken)
+}
+
+pub fn extracted(row: &Row, taken: &Taken) -> String {
+    let frames = taken.notes.len();
+    format!("Level {}: {frames} frames taken apart by these notes.\n", row.level)
+        + &table(&taken.counts)
+}
+
+/// What notes prints: a row for each frame, and the sums.
+pub fn noted(row: &Row, line: &[u8]) -> String {
+    let mut text = String::from("    frame  stuffed  service  dissent 1 2 3 4  alignment\n");
+    for (k, bytes) in line.chunks(row.frame_bytes()).enumerate() {
+        let one = frame::read(row, &unpack(bytes, row.frame_digits));
+        let mark = |j: u8| if one.note >> j & 1 == 1 { format!("{}", j + 1) } else { "-".into() };
+        let stuffed: String = (0..4).map(mark).collect();
+        let services = 4..5 + row.national_digits;
+        let service: String = services.map(|bit| (one.note >> bit & 1).to_string()).collect();
+        let dissent = one.dissent.map(|digits| digits.to_string()).join(" ");
+        text += &format!(
+            "{k:>9}  {stuffed:7}  {service:7}  {:7} {dissent}  {:>9}\n",
+            "", one.alignment
+        );
+    }
+    let taken = crate::worked::take(row, line);
+    let four = |counts: [String; 4]| counts.join(" ");
+    text += &format!("Level {}: {} notes read.\n", row.level, taken.notes.len());
+    let stuffed = four(taken.counts.stuffed.map(|count| count.to_string()));
+    text += &format!("stuffed frames of tributaries 1 to 4:     {stuffed}\n");
+    let dissent = four(taken.dissent.map(|count| count.to_string()));
+    text += &format!("dissenting digits of tributaries 1 to 4:  {dissent}\n");
+    text + &format!("alignment digits wrong: {}\n", taken.alignment)
 }
 
 /// What find prints of a recording of so many bytes; `taken` is what its frames say.
@@ -100,6 +133,14 @@ pub fn no_whole_frames(row: &Row, path: &str, bytes: usize) -> String {
          has {} bytes.",
         row.level,
         row.frame_bytes()
+    )
+}
+
+/// Notes of so many bytes for a line of so many frames.
+pub fn no_note_each(notes: &str, bytes: usize, line: &str, frames: usize) -> String {
+    format!(
+        "refused 3: {notes} has {bytes} bytes, and {line} has {frames} frames; a note is one \
+         byte for each."
     )
 }
 

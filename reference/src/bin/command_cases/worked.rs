@@ -49,18 +49,24 @@ pub struct Taken {
 
 /// Takes whole frames apart that stand one after the other.
 pub fn take(row: &Row, line: &[u8]) -> Taken {
-    let mut all = Taken::default();
-    for bytes in line.chunks(row.frame_bytes()) {
-        let one = frame::take(row, &unpack(bytes, row.frame_digits));
-        all.notes.push(one.note);
-        all.alignment += one.alignment;
-        for (j, these) in one.tributaries.iter().enumerate() {
-            all.dissent[j] += one.dissent[j];
-            all.tributaries[j].extend(these);
-        }
+    let frames = line.chunks(row.frame_bytes()).map(|bytes| unpack(bytes, row.frame_digits));
+    let read: Vec<_> = frames.map(|digits| frame::read(row, &digits)).collect();
+    let notes: Vec<u8> = read.iter().map(|one| one.note).collect();
+    let mut all = take_by(row, line, &notes);
+    all.alignment = read.iter().map(|one| one.alignment).sum();
+    all.dissent = [0, 1, 2, 3].map(|j| read.iter().map(|one| one.dissent[j]).sum());
+    all
+}
+
+/// The same by notes that are given.
+pub fn take_by(row: &Row, line: &[u8], notes: &[u8]) -> Taken {
+    let mut all = Taken { notes: notes.to_vec(), ..Taken::default() };
+    for (bytes, &note) in line.chunks(row.frame_bytes()).zip(notes) {
+        let one = frame::take(row, note, &unpack(bytes, row.frame_digits));
+        (0..4).for_each(|j| all.tributaries[j].extend(&one[j]));
     }
     let digits = [0, 1, 2, 3].map(|j| all.tributaries[j].len());
-    all.counts = Counts { digits, stuffed: stuffed(&all.notes) };
+    all.counts = Counts { digits, stuffed: stuffed(notes) };
     all
 }
 

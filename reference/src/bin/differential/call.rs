@@ -1,11 +1,11 @@
 //! A call with its inputs, what came of it, and what the reference says of it.
 
 use reference::{build_multiframe, take_multiframe_apart};
-use reference::{demultiplex, feed, fresh, line_digit, multiplex, State};
+use reference::{extract, feed, fresh, line_digit, multiplex, read_notes, Counted, State};
 use reference::{finder_feed, FinderState};
 use reference::{read_capture, write_capture};
 
-/// What a multiplex or demultiplex call is lent.
+/// What a multiplex or extract call is lent; reading notes is lent all but the buffer.
 #[derive(Clone)]
 pub struct Lending {
     pub level: u64,
@@ -52,7 +52,7 @@ pub struct Whole {
 
 pub enum Call {
     Multiplex(Lending),
-    Demultiplex(Lending),
+    ReadNotes(Lending),
     Fresh(u64),
     Feed(Box<Piece>),
     LineDigit(Vec<u8>, u64),
@@ -62,12 +62,13 @@ pub enum Call {
     MultiframeApart(Whole),
     FinderFresh,
     FinderFeed(Hunt),
+    Extract(Lending),
 }
 
 /// The names of the calls, in the order of their numbers.
-pub const NAMES: [&str; 11] = [
+pub const NAMES: [&str; 12] = [
     "multiplex",
-    "demultiplex",
+    "read_notes",
     "receiver_fresh",
     "receiver_feed",
     "line_digit",
@@ -77,6 +78,7 @@ pub const NAMES: [&str; 11] = [
     "multiframe_apart",
     "finder_fresh",
     "finder_feed",
+    "extract",
 ];
 
 /// All that a call answers and leaves: two outcomes are equal or there is a disagreement.
@@ -97,7 +99,7 @@ impl Call {
     pub fn kind(&self) -> usize {
         match self {
             Call::Multiplex(_) => 0,
-            Call::Demultiplex(_) => 1,
+            Call::ReadNotes(_) => 1,
             Call::Fresh(_) => 2,
             Call::Feed(_) => 3,
             Call::LineDigit(..) => 4,
@@ -107,6 +109,7 @@ impl Call {
             Call::MultiframeApart(_) => 8,
             Call::FinderFresh => 9,
             Call::FinderFeed(_) => 10,
+            Call::Extract(_) => 11,
         }
     }
 
@@ -114,7 +117,8 @@ impl Call {
     pub fn legend(&self) -> &'static str {
         match self {
             Call::Multiplex(_) => "four counts, frame",
-            Call::Demultiplex(_) => "four counts, frame, alignment, dissent of four",
+            Call::ReadNotes(_) => "alignment, dissent of four",
+            Call::Extract(_) => "four counts, frame",
             Call::Fresh(_) => "level, window, seen, mode, place, digits, zeros, few before, alarm",
             Call::Feed(_) => {
                 "taken, ready, alarm; level, window, seen, mode, place, digits, zeros, few before, alarm"
@@ -133,7 +137,7 @@ impl Call {
 
     pub fn short(&self) -> String {
         match self {
-            Call::Multiplex(with) | Call::Demultiplex(with) => format!(
+            Call::Multiplex(with) | Call::ReadNotes(with) | Call::Extract(with) => format!(
                 "level {}; line {}; notes {}; buffer {}",
                 with.level,
                 in_short(&with.line),
@@ -180,7 +184,7 @@ impl Call {
     pub fn by_reference(&self) -> Outcome {
         match self {
             Call::Multiplex(with) => multiplexed(with.clone()),
-            Call::Demultiplex(with) => demultiplexed(with.clone()),
+            Call::ReadNotes(with) => noted(with.clone()),
             Call::Fresh(level) => {
                 let (refusal, state) = fresh(*level);
                 let lent = vec![("frame store", state.frame.to_vec())];
@@ -201,6 +205,7 @@ impl Call {
                 outcome(0, finder_numbers(&FinderState::default()).to_vec(), vec![])
             }
             Call::FinderFeed(hunt) => hunted(hunt),
+            Call::Extract(with) => extracted(with.clone()),
         }
     }
 }
@@ -217,15 +222,22 @@ fn outcome(returned: u64, numbers: Vec<u64>, lent: Vec<(&'static str, Vec<u8>)>)
 
 fn multiplexed(mut with: Lending) -> Outcome {
     let answer = multiplex(with.level, &mut with.line, &with.notes, &with.buffer);
-    let numbers = [&answer.counts[..], &[answer.frame]].concat();
-    outcome(answer.refusal, numbers, slices(with))
+    outcome(answer.refusal, counted_numbers(&answer), slices(with))
 }
 
-fn demultiplexed(mut with: Lending) -> Outcome {
-    let answer = demultiplex(with.level, &with.line, &mut with.notes, &mut with.buffer);
-    // Demultiplexing never names a frame; the face has a number for it that is 0.
-    let numbers = [&answer.counts[..], &[0, answer.alignment], &answer.dissent].concat();
-    outcome(answer.refusal, numbers, slices(with))
+fn extracted(mut with: Lending) -> Outcome {
+    let answer = extract(with.level, &with.line, &with.notes, &mut with.buffer);
+    outcome(answer.refusal, counted_numbers(&answer), slices(with))
+}
+
+pub fn counted_numbers(answer: &Counted) -> Vec<u64> {
+    [&answer.counts[..], &[answer.frame]].concat()
+}
+
+fn noted(mut with: Lending) -> Outcome {
+    let answer = read_notes(with.level, &with.line, &mut with.notes);
+    let numbers = [&[answer.alignment], &answer.dissent[..]].concat();
+    outcome(answer.refusal, numbers, vec![("line", with.line), ("notes", with.notes)])
 }
 
 fn slices(with: Lending) -> Vec<(&'static str, Vec<u8>)> {

@@ -1,6 +1,8 @@
 //! The product's C face, and the calls made through it with guards around all that is lent.
 
-use crate::call::{finder_numbers, state_numbers, Call, Hunt, Lending, Outcome, Piece, Whole, Writing};
+use crate::call::{
+    finder_numbers, state_numbers, Call, Hunt, Lending, Outcome, Piece, Whole, Writing,
+};
 
 #[rustfmt::skip]
 extern "C" {
@@ -8,8 +10,12 @@ extern "C" {
         level: u64, line: *mut u8, line_bytes: usize, notes: *const u8, notes_bytes: usize,
         buffer: *const u8, buffer_bytes: usize, answer: *mut u64,
     ) -> u64;
-    pub fn spritbobbin_demultiplex(
+    pub fn spritbobbin_read_notes(
         level: u64, line: *const u8, line_bytes: usize, notes: *mut u8, notes_bytes: usize,
+        answer: *mut u64,
+    ) -> u64;
+    pub fn spritbobbin_extract(
+        level: u64, line: *const u8, line_bytes: usize, notes: *const u8, notes_bytes: usize,
         buffer: *mut u8, buffer_bytes: usize, answer: *mut u64,
     ) -> u64;
     pub fn spritbobbin_receiver_fresh(level: u64, state: *mut u64, frame: *mut u8) -> u64;
@@ -91,7 +97,8 @@ pub fn numbers(name: &'static str, inner: &[u64]) -> Lent<u64> {
 pub fn by_face(call: &Call) -> Outcome {
     match call {
         Call::Multiplex(with) => multiplex(with),
-        Call::Demultiplex(with) => demultiplex(with),
+        Call::ReadNotes(with) => read_notes(with),
+        Call::Extract(with) => extract(with),
         Call::Fresh(level) => fresh(*level),
         Call::Feed(piece) => feed(piece),
         Call::LineDigit(line, place) => line_digit(line, *place),
@@ -126,16 +133,29 @@ fn multiplex(with: &Lending) -> Outcome {
     outcome(refusal, &[answer], &[line, notes, buffer])
 }
 
-fn demultiplex(with: &Lending) -> Outcome {
+fn read_notes(with: &Lending) -> Outcome {
+    let mut line = bytes("line", &with.line);
+    let mut notes = bytes("notes", &with.notes);
+    let mut answer = numbers("answer", &[UNWRITTEN; 5]);
+    // Sound as above.
+    let refusal = unsafe {
+        let (l, n) = (line.pointer(), notes.pointer());
+        let (lc, nc) = (line.count(), notes.count());
+        spritbobbin_read_notes(with.level, l, lc, n, nc, answer.pointer())
+    };
+    outcome(refusal, &[answer], &[line, notes])
+}
+
+fn extract(with: &Lending) -> Outcome {
     let mut line = bytes("line", &with.line);
     let mut notes = bytes("notes", &with.notes);
     let mut buffer = bytes("buffer", &with.buffer);
-    let mut answer = numbers("answer", &[UNWRITTEN; 10]);
+    let mut answer = numbers("answer", &[UNWRITTEN; 5]);
     // Sound as above.
     let refusal = unsafe {
         let (l, n, b) = (line.pointer(), notes.pointer(), buffer.pointer());
         let (lc, nc, bc) = (line.count(), notes.count(), buffer.count());
-        spritbobbin_demultiplex(with.level, l, lc, n, nc, b, bc, answer.pointer())
+        spritbobbin_extract(with.level, l, lc, n, nc, b, bc, answer.pointer())
     };
     outcome(refusal, &[answer], &[line, notes, buffer])
 }

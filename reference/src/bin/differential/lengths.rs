@@ -1,13 +1,18 @@
 //! Lengths far beyond what a call accepts, which a cut to 32 bits would make small, and
 //! then pointers and lengths that lend no memory at all.
 
-use crate::call::read_numbers;
+use crate::call::{counted_numbers, read_numbers};
 use crate::face::{self, spritbobbin_capture_read, spritbobbin_capture_write};
-use crate::face::{spritbobbin_demultiplex, spritbobbin_finder_feed, spritbobbin_line_digit};
-use crate::face::{spritbobbin_multiplex, spritbobbin_receiver_feed, UNWRITTEN};
+use crate::face::{spritbobbin_extract, spritbobbin_finder_feed, spritbobbin_line_digit};
+use crate::face::{
+    spritbobbin_multiplex, spritbobbin_read_notes, spritbobbin_receiver_feed, UNWRITTEN,
+};
 use crate::multiframes;
 use crate::Run;
-use reference::{demultiplex, feed, feed_refusal, fresh, length_refusal, line_digit, multiplex};
+use reference::read_notes;
+use reference::{
+    extract, feed, feed_refusal, frames_refusal, fresh, length_refusal, line_digit, multiplex,
+};
 use reference::{finder_feed, finder_refusal, FinderState};
 use std::alloc::{alloc_zeroed, dealloc, Layout};
 
@@ -148,26 +153,40 @@ fn raw_multiplex(level: u64, line: &mut [u8], notes: &[u8], buffer: &[u8]) -> Ve
     [&[refusal], &answer[..]].concat()
 }
 
-fn raw_demultiplex(level: u64, line: &[u8], notes: &mut [u8], buffer: &mut [u8]) -> Vec<u64> {
-    let mut answer = [UNWRITTEN; 10];
+fn raw_extract(level: u64, line: &[u8], notes: &[u8], buffer: &mut [u8]) -> Vec<u64> {
+    let mut answer = [UNWRITTEN; 5];
     // Sound as above.
     let refusal = unsafe {
-        let (l, n, b) = (line.as_ptr(), notes.as_mut_ptr(), buffer.as_mut_ptr());
+        let (l, n, b) = (line.as_ptr(), notes.as_ptr(), buffer.as_mut_ptr());
         let (lc, nc, bc) = (line.len(), notes.len(), buffer.len());
-        spritbobbin_demultiplex(level, l, lc, n, nc, b, bc, answer.as_mut_ptr())
+        spritbobbin_extract(level, l, lc, n, nc, b, bc, answer.as_mut_ptr())
+    };
+    [&[refusal], &answer[..]].concat()
+}
+
+fn raw_read_notes(level: u64, line: &[u8], notes: &mut [u8]) -> Vec<u64> {
+    let mut answer = [UNWRITTEN; 5];
+    // Sound as above.
+    let refusal = unsafe {
+        let (l, n, lc, nc) = (line.as_ptr(), notes.as_mut_ptr(), line.len(), notes.len());
+        spritbobbin_read_notes(level, l, lc, n, nc, answer.as_mut_ptr())
     };
     [&[refusal], &answer[..]].concat()
 }
 
 fn multiplexed(level: u64, line: &mut [u8], notes: &[u8], buffer: &[u8]) -> Vec<u64> {
     let answer = multiplex(level, line, notes, buffer);
-    [&[answer.refusal], &answer.counts[..], &[answer.frame]].concat()
+    [vec![answer.refusal], counted_numbers(&answer)].concat()
 }
 
-fn demultiplexed(level: u64, line: &[u8], notes: &mut [u8], buffer: &mut [u8]) -> Vec<u64> {
-    let answer = demultiplex(level, line, notes, buffer);
-    let errors = [0, answer.alignment];
-    [&[answer.refusal], &answer.counts[..], &errors, &answer.dissent].concat()
+fn extracted(level: u64, line: &[u8], notes: &[u8], buffer: &mut [u8]) -> Vec<u64> {
+    let answer = extract(level, line, notes, buffer);
+    [vec![answer.refusal], counted_numbers(&answer)].concat()
+}
+
+fn noted(level: u64, line: &[u8], notes: &mut [u8]) -> Vec<u64> {
+    let answer = read_notes(level, line, notes);
+    [&[answer.refusal, answer.alignment], &answer.dissent[..]].concat()
 }
 
 /// The beginning of long memory must still be zero: all calls that may write it are refused.
@@ -182,9 +201,9 @@ fn long_line(run: &mut Run, level: u64, line: &mut [u8]) {
     let inputs = format!("level {level}, line {} bytes, 1 note, buffer 4096", line.len());
     let expected = multiplexed(level, line, &[0], &[0; 4096]);
     run.expect(0, &inputs, &expected, &raw_multiplex(level, line, &[0], &[0; 4096]));
-    let expected = demultiplexed(level, line, &mut [0], &mut [0; 4096]);
-    let received = raw_demultiplex(level, line, &mut [0], &mut [0; 4096]);
-    run.expect(1, &inputs, &expected, &received);
+    run.expect(1, &inputs, &noted(level, line, &mut [0]), &raw_read_notes(level, line, &mut [0]));
+    let expected = extracted(level, line, &[0], &mut [0; 4096]);
+    run.expect(11, &inputs, &expected, &raw_extract(level, line, &[0], &mut [0; 4096]));
     untouched(run, &inputs, line);
 }
 
@@ -193,20 +212,21 @@ fn long_notes(run: &mut Run, level: u64, frame_bytes: usize, notes: &mut [u8]) {
     let mut line = vec![0; frame_bytes];
     let expected = multiplexed(level, &mut line, notes, &[0; 4096]);
     run.expect(0, &inputs, &expected, &raw_multiplex(level, &mut line, notes, &[0; 4096]));
-    let expected = demultiplexed(level, &line, notes, &mut [0; 4096]);
-    let received = raw_demultiplex(level, &line, notes, &mut [0; 4096]);
-    run.expect(1, &inputs, &expected, &received);
+    let expected = noted(level, &line, notes);
+    run.expect(1, &inputs, &expected, &raw_read_notes(level, &line, notes));
+    let expected = extracted(level, &line, notes, &mut [0; 4096]);
+    run.expect(11, &inputs, &expected, &raw_extract(level, &line, notes, &mut [0; 4096]));
     untouched(run, &inputs, notes);
 }
 
 /// Multiplexing may accept a long buffer, whose quarters then begin far apart.
-/// Demultiplexing is asked only where it refuses: else it would clear 4 GiB.
+/// Extraction is asked only where it refuses: else it would clear 4 GiB.
 fn long_buffer(run: &mut Run, level: u64, frame_bytes: usize, buffer: &mut [u8]) {
     let inputs = format!("level {level}, one frame, 1 note, buffer {}", buffer.len());
     if buffer.len() % 4 != 0 {
         let line = vec![0; frame_bytes];
-        let expected = demultiplexed(level, &line, &mut [0], buffer);
-        run.expect(1, &inputs, &expected, &raw_demultiplex(level, &line, &mut [0], buffer));
+        let expected = extracted(level, &line, &[0], buffer);
+        run.expect(11, &inputs, &expected, &raw_extract(level, &line, &[0], buffer));
         untouched(run, &inputs, buffer);
     }
     let quarter = buffer.len() / 4;
@@ -274,7 +294,7 @@ fn raw_hunt(piece: *const u8, piece_bytes: usize, first: u64, count: u64) -> Vec
 fn null_pointers(run: &mut Run) {
     let (null, null_mut) = (std::ptr::null(), std::ptr::null_mut());
     for level in 1..=5 {
-        let (mut answer, mut back) = ([UNWRITTEN; 5], [UNWRITTEN; 10]);
+        let (mut answer, mut read, mut back) = ([UNWRITTEN; 5], [UNWRITTEN; 5], [UNWRITTEN; 5]);
         // Sound if the face makes no slice of a null pointer.
         let sent = unsafe {
             spritbobbin_multiplex(level, null_mut, 0, null, 0, null, 0, answer.as_mut_ptr())
@@ -283,11 +303,15 @@ fn null_pointers(run: &mut Run) {
         let inputs = format!("level {level}, null pointers");
         run.expect(0, &inputs, &[refusal, 0, 0, 0, 0, 0], &[&[sent], &answer[..]].concat());
         // Sound as above.
-        let received = unsafe {
-            spritbobbin_demultiplex(level, null, 0, null_mut, 0, null_mut, 0, back.as_mut_ptr())
+        let (noted, taken) = unsafe {
+            (
+                spritbobbin_read_notes(level, null, 0, null_mut, 0, read.as_mut_ptr()),
+                spritbobbin_extract(level, null, 0, null, 0, null_mut, 0, back.as_mut_ptr()),
+            )
         };
-        let expected = [&[refusal], &[0; 10][..]].concat();
-        run.expect(1, &inputs, &expected, &[&[received], &back[..]].concat());
+        let none = [frames_refusal(level, 0, 0), 0, 0, 0, 0, 0];
+        run.expect(1, &inputs, &none, &[&[noted], &read[..]].concat());
+        run.expect(11, &inputs, &[refusal, 0, 0, 0, 0, 0], &[&[taken], &back[..]].concat());
         for labelled in [0, 1] {
             let none = if refusal == 0 { [4, 0, 0] } else { [refusal, 0, 0] };
             let wrote = raw_write(level, [(null, 0); 2], labelled, (null_mut, 0));
@@ -356,7 +380,7 @@ fn one_false_length(run: &mut Run, level: u64, [line, notes, buffer]: [u64; 3]) 
     if refusal == 0 {
         return;
     }
-    let (mut memory, mut sent, mut received) = ([0_u8; 4096], [UNWRITTEN; 5], [UNWRITTEN; 10]);
+    let (mut memory, mut sent, mut taken) = ([0_u8; 4096], [UNWRITTEN; 5], [UNWRITTEN; 5]);
     let inputs = format!("level {level}, line {line}, notes {notes}, buffer {buffer} bytes");
     let (at, l, n, b) = (memory.as_mut_ptr(), line as usize, notes as usize, buffer as usize);
     // Sound if the face judges lengths before it reads or writes; nothing is lent but a
@@ -364,10 +388,16 @@ fn one_false_length(run: &mut Run, level: u64, [line, notes, buffer]: [u64; 3]) 
     let numbers = unsafe {
         [
             spritbobbin_multiplex(level, at, l, at, n, at, b, sent.as_mut_ptr()),
-            spritbobbin_demultiplex(level, at, l, at, n, at, b, received.as_mut_ptr()),
+            spritbobbin_extract(level, at, l, at, n, at, b, taken.as_mut_ptr()),
         ]
     };
     run.expect(0, &inputs, &[refusal, 0, 0, 0, 0, 0], &[&numbers[..1], &sent].concat());
-    let expected = [&[refusal], &[0; 10][..]].concat();
-    run.expect(1, &inputs, &expected, &[&numbers[1..], &received].concat());
+    run.expect(11, &inputs, &[refusal, 0, 0, 0, 0, 0], &[&numbers[1..], &taken].concat());
+    let unread = frames_refusal(level, line, notes);
+    if unread != 0 {
+        let mut read = [UNWRITTEN; 5];
+        // Sound as above.
+        let number = unsafe { spritbobbin_read_notes(level, at, l, at, n, read.as_mut_ptr()) };
+        run.expect(1, &inputs, &[unread, 0, 0, 0, 0, 0], &[&[number], &read[..]].concat());
+    }
 }

@@ -29,7 +29,7 @@ pub struct Run {
     lent_only: bool,
     trace: bool,
     random: Random,
-    calls: [u64; 11],
+    calls: [u64; 12],
 }
 
 impl Run {
@@ -98,7 +98,7 @@ fn print_difference(name: &str, ours: &[u8], theirs: &[u8]) {
 }
 
 fn arguments() -> Run {
-    let (seed, calls) = (1, [0; 11]);
+    let (seed, calls) = (1, [0; 12]);
     let random = Random::new(seed);
     let mut run = Run { seed, times: 1, lent_only: false, trace: false, random, calls };
     for argument in std::env::args().skip(1) {

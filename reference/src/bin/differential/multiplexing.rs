@@ -1,4 +1,4 @@
-//! Multiplex and demultiplex calls: sound ones, damaged lines, and every set of faults.
+//! Multiplex, read_notes and extract calls: sound ones, damaged lines, notes of any kind, and every set of faults.
 
 use crate::call::{Call, Lending};
 use crate::Run;
@@ -70,7 +70,7 @@ fn there_and_back_by(run: &mut Run, level: u64, row: &Row, notes: &[u8], spare: 
     with.line.clone_from(&sent.lent[0].1);
     with.notes = run.random.bytes(notes.len());
     with.buffer = run.random.filled(4 * quarter);
-    run.compare(&Call::Demultiplex(with));
+    read_and_extract(run, with);
 }
 
 fn every_set_of_faults(run: &mut Run) {
@@ -80,7 +80,8 @@ fn every_set_of_faults(run: &mut Run) {
                 let frames = run.random.index(4);
                 let with = lending(&mut run.random, level, frames, faults);
                 run.compare(&Call::Multiplex(with.clone()));
-                run.compare(&Call::Demultiplex(with));
+                run.compare(&Call::ReadNotes(with.clone()));
+                run.compare(&Call::Extract(with));
             }
         }
     }
@@ -95,7 +96,8 @@ fn anything(run: &mut Run) {
             let faults = run.random.below(ALL_FAULTS);
             let with = lending(&mut run.random, level, frames, faults);
             run.compare(&Call::Multiplex(with.clone()));
-            run.compare(&Call::Demultiplex(with));
+            run.compare(&Call::ReadNotes(with.clone()));
+            run.compare(&Call::Extract(with));
         } else {
             there_and_back(run, level, frames);
         }
@@ -110,7 +112,24 @@ fn there_and_back(run: &mut Run, level: u64, frames: usize) {
     damage(&mut run.random, &mut with);
     with.notes = run.random.bytes(with.notes.len());
     with.buffer = run.random.filled(with.buffer.len());
-    run.compare(&Call::Demultiplex(with));
+    read_and_extract(run, with);
+}
+
+/// The notes of a line are read, and the line is extracted by them, by the same shifted by a
+/// frame, and by notes that have nothing to do with it.
+fn read_and_extract(run: &mut Run, mut with: Lending) {
+    let read = run.compare(&Call::ReadNotes(with.clone()));
+    with.notes.clone_from(&read.lent[1].1);
+    run.compare(&Call::Extract(with.clone()));
+    if !with.notes.is_empty() {
+        with.notes.rotate_right(1);
+        run.compare(&Call::Extract(with.clone()));
+    }
+    with.notes = match run.random.below(3) {
+        0 => run.random.bytes(with.notes.len()),
+        _ => decisions(&mut run.random, with.level, with.notes.len()),
+    };
+    run.compare(&Call::Extract(with));
 }
 
 /// Changes some digits of a line: any, or only control digits, so that groups split.

@@ -5,10 +5,10 @@ use Rattle.passages.proofs.runs.all.Statement.{statement}
 use Rattle.passages.proofs.runs.all.Tie as tie
 
 abbrev Inv-loop : tie.InvT-loop
-Inv-loop row level sends frames u₀ k₀ u k = k ≤ (frames + 63) / 64
+Inv-loop row level frames u₀ k₀ u k = k ≤ (frames + 63) / 64
 
 abbrev μ-loop : tie.MeasureT-loop
-μ-loop row level sends frames u₀ k₀ u k = (frames + 63) / 64 - k
+μ-loop row level frames u₀ k₀ u k = (frames + 63) / 64 - k
 
 pub all-spec : {M : Type 1} → statement M
 all-spec =

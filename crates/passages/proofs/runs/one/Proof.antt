@@ -5,25 +5,21 @@ use borrow.Author.Needs.{needs}
 use Rattle.passages.proofs.runs.one.Statement.{statement}
 use Rattle.passages.proofs.runs.one.Tie as tie
 
--- src/runs.rt:42:9
-slice-aggregate-one-way : tie.Need-slice-aggregate-one-way
-slice-aggregate-one-way c = simp length-take (omega arith)
+slice-aggregate-one-run : tie.Need-slice-aggregate-one-run
+slice-aggregate-one-run c = simp length-take (omega arith)
 
--- src/runs.rt:43:9
-slice-aggregate-one-way-2 : tie.Need-slice-aggregate-one-way-2
-slice-aggregate-one-way-2 c = simp length-take (omega arith)
+slice-aggregate-one-run-2 : tie.Need-slice-aggregate-one-run-2
+slice-aggregate-one-run-2 c = simp length-take (omega arith)
 
--- src/runs.rt:44:9
-slice-aggregate-one-way-3 : tie.Need-slice-aggregate-one-way-3
-slice-aggregate-one-way-3 c = simp length-take (omega arith)
+slice-aggregate-one-run-3 : tie.Need-slice-aggregate-one-run-3
+slice-aggregate-one-run-3 c = simp length-take (omega arith)
 
--- src/runs.rt:37:5
-one-way-requires : tie.Need-one-way-requires
-one-way-requires c κs = (c .before .before .before .before .before .before .before .before .pre .0, simp length-take (omega arith), simp length-take (omega arith))
+one-run-requires : tie.Need-one-run-requires
+one-run-requires c κs = (c .before .before .before .before .before .before .before .before .pre .0, simp length-take (omega arith), simp length-take (omega arith))
 
 pub one-spec : {M : Type 1} → statement M
 one-spec =
     tie.close
     (tie.spec (λ c κs. search needs) (λ c κs. search needs) (λ c κs. search needs) (λ c κs. search needs) (λ c. search needs)
-    (λ c. search needs) (λ c κs. search needs) (λ c. search needs) slice-aggregate-one-way (λ c. search needs) slice-aggregate-one-way-2
-    (λ c. search needs) slice-aggregate-one-way-3 one-way-requires (λ c. search needs))
+    (λ c. search needs) (λ c κs. search needs) (λ c. search needs) slice-aggregate-one-run (λ c. search needs) slice-aggregate-one-run-2
+    (λ c. search needs) slice-aggregate-one-run-3 one-run-requires (λ c. search needs))

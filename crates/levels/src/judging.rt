@@ -1,0 +1,72 @@
+// What a call that goes by notes is judged by, refusals 2 to 5, and what it answers. Multiplexing and extracting by notes share it.
+use crate::sizes;
+use table::Row;
+ghost use mathlib.Core.Path.{_≡_};
+ghost use Prim.Native.Nat.{_^_, _<_};
+ghost use lib.ListN.{length};
+ghost use Rattle.levels.specs.Table.{Shared};
+ghost use Rattle.levels.specs.Judging.{firstFaulty, faultOf, refusedWith};
+
+// Why a call is refused, and the frame that the refusal names; number 0 where nothing is at fault.
+pub struct Fault {
+    pub refusal: u64,
+    pub frame: usize,
+}
+
+pub struct Counted {
+    pub refusal: u64,
+    pub frame: usize,
+    // the digits of each tributary
+    pub counts: [usize; 4],
+}
+
+pub fn refused(found: Fault) -> Counted
+    ensures { λ r. ⌜ r ≡ refusedWith found ⌝ }
+{
+    Counted {
+        refusal: found.refusal,
+        frame: found.frame,
+        counts: [0; 4],
+    }
+}
+
+// The first frame whose note has a bit that the level has not, or the number of notes where there is none.
+fn first_faulty(row: Row, notes: &[u8]) -> usize
+    requires { ⌜ Shared row ⌝ }
+    ensures { λ r. ⌜ r ≡ firstFaulty row (now (notes .entry)) ⌝ }
+{
+    let limit: usize = 1 << (5 + row.nationals);
+    let mut f: usize = 0;
+    while f < notes.len() {
+        if limit <= notes[f] as usize {
+            return f;
+        }
+        f += 1;
+    }
+    f
+}
+
+// The first fault of 2 to 5 that applies to a line of so many bytes, these notes and a buffer of so many bytes.
+pub fn fault_of(row: Row, line: usize, notes: &[u8], buffer: usize) -> Fault
+    requires { ⌜ Shared row × (buffer < 2 ^ 63) ⌝ }
+    ensures { λ r. ⌜ r ≡ faultOf row line (now (notes .entry)) buffer ⌝ }
+{
+    let no = sizes::size_refusal(row, line, notes.len(), buffer);
+    if no != 0 {
+        return Fault {
+            refusal: no,
+            frame: 0,
+        };
+    }
+    let f = first_faulty(row, notes);
+    if f < notes.len() {
+        return Fault {
+            refusal: 5,
+            frame: f,
+        };
+    }
+    Fault {
+        refusal: 0,
+        frame: 0,
+    }
+}

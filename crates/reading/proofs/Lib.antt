@@ -1,0 +1,4 @@
+pub mod Inside
+pub mod Reading
+pub mod NoteBits
+pub mod Answers

@@ -1,0 +1,15 @@
+-- The buffer that is handed on is the one that is lent.
+use borrow.Author.Needs.{needs}
+use Rattle.taking.proofs.runs.one_way.Statement.{statement}
+use Rattle.taking.proofs.runs.one_way.Tie as tie
+
+by-notes-requires : tie.Need-by-notes-requires
+by-notes-requires c κs = c .before .before .before .before .before .before .before .before .before .before .before .before .before .before .before .before .pre .2
+
+run-requires-2 : tie.Need-run-requires-2
+run-requires-2 c κs = c .before .before .before .before .before .before .before .before .before .before .before .before .before .before .before .before .pre .2
+
+pub one-way-spec : {M : Type 1} → statement M
+one-way-spec =
+    tie.close
+    (tie.spec (λ c κs. search needs) (λ c κs. search needs) (λ c κs. search needs) (λ c κs. search needs) (λ c. search needs) (λ c. search needs) (λ c. search needs) by-notes-requires (λ c. search needs) (λ c. search needs) (λ c. search needs) (λ c. search needs) run-requires-2 (λ c. search needs) (λ c. search needs) (λ c. search needs) (λ c. search needs))
