@@ -1,2 +1,3 @@
 pub mod Face
 pub mod Finding
+pub mod PlainFace
