@@ -105,7 +105,8 @@ countsTo row notes p = countTo row notes 0 p ∷ countTo row notes 1 p ∷ count
 
 -- ---- What is sent
 
--- at place q of frame f, where j is the place's tributary and next is that tributary's next digit
+-- at place q of frame f, where next is the next digit of the place's tributary. Control digits are the decision, as often as they are sent; a
+-- stuffing digit is sent as 1
 abbrev pub sentBy : Row → List ℕ → ℕ → ℕ → ℕ → Place → ℕ
 sentBy row notes f q next Alignment = wordDigit row q
 sentBy row notes f q next Service = noteBit notes f (4 + (q - row .alarm))
