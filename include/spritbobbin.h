@@ -302,6 +302,20 @@ uint64_t spritbobbin_extract(uint64_t level, const uint8_t *line, size_t line_by
                              uint8_t *buffer, size_t buffer_bytes, uint64_t answer[5]);
 
 /*
+ * The plain engine: a second engine that goes digit by digit and shares only the level table with
+ * the one above. It takes the same arguments, and gives the same answers, slices and refusals on
+ * every input, which is proved; it is slower. For approvals, and to hold one beside the other.
+ */
+uint64_t spritbobbin_plain_multiplex(uint64_t level, uint8_t *line, size_t line_bytes, const uint8_t *notes, size_t notes_bytes,
+                                     const uint8_t *buffer, size_t buffer_bytes, uint64_t answer[5]);
+
+uint64_t spritbobbin_plain_read_notes(uint64_t level, const uint8_t *line, size_t line_bytes, uint8_t *notes, size_t notes_bytes,
+                                      uint64_t answer[5]);
+
+uint64_t spritbobbin_plain_extract(uint64_t level, const uint8_t *line, size_t line_bytes, const uint8_t *notes, size_t notes_bytes,
+                                   uint8_t *buffer, size_t buffer_bytes, uint64_t answer[5]);
+
+/*
  * Makes a fresh receiver: hunting, nothing seen, the frame in hand all zero.
  *
  * Writes all of state (level, window, digits seen, mode, place, the stretch's digits and zeros,

@@ -5,7 +5,8 @@
 //! habits (slices, `Result`, iterators) and decides nothing itself.
 //!
 //! - [`multiplex`] builds the frames of a line out of four tributaries; [`read_notes`] reads the
-//!   notes of a line, and [`extract`] takes the tributaries out again by notes.
+//!   notes of a line, and [`extract`] takes the tributaries out again by notes. [`plain`] has the
+//!   same three by a second engine, digit by digit.
 //! - A [`Receiver`] finds frames in a stream that comes in pieces of any size; a [`FrameStream`]
 //!   reads the stream too.
 //! - A [`Rack`] keeps the receivers of up to 64 lines.
@@ -71,6 +72,7 @@ mod line;
 mod multiframe;
 mod multiplexing;
 mod rack;
+pub mod plain;
 mod raw;
 mod receiver;
 mod refusal;

@@ -58,11 +58,22 @@ pub fn multiplex(
     notes: &[u8],
     buffer: &[u8],
 ) -> Result<Sent, Refusal> {
+    multiplex_by(raw::spritbobbin_multiplex, level, line, notes, buffer)
+}
+
+/// The same, by one of the two engines.
+pub(crate) fn multiplex_by(
+    by: raw::Multiplex,
+    level: Level,
+    line: &mut [u8],
+    notes: &[u8],
+    buffer: &[u8],
+) -> Result<Sent, Refusal> {
     let mut answer = [0; 5];
     // Sound: each pointer comes with the length of its own slice, and borrows that may be written
     // are exclusive, so nothing overlaps.
     let number = unsafe {
-        raw::spritbobbin_multiplex(
+        by(
             level.number(),
             line.as_mut_ptr(),
             line.len(),
@@ -106,17 +117,20 @@ pub fn multiplex(
 /// # }
 /// ```
 pub fn read_notes(level: Level, line: &[u8], notes: &mut [u8]) -> Result<Noted, Refusal> {
+    read_notes_by(raw::spritbobbin_read_notes, level, line, notes)
+}
+
+/// The same, by one of the two engines.
+pub(crate) fn read_notes_by(
+    by: raw::ReadNotes,
+    level: Level,
+    line: &[u8],
+    notes: &mut [u8],
+) -> Result<Noted, Refusal> {
     let mut answer = [0; 5];
     // Sound as in multiplexing.
     let number = unsafe {
-        raw::spritbobbin_read_notes(
-            level.number(),
-            line.as_ptr(),
-            line.len(),
-            notes.as_mut_ptr(),
-            notes.len(),
-            &mut answer,
-        )
+        by(level.number(), line.as_ptr(), line.len(), notes.as_mut_ptr(), notes.len(), &mut answer)
     };
     let [alignment, dissent @ ..] = answer.map(count);
     let lent = Lent { level, line: line.len(), notes: notes.len(), buffer: 0 };
@@ -154,10 +168,21 @@ pub fn extract(
     notes: &[u8],
     buffer: &mut [u8],
 ) -> Result<Extracted, Refusal> {
+    extract_by(raw::spritbobbin_extract, level, line, notes, buffer)
+}
+
+/// The same, by one of the two engines.
+pub(crate) fn extract_by(
+    by: raw::Extract,
+    level: Level,
+    line: &[u8],
+    notes: &[u8],
+    buffer: &mut [u8],
+) -> Result<Extracted, Refusal> {
     let mut answer = [0; 5];
     // Sound as in multiplexing.
     let number = unsafe {
-        raw::spritbobbin_extract(
+        by(
             level.number(),
             line.as_ptr(),
             line.len(),

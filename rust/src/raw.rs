@@ -23,6 +23,34 @@ impl Default for Record {
     }
 }
 
+/// Building frames by one of the two engines.
+pub type Multiplex = unsafe extern "C" fn(
+    u64,
+    *mut u8,
+    usize,
+    *const u8,
+    usize,
+    *const u8,
+    usize,
+    &mut [u64; 5],
+) -> u64;
+
+/// Reading notes by one of the two engines.
+pub type ReadNotes =
+    unsafe extern "C" fn(u64, *const u8, usize, *mut u8, usize, &mut [u64; 5]) -> u64;
+
+/// Extraction by one of the two engines.
+pub type Extract = unsafe extern "C" fn(
+    u64,
+    *const u8,
+    usize,
+    *const u8,
+    usize,
+    *mut u8,
+    usize,
+    &mut [u64; 5],
+) -> u64;
+
 extern "C" {
     /// Answer: four digit counts, named frame.
     pub fn spritbobbin_multiplex(
@@ -48,6 +76,40 @@ extern "C" {
 
     /// Answer: four digit counts, named frame.
     pub fn spritbobbin_extract(
+        level: u64,
+        line: *const u8,
+        line_bytes: usize,
+        notes: *const u8,
+        notes_bytes: usize,
+        buffer: *mut u8,
+        buffer_bytes: usize,
+        answer: &mut [u64; 5],
+    ) -> u64;
+
+    /// Answer: four digit counts, named frame.
+    pub fn spritbobbin_plain_multiplex(
+        level: u64,
+        line: *mut u8,
+        line_bytes: usize,
+        notes: *const u8,
+        notes_bytes: usize,
+        buffer: *const u8,
+        buffer_bytes: usize,
+        answer: &mut [u64; 5],
+    ) -> u64;
+
+    /// Answer: alignment digits that differ, dissenting digits of tributaries 1 to 4.
+    pub fn spritbobbin_plain_read_notes(
+        level: u64,
+        line: *const u8,
+        line_bytes: usize,
+        notes: *mut u8,
+        notes_bytes: usize,
+        answer: &mut [u64; 5],
+    ) -> u64;
+
+    /// Answer: four digit counts, named frame.
+    pub fn spritbobbin_plain_extract(
         level: u64,
         line: *const u8,
         line_bytes: usize,

@@ -133,6 +133,33 @@ static void names_the_frame(void)
     free(buffer);
 }
 
+/* Two frames of level 4 with notes of their own and a buffer of 0x5A and 0xC3, sent, read and extracted by both engines, and
+   a call that both refuse: all numbers and all bytes are the same. */
+static void two_engines(uint64_t level, size_t buffer_bytes)
+{
+    static uint8_t line[2][732], notes[2][2], buffer[2][4 * 181];
+    uint64_t answer[2][3][5], refusal[2][3];
+
+    memset(line, 0xA5, sizeof line);
+    for (unsigned e = 0; e < 2; e++) {
+        notes[e][0] = 0xE5;
+        notes[e][1] = 0x1A;
+        for (size_t i = 0; i < sizeof buffer[e]; i++)
+            buffer[e][i] = i % 3 ? 0x5A : 0xC3;
+    }
+    refusal[0][0] = spritbobbin_multiplex(level, line[0], 732, notes[0], 2, buffer[0], buffer_bytes, answer[0][0]);
+    refusal[1][0] = spritbobbin_plain_multiplex(level, line[1], 732, notes[1], 2, buffer[1], buffer_bytes, answer[1][0]);
+    check(memcmp(line[0], line[1], 732) == 0, "both engines leave the same line");
+    refusal[0][1] = spritbobbin_read_notes(level, line[0], 732, notes[0], 2, answer[0][1]);
+    refusal[1][1] = spritbobbin_plain_read_notes(level, line[1], 732, notes[1], 2, answer[1][1]);
+    check(memcmp(notes[0], notes[1], 2) == 0, "both engines read the same notes");
+    refusal[0][2] = spritbobbin_extract(level, line[0], 732, notes[0], 2, buffer[0], buffer_bytes, answer[0][2]);
+    refusal[1][2] = spritbobbin_plain_extract(level, line[1], 732, notes[1], 2, buffer[1], buffer_bytes, answer[1][2]);
+    check(memcmp(buffer[0], buffer[1], sizeof buffer[0]) == 0, "both engines leave the same buffer");
+    check(memcmp(answer[0], answer[1], sizeof answer[0]) == 0, "both engines answer the same");
+    check(memcmp(refusal[0], refusal[1], sizeof refusal[0]) == 0, "both engines refuse the same");
+}
+
 /* A piece that is refused with this number, and leaves the receiver as it was. */
 static void refused_piece(uint64_t state[9], uint8_t frame[366], const uint8_t *piece, size_t piece_bytes,
                           uint64_t first, uint64_t count, uint64_t refusal)
@@ -502,6 +529,9 @@ int main(void)
     both_ways(4, 366, 0, 0, 0, 3, 4);
     counts_dissent();
     names_the_frame();
+    two_engines(4, 724);
+    two_engines(4, 720);  /* refusal 4 */
+    two_engines(7, 724);  /* refusal 1 */
     receiver();
     finder();
     line_digits();

@@ -9,7 +9,7 @@ use native.Mathlib.Nat.{mul-le-mul, div-add-mod'}
 use lib.Dec.{ltb}
 use lib.ListN.{length}
 use borrow.Author.Tests.{ltb-false, le-ltb, eq-eqb, ne-eqb}
-use Rattle.levels.specs.declared.table.Row.{Row}
+use Rattle.table.specs.declared.Row.{Row}
 use Rattle.levels.specs.Table.{Shared}
 use Rattle.levels.specs.Sizes.{framesOf, badLine}
 use Rattle.levels.proofs.Judged.{line-frames, unrefused}

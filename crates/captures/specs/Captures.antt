@@ -6,8 +6,8 @@ use mathlib.Core.List.{List, [], _∷_, _++_}
 use Prim.Native.Nat.{ℕ, _+_, _*_, _/_, _%_}
 use lib.Dec.{eqb, ltb, leb}
 use lib.ListN.{length, getD, take, drop}
-use Rattle.levels.specs.declared.table.Row.{Row}
-use Rattle.levels.specs.Table.{levelOf}
+use Rattle.table.specs.declared.Row.{Row}
+use Rattle.table.specs.Table.{levelOf}
 use Rattle.levels.specs.Sizes.{onLevel, badLine}
 use Rattle.captures.specs.declared.Written.{Written}
 use Rattle.captures.specs.declared.Part.{Part}

@@ -1,9 +1,8 @@
 // Captures kept in a file: the writer and the reader of request 1. specs/Captures.antt says what each answers and what the writer leaves.
 // The reader answers places in the file it was lent, and copies nothing.
 use levels::sizes;
-use levels::table;
-use levels::table::Level;
-use levels::table::Row;
+use table::Level;
+use table::Row;
 ghost use mathlib.Core.Path.{_≡_};
 ghost use mathlib.Core.Bool.{true, cond, _&&_};
 ghost use Prim.Native.Nat.{_+_, _^_, _<_, _≤_};

@@ -11,10 +11,11 @@ use lib.ListN.{length, take, drop, length-take, length-drop}
 use lib.Seq.{length-take-le}
 use borrow.Author.Tests.{eqb-true, eqb-false}
 use Rattle.digits.proofs.Tests.{cond-told}
-use Rattle.levels.specs.declared.table.Row.{Row}
-use Rattle.levels.specs.declared.table.Level.{Level}
-use Rattle.levels.specs.declared.table.Level.the-variants.{Of, NoSuchLevel}
-use Rattle.levels.specs.Table.{levelOf, Shared}
+use Rattle.table.specs.declared.Row.{Row}
+use Rattle.table.specs.declared.Level.{Level}
+use Rattle.table.specs.declared.Level.the-variants.{Of, NoSuchLevel}
+use Rattle.table.specs.Table.{levelOf}
+use Rattle.levels.specs.Table.{Shared}
 use Rattle.levels.specs.Sizes.{onLevel, badLine}
 use Rattle.levels.proofs.Choice.{cond-by}
 use Rattle.captures.specs.declared.Part.{Part}

@@ -12,7 +12,7 @@ use lib.ListN.{length, set, take, replicate, length-append}
 use lib.Seq.{take-all, take-append-le, append-snoc, set-at}
 use borrow.Author.Tests.{lt-ltb, le-ltb}
 use Rattle.digits.specs.Sums.{sumTo}
-use Rattle.levels.specs.declared.table.Row.{Row}
+use Rattle.table.specs.declared.Row.{Row}
 use Rattle.tally.specs.Tally.{allOf}
 use Rattle.compare.specs.Compare.{placesTo, pairsOf, listOf}
 use Rattle.compare.specs.Counting.{putPlace}

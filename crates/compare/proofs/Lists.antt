@@ -8,7 +8,7 @@ use native.Mathlib.Nat.{div-add-mod', mod-lt}
 use lib.ListN.{length, getD, take, replicate, length-take, List·getD-append}
 use lib.Seq.{getD-append-add, getD-take}
 use Rattle.digits.proofs.Laws.{zeros-at}
-use Rattle.levels.specs.declared.table.Row.{Row}
+use Rattle.table.specs.declared.Row.{Row}
 use Rattle.tally.specs.Tally.{allOf}
 use Rattle.compare.specs.Compare.{placesTo, pairsOf, listOf}
 use Rattle.compare.specs.Promises.{entryOf, Lists}

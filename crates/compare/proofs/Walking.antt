@@ -13,7 +13,7 @@ use Rattle.digits.specs.Digits.{digitsOf}
 use Rattle.digits.specs.Sums.{sumTo}
 use Rattle.digits.proofs.Laws.{digit-at}
 use Rattle.digits.proofs.Sums.{sum-most}
-use Rattle.levels.specs.declared.table.Row.{Row}
+use Rattle.table.specs.declared.Row.{Row}
 use Rattle.tally.specs.Tally.{allOf, numberAt, oneMore, differAt}
 use Rattle.tally.proofs.Sums.{all-more, sums-same, sums-more, sums-none, sum-small}
 use Rattle.compare.specs.Compare.{placesTo, listOf}

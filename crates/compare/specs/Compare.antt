@@ -6,8 +6,8 @@ use mathlib.Core.List.{List, [], _∷_, _++_}
 use Prim.Native.Nat.{ℕ, zero, suc, _-_, _*_, _/_, _%_}
 use lib.Dec.{eqb}
 use lib.ListN.{length, take, replicate}
-use Rattle.levels.specs.declared.table.Row.{Row}
-use Rattle.levels.specs.Table.{levelOf}
+use Rattle.table.specs.declared.Row.{Row}
+use Rattle.table.specs.Table.{levelOf}
 use Rattle.levels.specs.Sizes.{onLevel}
 use Rattle.captures.specs.declared.Reading.{Reading}
 use Rattle.captures.specs.Captures.{readOf, bytesIn}

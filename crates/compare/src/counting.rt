@@ -2,7 +2,7 @@
 // at digit by digit.
 use levels::lent;
 use levels::places::FramePlace;
-use levels::table::Row;
+use table::Row;
 ghost use mathlib.Core.Path.{_≡_};
 ghost use mathlib.Core.Bool.{true};
 ghost use Prim.Native.Nat.{_+_, _*_, _<_, _≤_};

@@ -5,9 +5,8 @@ pub mod stretches;
 
 use captures::Part;
 use captures::Reading;
-use levels::table;
-use levels::table::Level;
-use levels::table::Row;
+use table::Level;
+use table::Row;
 ghost use mathlib.Core.Path.{_≡_};
 ghost use Prim.Native.Nat.{_+_, _<_, _≤_};
 ghost use lib.ListN.{length, replicate};

@@ -9,10 +9,9 @@ use console::say;
 use keeping::capture;
 use keeping::capture::Opened;
 use keeping::refusals;
-use levels::table;
-use levels::table::Level;
-use levels::table::Row;
 use recordings::sizes;
+use table::Level;
+use table::Row;
 ghost use Prim.Native.Nat.{_≤_};
 ghost use Rattle.levels.specs.Table.{Shared};
 

@@ -3,8 +3,8 @@
 use compare::Compared;
 use compare::stretches;
 use console::page::Page;
-use levels::table::Row;
 use recordings::sizes;
+use table::Row;
 use workbench::picture;
 ghost use Prim.Native.Nat.{_<_, _≤_};
 ghost use Rattle.levels.specs.Table.{Shared};

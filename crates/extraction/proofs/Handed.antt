@@ -10,7 +10,7 @@ use lib.ListN.{length, getD, replicate, length-append, length-replicate, List·g
 use lib.Seq.{getD-append-add}
 use Rattle.digits.specs.Digits.{Binary, digitsOf}
 use Rattle.digits.proofs.Laws.{digits-binary, digits-of-bytes, binary-append, zeros-at}
-use Rattle.levels.specs.declared.table.Row.{Row}
+use Rattle.table.specs.declared.Row.{Row}
 use Rattle.levels.specs.Order.{before, decisions, placesOf}
 use Rattle.levels.proofs.Inverse.{places-length}
 use Rattle.extraction.specs.Quarters.{takenTo, quarterFrom}

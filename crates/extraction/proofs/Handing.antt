@@ -13,7 +13,7 @@ use Rattle.digits.proofs.Written.{written-length}
 use Rattle.digits.proofs.Lists.{of-four}
 use Rattle.words.specs.declared.Writer.{Writer}
 use Rattle.words.specs.Words.{Ready, outFrom}
-use Rattle.levels.specs.declared.table.Row.{Row}
+use Rattle.table.specs.declared.Row.{Row}
 use Rattle.levels.specs.Table.{Shared}
 use Rattle.levels.specs.Sizes.{Fits}
 use Rattle.levels.specs.Order.{before, decisions, placesOf}

@@ -13,7 +13,7 @@ use Rattle.digits.specs.Digits.{digitsOf, bytesOf, tab}
 use Rattle.digits.proofs.Laws.{bytes-length, tab-of}
 use Rattle.words.specs.declared.Writer.{Writer}
 use Rattle.words.specs.Words.{outFrom}
-use Rattle.levels.specs.declared.table.Row.{Row}
+use Rattle.table.specs.declared.Row.{Row}
 use Rattle.levels.specs.Order.{decisions, countOf, countsOf}
 use Rattle.levels.proofs.Counts.{count-of}
 use Rattle.unweave.specs.declared.Writers.{Writers}

@@ -5,9 +5,9 @@ use mathlib.Core.Path.{_≡_}
 use mathlib.Core.List.{List}
 use Prim.Native.Nat.{ℕ, _/_}
 use lib.ListN.{length}
-use Rattle.levels.specs.declared.table.Row.{Row}
+use Rattle.table.specs.declared.Row.{Row}
 use Rattle.levels.specs.declared.judging.Counted.{Counted}
-use Rattle.levels.specs.Table.{levelOf}
+use Rattle.table.specs.Table.{levelOf}
 use Rattle.levels.specs.Sizes.{onLevel}
 use Rattle.levels.specs.Judging.{answered, leftOn}
 use Rattle.extraction.specs.Quarters.{quartersFrom}

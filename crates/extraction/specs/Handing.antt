@@ -6,7 +6,7 @@ use Prim.Native.Nat.{ℕ, _*_, _<_}
 use lib.ListN.{length}
 use Rattle.digits.specs.Digits.{digitsOf}
 use Rattle.words.specs.Words.{outFrom}
-use Rattle.levels.specs.declared.table.Row.{Row}
+use Rattle.table.specs.declared.Row.{Row}
 use Rattle.levels.specs.Sizes.{Fits}
 use Rattle.unweave.specs.declared.Writers.{Writers}
 use Rattle.unweave.specs.Quarters.{partOf, writerOf, Roomy}

@@ -3,7 +3,7 @@ use mathlib.Core.List.{List, _++_, map}
 use Prim.Native.Nat.{ℕ, _*_, _-_}
 use lib.ListN.{length, getD, replicate}
 use Rattle.digits.specs.Digits.{digitsOf, bytesOf}
-use Rattle.levels.specs.declared.table.Row.{Row}
+use Rattle.table.specs.declared.Row.{Row}
 use Rattle.levels.specs.Order.{decisions, placesOf}
 
 -- the digits of tributary j (from 0) that the first x columns of a line with these digits carry, by the notes

@@ -1,7 +1,7 @@
 // The tributaries of a line, frame by frame and set by set, all four at once: each set hands its run to the four writers, and each frame acts on
 // its own note. A writer's end leaves its quarter whole.
 use levels::order;
-use levels::table::Row;
+use table::Row;
 use unweave::Writers;
 use words::Writer;
 ghost use mathlib.Core.Path.{_≡_};

@@ -3,7 +3,6 @@
 use console::files;
 use console::progress;
 use console::say;
-use levels::table::Row;
 use passages::passage;
 use passages::passage::OpenFiles;
 use passages::passage::Passage;
@@ -14,6 +13,7 @@ use recordings::sizes;
 use recordings::watch;
 use recordings::watch::Change;
 use recordings::watch::Heard;
+use table::Row;
 use taking::apart;
 ghost use mathlib.Core.Path.{_≡_};
 ghost use Prim.Native.Nat.{_<_, _≤_};

@@ -2,10 +2,9 @@
 use crate::capture::Opened;
 use console::files;
 use console::say;
-use levels::table;
-use levels::table::Level;
-use levels::table::Row;
 use recordings::sizes;
+use table::Level;
+use table::Row;
 ghost use Prim.Native.Nat.{_<_};
 
 // Where the level stands, and where the fields of level and line begin.

@@ -2,8 +2,8 @@
 use crate::capture;
 use captures::Reading;
 use console::files;
-use levels::table::Row;
 use recordings::sizes;
+use table::Row;
 ghost use Rattle.levels.specs.Table.{Shared};
 
 // Word k names the file that the line is written to.

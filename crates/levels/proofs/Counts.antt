@@ -11,7 +11,7 @@ use native.Mathlib.Nat.{add-zero, suc-mul, zero-mul, mul-left-comm, mul-le-mul}
 use lib.Dec.{eqb, leb}
 use borrow.Author.Tests.{le-leb, lt-leb, eq-eqb, ne-eqb}
 use Rattle.digits.specs.Sums.{sumTo}
-use Rattle.levels.specs.declared.table.Row.{Row}
+use Rattle.table.specs.declared.Row.{Row}
 use Rattle.levels.specs.Table.{Shared}
 use Rattle.levels.specs.Order.{carries, before, stuffedTo, countOf}
 use Rattle.levels.proofs.Choice.{cond-by}

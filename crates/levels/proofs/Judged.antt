@@ -8,7 +8,7 @@ use native.Mathlib.Nat.{mul-le-mul, div-add-mod'}
 use lib.Dec.{eqb, ltb}
 use native.Mathlib.Decide.{ℕ-discrete}
 use borrow.Author.Tests.{eq-eqb, ne-eqb, le-ltb, eqb-true, ltb-false, not-false}
-use Rattle.levels.specs.declared.table.Row.{Row}
+use Rattle.table.specs.declared.Row.{Row}
 use Rattle.levels.specs.Table.{Shared}
 use Rattle.levels.specs.Sizes.{framesOf, badLine, badNotes, badBuffer, framesRefusal, sizeRefusal, Framed, Accepted, Fits}
 

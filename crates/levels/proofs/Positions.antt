@@ -5,7 +5,7 @@ use Prim.Native.Nat.{ℕ, _+_, _*_, _/_, _%_, _-_, _≤_, _<_}
 use native.Mathlib.Omega.{arith}
 use native.Mathlib.Nat.{div-add-mod', mod-lt, div-lt-iff-lt-mul, add-mul, one-mul}
 use lib.Arith.{digits-lt, digits-div, digits-mod}
-use Rattle.levels.specs.declared.table.Row.{Row}
+use Rattle.table.specs.declared.Row.{Row}
 use Rattle.levels.specs.declared.places.At.{At}
 use Rattle.levels.specs.Table.{Shared}
 use Rattle.levels.specs.Places.{posOf}

@@ -6,10 +6,11 @@ use native.Mathlib.Omega.{arith}
 use lib.Dec.{eqb, lit<}
 use borrow.Author.Tests.{eqb-true}
 use Rattle.digits.specs.Digits.{written, zerosIn}
-use Rattle.levels.specs.declared.table.Row.{Row}
-use Rattle.levels.specs.declared.table.Level.{Level}
-use Rattle.levels.specs.declared.table.Level.the-variants.{Of, NoSuchLevel}
-use Rattle.levels.specs.Table.{levelOf, row2, row3, row4, Shared}
+use Rattle.table.specs.declared.Row.{Row}
+use Rattle.table.specs.declared.Level.{Level}
+use Rattle.table.specs.declared.Level.the-variants.{Of, NoSuchLevel}
+use Rattle.table.specs.Table.{levelOf, row2, row3, row4}
+use Rattle.levels.specs.Table.{Shared}
 use Rattle.levels.proofs.Choice.{cond-by}
 
 pub shared2 : Shared row2

@@ -8,7 +8,7 @@ use native.Mathlib.Decide.{ℕ-discrete}
 use native.Mathlib.Nat.{add-zero, add-suc}
 use lib.Dec.{eqb}
 use borrow.Author.Tests.{eq-eqb, ne-eqb}
-use Rattle.levels.specs.declared.table.Row.{Row}
+use Rattle.table.specs.declared.Row.{Row}
 use Rattle.levels.specs.declared.places.Kind.the-variants.{Tributary}
 use Rattle.levels.specs.Table.{Shared}
 use Rattle.levels.specs.Places.{headEnd, kindOf, kindAt, posOf}

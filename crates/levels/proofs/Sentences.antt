@@ -5,7 +5,7 @@ use Prim.Native.Nat.{ℕ, _+_, _*_, _/_, _%_, _≤_, _<_}
 use native.Mathlib.Omega.{arith}
 use native.Mathlib.Decide.{decLt, ℕ-discrete}
 use native.Mathlib.Nat.{mul-left-comm, zero-mul, div-eq-of-lt}
-use Rattle.levels.specs.declared.table.Row.{Row}
+use Rattle.table.specs.declared.Row.{Row}
 use Rattle.levels.specs.declared.places.At.{At}
 use Rattle.levels.specs.declared.places.Kind.{Kind}
 use Rattle.levels.specs.declared.places.Kind.the-variants.{Control, Justification, Tributary}

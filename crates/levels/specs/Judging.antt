@@ -6,10 +6,10 @@ use mathlib.Core.List.{List, [], _∷_}
 use Prim.Native.Nat.{ℕ, suc, _+_, _^_}
 use lib.Dec.{eqb, ltb, leb}
 use lib.ListN.{length}
-use Rattle.levels.specs.declared.table.Row.{Row}
+use Rattle.table.specs.declared.Row.{Row}
 use Rattle.levels.specs.declared.judging.Fault.{Fault}
 use Rattle.levels.specs.declared.judging.Counted.{Counted}
-use Rattle.levels.specs.Table.{levelOf}
+use Rattle.table.specs.Table.{levelOf}
 use Rattle.levels.specs.Sizes.{onLevel, sizeRefusal}
 use Rattle.levels.specs.Order.{countsOf}
 

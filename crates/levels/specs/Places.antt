@@ -4,7 +4,7 @@
 use mathlib.Core.Bool.{Bool, cond, true, false}
 use Prim.Native.Nat.{ℕ, zero, suc, _-_, _/_, _%_}
 use lib.Dec.{eqb, ltb}
-use Rattle.levels.specs.declared.table.Row.{Row}
+use Rattle.table.specs.declared.Row.{Row}
 use Rattle.levels.specs.declared.places.At.{At}
 use Rattle.levels.specs.declared.places.ServiceDigit.{ServiceDigit}
 use Rattle.levels.specs.declared.places.ServiceDigit.the-variants.{RemoteAlarm, FirstNational, SecondNational, ThirdNational}

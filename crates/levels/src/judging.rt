@@ -1,6 +1,6 @@
 // What a call that goes by notes is judged by, refusals 2 to 5, and what it answers. Multiplexing and extracting by notes share it.
 use crate::sizes;
-use crate::table::Row;
+use table::Row;
 ghost use mathlib.Core.Path.{_≡_};
 ghost use Prim.Native.Nat.{_^_, _<_};
 ghost use lib.ListN.{length};

@@ -1,19 +1,20 @@
 // What a place of a frame is, and the walk along a tributary's own places, a column of four places at a time.
-use crate::table::CONTROL_END;
-use crate::table::JUSTIFICATION;
-use crate::table::JUSTIFICATION_END;
-use crate::table::Row;
-use crate::table::TEN_ALARM;
-use crate::table::TEN_END;
-use crate::table::TEN_NATIONAL;
-use crate::table::TWELVE_ALARM;
-use crate::table::TWELVE_END;
-use crate::table::TWELVE_NATIONAL;
-use crate::table::TWELVE_SECOND;
-use crate::table::TWELVE_THIRD;
+use table::CONTROL_END;
+use table::JUSTIFICATION;
+use table::JUSTIFICATION_END;
+use table::Row;
+use table::TEN_ALARM;
+use table::TEN_END;
+use table::TEN_NATIONAL;
+use table::TWELVE_ALARM;
+use table::TWELVE_END;
+use table::TWELVE_NATIONAL;
+use table::TWELVE_SECOND;
+use table::TWELVE_THIRD;
 ghost use mathlib.Core.Path.{_≡_};
 ghost use Prim.Native.Nat.{ℕ, _+_, _%_, _<_, _≤_};
-ghost use Rattle.levels.specs.Table.{Shared, row2, row4};
+ghost use Rattle.table.specs.Table.{row2, row4};
+ghost use Rattle.levels.specs.Table.{Shared};
 ghost use Rattle.levels.specs.Places.{firstSet, middleSet, lastSet, headEnd, kindOf, kindAt, posOf, isOwn};
 
 // A place in a frame, 0 to N - 1, counted on from frame to frame in a line, and a place in a tributary: the number of a digit in

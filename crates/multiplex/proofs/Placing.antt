@@ -16,7 +16,7 @@ use Rattle.digits.specs.Digits.{tab, written}
 use Rattle.digits.proofs.Lists.{tab-more}
 use Rattle.digits.proofs.Windows.{window-more}
 use Rattle.digits.proofs.Written.{written-one, written-cat}
-use Rattle.levels.specs.declared.table.Row.{Row}
+use Rattle.table.specs.declared.Row.{Row}
 use Rattle.levels.specs.declared.places.At.{At}
 use Rattle.levels.specs.declared.places.Kind.{Kind}
 use Rattle.levels.specs.Table.{Shared}

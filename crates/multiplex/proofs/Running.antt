@@ -13,7 +13,7 @@ use Rattle.digits.proofs.Lists.{tab-cat, tab-four, of-four}
 use Rattle.words.specs.declared.Writer.{Writer}
 use Rattle.words.specs.Words.{Ready, outFrom, Appended, zerosAfter, Finished}
 use Rattle.weave.specs.Weave.{woven, Has}
-use Rattle.levels.specs.declared.table.Row.{Row}
+use Rattle.table.specs.declared.Row.{Row}
 use Rattle.levels.specs.Table.{Shared}
 use Rattle.levels.specs.Places.{headEnd, kindAt}
 use Rattle.levels.specs.Order.{decisions, before, countOf, countsOf}

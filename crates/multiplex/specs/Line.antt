@@ -5,7 +5,7 @@ use mathlib.Core.List.{List}
 use Prim.Native.Nat.{ℕ, _*_, _/_, _%_, _^_}
 use lib.ListN.{getD}
 use Rattle.digits.specs.Digits.{bytesOf, tab}
-use Rattle.levels.specs.declared.table.Row.{Row}
+use Rattle.table.specs.declared.Row.{Row}
 use Rattle.levels.specs.declared.places.ServiceDigit.{ServiceDigit}
 use Rattle.levels.specs.declared.places.ServiceDigit.the-variants.{RemoteAlarm, FirstNational, SecondNational, ThirdNational}
 use Rattle.levels.specs.declared.places.Kind.{Kind}

@@ -2,11 +2,11 @@
 use console::files;
 use console::help;
 use console::say;
-use levels::table::Row;
 use passages::passage;
 use passages::passage::OpenFiles;
 use passages::passage::Passage;
 use passages::passage::Totals;
+use table::Row;
 use taking::rows;
 use taking::runs;
 ghost use Rattle.levels.specs.Table.{Shared};

@@ -2,8 +2,8 @@
 use crate::passage;
 use crate::passage::Passage;
 use crate::send;
-use levels::table::Row;
 use recordings::sizes;
+use table::Row;
 ghost use Prim.Native.Nat.{_*_, _≤_};
 ghost use Rattle.levels.specs.Table.{Shared};
 ghost use Rattle.recordings.specs.Sizes.{longest};

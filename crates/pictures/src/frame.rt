@@ -5,7 +5,7 @@ use crate::text;
 use console::files;
 use console::page::Page;
 use console::say;
-use levels::table::Row;
+use table::Row;
 use workbench::picture;
 ghost use Rattle.levels.specs.Table.{Shared};
 

@@ -4,7 +4,7 @@ use console::say;
 use levels::order;
 use levels::places;
 use levels::places::FramePlace;
-use levels::table::Row;
+use table::Row;
 use workbench::picture;
 ghost use Prim.Native.Nat.{_<_, _≤_};
 ghost use Rattle.levels.specs.Table.{Shared};

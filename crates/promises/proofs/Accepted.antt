@@ -14,10 +14,11 @@ use Rattle.digits.specs.Digits.{digitsOf, Binary}
 use Rattle.digits.proofs.Laws.{digits-length, digits-binary, digits-of-bytes, bytes-length, tab-length, map-binary, binary-append, zeros-binary}
 use Rattle.digits.proofs.Lists.{of-four}
 use Rattle.levels.proofs.Buffers.{quarter-at, quarter-length}
-use Rattle.levels.specs.declared.table.Row.{Row}
-use Rattle.levels.specs.declared.table.Level.{Level}
-use Rattle.levels.specs.declared.table.Level.the-variants.{Of, NoSuchLevel}
-use Rattle.levels.specs.Table.{Shared, levelOf}
+use Rattle.table.specs.declared.Row.{Row}
+use Rattle.table.specs.declared.Level.{Level}
+use Rattle.table.specs.declared.Level.the-variants.{Of, NoSuchLevel}
+use Rattle.table.specs.Table.{levelOf}
+use Rattle.levels.specs.Table.{Shared}
 use Rattle.levels.specs.Sizes.{onLevel, framesOf, sizeRefusal, quarterOf, Accepted}
 use Rattle.levels.specs.Order.{decisions, countOf, countsOf, placesOf}
 use Rattle.levels.proofs.Rows.{shared-row}

@@ -17,11 +17,12 @@ use Rattle.digits.specs.Sums.{sumTo}
 use Rattle.digits.proofs.Laws.{by-digit, digits-binary, tab-at, tab-length, tab-binary, zeros-at, zeros-binary}
 use Rattle.digits.proofs.Lists.{of-four, differing-more}
 use Rattle.digits.proofs.Sums.{sum-all}
-use Rattle.levels.specs.declared.table.Row.{Row}
+use Rattle.table.specs.declared.Row.{Row}
 use Rattle.levels.specs.declared.places.ServiceDigit.the-variants.{RemoteAlarm, FirstNational, SecondNational, ThirdNational}
 use Rattle.levels.specs.declared.places.Kind.{Kind}
 use Rattle.levels.specs.declared.places.Kind.the-variants.{Word, Service, Control, Justification, Tributary}
-use Rattle.levels.specs.Table.{Shared, row2, row3, row4, levelOf}
+use Rattle.table.specs.Table.{row2, row3, row4, levelOf}
+use Rattle.levels.specs.Table.{Shared}
 use Rattle.levels.specs.Sizes.{framesRefusal, sizeRefusal}
 use Rattle.levels.specs.Places.{firstSet, middleSet, lastSet, kindOf, kindAt, posOf}
 use Rattle.levels.specs.Order.{stuffed, decisions, carries, before, placesOf, countOf}

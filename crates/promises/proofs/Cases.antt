@@ -14,9 +14,9 @@ use borrow.Author.Tests.{eq-eqb, le-ltb}
 use Rattle.digits.specs.Digits.{bytesOf, tab, digitsOf}
 use Rattle.digits.proofs.Laws.{digit-at, tab-of, tab-at, tab-length, zeros-at}
 use Rattle.digits.specs.Sums.{sumTo}
-use Rattle.levels.specs.declared.table.Row.{Row}
-use Rattle.levels.specs.declared.table.Level.the-variants.{Of}
-use Rattle.levels.specs.Table.{levelOf, row2, row3, row4}
+use Rattle.table.specs.declared.Row.{Row}
+use Rattle.table.specs.declared.Level.the-variants.{Of}
+use Rattle.table.specs.Table.{levelOf, row2, row3, row4}
 use Rattle.levels.specs.Places.{firstSet, middleSet, lastSet, kindOf, posOf}
 use Rattle.levels.specs.Order.{carries, decisions, before, placesOf, countOf, countsOf}
 use Rattle.levels.specs.Sizes.{quarterOf, framesRefusal, sizeRefusal}

@@ -12,9 +12,10 @@ use lib.Seq.{getD-take, ext-getD}
 use Rattle.digits.specs.Digits.{digitsOf, Binary}
 use Rattle.digits.proofs.Laws.{digits-binary, bytes-length, tab-length}
 use Rattle.digits.proofs.Lists.{differing-self}
-use Rattle.levels.specs.declared.table.Row.{Row}
-use Rattle.levels.specs.declared.table.Level.the-variants.{Of}
-use Rattle.levels.specs.Table.{Shared, levelOf}
+use Rattle.table.specs.declared.Row.{Row}
+use Rattle.table.specs.declared.Level.the-variants.{Of}
+use Rattle.table.specs.Table.{levelOf}
+use Rattle.levels.specs.Table.{Shared}
 use Rattle.levels.specs.Places.{kindAt, posOf}
 use Rattle.levels.specs.Sizes.{quarterOf}
 use Rattle.levels.specs.Order.{decisions, carries}

@@ -13,12 +13,13 @@ use lib.Seq.{getD-take, getD-drop, getD-append-add}
 use borrow.Author.Tests.{eq-eqb}
 use Rattle.digits.specs.Digits.{digitsOf}
 use Rattle.digits.proofs.Laws.{digits-length, tab-length}
-use Rattle.levels.specs.declared.table.Row.{Row}
-use Rattle.levels.specs.declared.table.Level.{Level}
-use Rattle.levels.specs.declared.table.Level.the-variants.{Of, NoSuchLevel}
+use Rattle.table.specs.declared.Row.{Row}
+use Rattle.table.specs.declared.Level.{Level}
+use Rattle.table.specs.declared.Level.the-variants.{Of, NoSuchLevel}
 use Rattle.levels.specs.declared.places.Kind.{Kind}
 use Rattle.levels.specs.declared.places.Kind.the-variants.{Word, Service, Control, Justification, Tributary}
-use Rattle.levels.specs.Table.{Shared, levelOf}
+use Rattle.table.specs.Table.{levelOf}
+use Rattle.levels.specs.Table.{Shared}
 use Rattle.levels.specs.Sizes.{onLevel, framesRefusal, Accepted}
 use Rattle.levels.specs.Places.{kindAt, posOf, isOwn}
 use Rattle.levels.specs.Order.{stuffed, decisions, carried, carries, countOf, countsOf}

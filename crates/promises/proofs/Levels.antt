@@ -15,11 +15,12 @@ use Rattle.digits.specs.Digits.{digitsOf, tab, differing}
 use Rattle.digits.proofs.Laws.{digits-binary, map-append, tab-at, tab-length}
 use Rattle.digits.proofs.Lists.{tab-more}
 use Rattle.digits.proofs.Sums.{sum-same}
-use Rattle.levels.specs.declared.table.Row.{Row}
-use Rattle.levels.specs.declared.table.Level.the-variants.{Of}
+use Rattle.table.specs.declared.Row.{Row}
+use Rattle.table.specs.declared.Level.the-variants.{Of}
 use Rattle.levels.specs.declared.places.Kind.{Kind}
 use Rattle.levels.specs.declared.places.Kind.the-variants.{Word, Service, Control, Justification, Tributary}
-use Rattle.levels.specs.Table.{Shared, levelOf, row2, row3, row4}
+use Rattle.table.specs.Table.{levelOf, row2, row3, row4}
+use Rattle.levels.specs.Table.{Shared}
 use Rattle.levels.specs.Places.{isOwn, kindOf, kindAt, posOf}
 use Rattle.levels.specs.Order.{decisions}
 use Rattle.levels.specs.Vote.{groupOf}

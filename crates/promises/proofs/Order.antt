@@ -10,7 +10,7 @@ use lib.ListN.{length, getD, take}
 use lib.Seq.{take-suc}
 use Rattle.digits.proofs.Laws.{map-append}
 use Rattle.digits.proofs.Sums.{sum-same}
-use Rattle.levels.specs.declared.table.Row.{Row}
+use Rattle.table.specs.declared.Row.{Row}
 use Rattle.levels.specs.Table.{Shared}
 use Rattle.levels.specs.Places.{posOf}
 use Rattle.levels.specs.Order.{carries, before, placesOf, stuffedTo, countOf}

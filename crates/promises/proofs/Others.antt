@@ -9,7 +9,7 @@ use lib.ListN.{getD}
 use Rattle.digits.specs.Digits.{Binary}
 use Rattle.digits.proofs.Sums.{sum-same}
 use Rattle.levels.proofs.Groups.{group-same}
-use Rattle.levels.specs.declared.table.Row.{Row}
+use Rattle.table.specs.declared.Row.{Row}
 use Rattle.levels.specs.declared.vote.Vote.{Vote}
 use Rattle.levels.specs.Table.{Shared}
 use Rattle.levels.specs.Order.{decisions}

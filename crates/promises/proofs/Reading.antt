@@ -10,7 +10,7 @@ use lib.ListN.{getD}
 use Rattle.digits.specs.Digits.{Binary}
 use Rattle.digits.proofs.Laws.{tab-at}
 use Rattle.digits.proofs.Lists.{of-four}
-use Rattle.levels.specs.declared.table.Row.{Row}
+use Rattle.table.specs.declared.Row.{Row}
 use Rattle.levels.specs.Table.{Shared}
 use Rattle.levels.specs.Order.{decisions}
 use Rattle.levels.proofs.Choice.{cond-by}

@@ -9,7 +9,7 @@ use lib.ListN.{length, getD, take}
 use Rattle.digits.specs.Digits.{Binary, differing}
 use Rattle.digits.proofs.Sums.{sum-same}
 use Rattle.levels.proofs.Groups.{group-binary, differing-votes}
-use Rattle.levels.specs.declared.table.Row.{Row}
+use Rattle.table.specs.declared.Row.{Row}
 use Rattle.levels.specs.declared.vote.Vote.{Vote}
 use Rattle.levels.specs.declared.places.Kind.{Kind}
 use Rattle.levels.specs.declared.places.Kind.the-variants.{Word, Service, Control, Justification, Tributary}

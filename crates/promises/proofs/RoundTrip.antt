@@ -16,7 +16,7 @@ use Rattle.digits.specs.Sums.{sumTo}
 use Rattle.digits.proofs.Laws.{tab-of, tab-length, tab-binary}
 use Rattle.digits.proofs.Lists.{differing-self, byte-of-bits}
 use Rattle.digits.proofs.Sums.{sum-all}
-use Rattle.levels.specs.declared.table.Row.{Row}
+use Rattle.table.specs.declared.Row.{Row}
 use Rattle.levels.specs.declared.vote.Vote.{Vote}
 use Rattle.levels.specs.declared.places.Kind.{Kind}
 use Rattle.levels.specs.declared.places.Kind.the-variants.{Word, Service, Control, Justification, Tributary}

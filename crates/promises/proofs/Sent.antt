@@ -9,7 +9,7 @@ use lib.ListN.{getD, replicate}
 use lib.Arith.{digits-lt}
 use Rattle.digits.proofs.Laws.{tab-at}
 use Rattle.levels.proofs.Groups.{group-all}
-use Rattle.levels.specs.declared.table.Row.{Row}
+use Rattle.table.specs.declared.Row.{Row}
 use Rattle.levels.specs.declared.places.Kind.the-variants.{Tributary}
 use Rattle.levels.specs.Table.{Shared}
 use Rattle.levels.specs.Places.{kindOf, kindAt, posOf}

@@ -8,7 +8,7 @@ use lib.Dec.{leb}
 use lib.ListN.{getD, replicate}
 use Rattle.digits.specs.Digits.{tab, digitsOf, differing}
 use Rattle.digits.specs.Sums.{sumTo}
-use Rattle.levels.specs.declared.table.Row.{Row}
+use Rattle.table.specs.declared.Row.{Row}
 use Rattle.levels.specs.Places.{posOf}
 use Rattle.levels.specs.Order.{decisions}
 use Rattle.reading.specs.Notes.{dissentTo}

@@ -7,8 +7,8 @@ use mathlib.Core.List.{List, [], _∷_}
 use Prim.Native.Nat.{ℕ, _*_, _/_, _%_, _≤_, _<_}
 use lib.ListN.{length, getD, take}
 use Rattle.digits.specs.Digits.{digitsOf}
-use Rattle.levels.specs.declared.table.Row.{Row}
-use Rattle.levels.specs.Table.{levelOf}
+use Rattle.table.specs.declared.Row.{Row}
+use Rattle.table.specs.Table.{levelOf}
 use Rattle.levels.specs.Sizes.{onLevel, quarterOf}
 use Rattle.levels.specs.Order.{decisions}
 use Rattle.levels.specs.Judging.{answered}

@@ -7,7 +7,7 @@ use mathlib.Core.List.{List}
 use Prim.Native.Nat.{ℕ, _+_, _*_, _/_, _^_, _≤_, _<_}
 use lib.ListN.{length, getD, take}
 use Rattle.digits.specs.Digits.{Binary}
-use Rattle.levels.specs.declared.table.Row.{Row}
+use Rattle.table.specs.declared.Row.{Row}
 use Rattle.levels.specs.Order.{decisions, countOf}
 use Rattle.reading.specs.Notes.{voteAt, notesOf, alignmentTo, dissentTo}
 use Rattle.extraction.specs.Quarters.{takenTo}

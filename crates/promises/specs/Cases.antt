@@ -4,8 +4,8 @@ use mathlib.Core.Bool.{Bool, true, false}
 use mathlib.Core.List.{List, [], _∷_}
 use Prim.Native.Nat.{ℕ, _*_, _-_, _/_, _≤_}
 use lib.ListN.{length, getD, set, replicate}
-use Rattle.levels.specs.declared.table.Row.{Row}
-use Rattle.levels.specs.Table.{levelOf}
+use Rattle.table.specs.declared.Row.{Row}
+use Rattle.table.specs.Table.{levelOf}
 use Rattle.levels.specs.Sizes.{onLevel}
 use Rattle.levels.specs.Order.{placesOf}
 use Rattle.levels.specs.Vote.{voteOf}

@@ -7,10 +7,10 @@ use Prim.Native.Nat.{ℕ, _%_, _<_}
 use lib.Dec.{eqb}
 use lib.ListN.{length, getD, take, drop}
 use Rattle.digits.specs.Digits.{digitsOf}
-use Rattle.levels.specs.declared.table.Row.{Row}
+use Rattle.table.specs.declared.Row.{Row}
 use Rattle.levels.specs.declared.places.Kind.{Kind}
 use Rattle.levels.specs.declared.places.Kind.the-variants.{Word, Service, Control, Justification, Tributary}
-use Rattle.levels.specs.Table.{levelOf}
+use Rattle.table.specs.Table.{levelOf}
 use Rattle.levels.specs.Sizes.{onLevel, quarterOf}
 use Rattle.levels.specs.Places.{kindAt}
 use Rattle.levels.specs.Order.{stuffed, decisions}

@@ -8,9 +8,9 @@ use Prim.Native.Nat.{ℕ, _/_}
 use lib.Dec.{eqb}
 use lib.ListN.{length}
 use Rattle.digits.specs.Digits.{digitsOf}
-use Rattle.levels.specs.declared.table.Row.{Row}
+use Rattle.table.specs.declared.Row.{Row}
 use Rattle.levels.specs.declared.judging.Counted.{Counted}
-use Rattle.levels.specs.Table.{levelOf}
+use Rattle.table.specs.Table.{levelOf}
 use Rattle.levels.specs.Sizes.{onLevel, sizeRefusal}
 use Rattle.levels.specs.Order.{countsOf}
 use Rattle.levels.specs.Judging.{answered}

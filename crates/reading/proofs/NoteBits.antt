@@ -13,7 +13,7 @@ use lib.Pow.{shr-shr}
 use borrow.Author.Tests.{lt-leb}
 use Rattle.digits.specs.Digits.{Binary, tab}
 use Rattle.digits.proofs.Laws.{tab-at, tab-binary, binary-append}
-use Rattle.levels.specs.declared.table.Row.{Row}
+use Rattle.table.specs.declared.Row.{Row}
 use Rattle.levels.specs.Order.{stuffed}
 use Rattle.levels.proofs.Choice.{cond-by}
 use Rattle.reading.specs.Notes.{bitOf, voteAt, serviceAt, noteOf}

@@ -14,7 +14,7 @@ use Rattle.digits.specs.Digits.{digitsOf}
 use Rattle.digits.specs.Sums.{sumTo}
 use Rattle.digits.proofs.Laws.{tab-of}
 use Rattle.digits.proofs.Sums.{sum-most}
-use Rattle.levels.specs.declared.table.Row.{Row}
+use Rattle.table.specs.declared.Row.{Row}
 use Rattle.levels.specs.Table.{Shared}
 use Rattle.levels.specs.Vote.{groupOf}
 use Rattle.levels.specs.Word.{wordDigit, wrongDigits}

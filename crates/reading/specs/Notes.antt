@@ -8,7 +8,7 @@ use lib.Dec.{leb}
 use lib.ListN.{getD}
 use Rattle.digits.specs.Digits.{tab}
 use Rattle.digits.specs.Sums.{sumTo}
-use Rattle.levels.specs.declared.table.Row.{Row}
+use Rattle.table.specs.declared.Row.{Row}
 use Rattle.levels.specs.declared.vote.Vote.{Vote}
 use Rattle.levels.specs.Vote.{voteOf, groupOf}
 use Rattle.levels.specs.Word.{wrongDigits}

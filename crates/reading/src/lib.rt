@@ -3,12 +3,11 @@
 use levels::lent;
 use levels::places::FramePlace;
 use levels::sizes;
-use levels::table;
-use levels::table::Level;
-use levels::table::Row;
 use levels::vote;
 use levels::vote::Vote;
 use levels::word;
+use table::Level;
+use table::Row;
 ghost use mathlib.Core.Path.{_≡_};
 ghost use Prim.Native.Nat.{_+_, _*_, _<_, _≤_};
 ghost use lib.ListN.{length, getD};

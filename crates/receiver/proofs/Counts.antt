@@ -8,7 +8,7 @@ use lib.Dec.{eqb}
 use lib.ListN.{length, getD}
 use Rattle.digits.specs.Digits.{digitsOf, between, zerosIn}
 use Rattle.digits.proofs.ZeroLaws.{between-none, between-one, between-join, between-length}
-use Rattle.levels.specs.declared.table.Row.{Row}
+use Rattle.table.specs.declared.Row.{Row}
 use Rattle.receiver.specs.declared.alarm.Stretch.{Stretch}
 use Rattle.receiver.specs.Alarm.{added, countOf, counted, Counting}
 use Rattle.receiver.proofs.Validity.{cond-told}

@@ -9,7 +9,7 @@ use lib.Pow.{shl-lt}
 use Rattle.digits.specs.Digits.{digitsOf, eight, Bytes, Binary, written}
 use Rattle.digits.proofs.Laws.{digits-length, bytes-of-digits, digits-of-bytes, bytes-length}
 use Rattle.digits.proofs.Lists.{binary-zeros, binary-append}
-use Rattle.levels.specs.declared.table.Row.{Row}
+use Rattle.table.specs.declared.Row.{Row}
 use Rattle.levels.specs.Table.{Shared}
 use Rattle.receiver.specs.Frame.{holding, begun, put}
 use Rattle.digits.proofs.Written.{written-length, written-split, written-shift, written-mod}

@@ -9,7 +9,7 @@ use lib.ListN.{length, getD}
 use lib.Seq.{drop-cons}
 use Rattle.digits.specs.Digits.{digitsOf, between}
 use Rattle.digits.proofs.Laws.{digits-length}
-use Rattle.levels.specs.declared.table.Row.{Row}
+use Rattle.table.specs.declared.Row.{Row}
 use Rattle.receiver.specs.declared.modes.Core.{Core}
 use Rattle.receiver.specs.declared.alarm.Stretch.{Stretch}
 use Rattle.receiver.specs.Modes.{stepOf, testedAt}

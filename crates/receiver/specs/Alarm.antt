@@ -3,7 +3,7 @@ use mathlib.Core.Bool.{Bool, cond, true, false, _||_}
 use mathlib.Core.List.{List, [], _∷_}
 use Prim.Native.Nat.{ℕ, _+_, _-_, _≤_, _<_}
 use lib.Dec.{eqb, leb, ltb}
-use Rattle.levels.specs.declared.table.Row.{Row}
+use Rattle.table.specs.declared.Row.{Row}
 use Rattle.receiver.specs.declared.alarm.Stretch.{Stretch}
 
 -- "at most four zeros (five at level 4)": the limit is a number of the row

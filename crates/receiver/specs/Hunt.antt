@@ -2,7 +2,7 @@
 use mathlib.Core.Path.{_≡_}
 use mathlib.Core.List.{List}
 use Prim.Native.Nat.{ℕ, _+_, _-_, _≤_, _<_, min}
-use Rattle.levels.specs.declared.table.Row.{Row}
+use Rattle.table.specs.declared.Row.{Row}
 use Rattle.receiver.specs.declared.Mode.the-variants.{Hunting}
 use Rattle.digits.specs.Digits.{between}
 use Rattle.receiver.specs.declared.modes.Core.{Core}

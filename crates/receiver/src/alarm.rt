@@ -1,5 +1,5 @@
 // Alarm indication: the digits taken, cut into stretches of N, and the zeros of each. Nothing here looks at the mode.
-use levels::table::Row;
+use table::Row;
 ghost use mathlib.Core.Path.{_≡_};
 ghost use Prim.Native.Nat.{_+_, _*_, _-_, _≤_, min};
 ghost use lib.ListN.{length};

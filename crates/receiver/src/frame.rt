@@ -1,6 +1,6 @@
 // The frame in hand: what a digit does to it, and when it is handed over.
 use crate::modes::Core;
-use levels::table::Row;
+use table::Row;
 ghost use mathlib.Core.Path.{_≡_};
 ghost use Prim.Native.Nat.{_+_, _-_, _^_, _<_};
 ghost use Rattle.levels.specs.Table.{Shared};

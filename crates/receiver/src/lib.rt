@@ -7,8 +7,8 @@ mod modes;
 
 use crate::alarm::Stretch;
 use crate::modes::Core;
-use levels::table::Level;
-use levels::table::Row;
+use table::Level;
+use table::Row;
 ghost use mathlib.Core.Path.{_≡_};
 ghost use Prim.Native.Nat.{_+_, _*_, _-_, _<_, _≤_};
 ghost use lib.ListN.{length};
@@ -100,7 +100,7 @@ fn fresh_state(level: u64) -> State
 pub fn fresh(level: u64) -> Made
     ensures { λ r. ⌜ FreshMet level r ⌝ }
 {
-    match levels::table::level_of(level) {
+    match table::level_of(level) {
         Level::Of(_) => Made {
             refusal: 0,
             state: fresh_state(level),
@@ -267,7 +267,7 @@ pub fn feed(s: State, piece: &[u8], first: usize, count: usize) -> Fed
     ensures { λ r. ⌜ FeedMet s (now (piece .entry)) first count r ⌝ }
 {
     let level = s.level;
-    match levels::table::level_of(level) {
+    match table::level_of(level) {
         Level::Of(row) => feed_row(row, s, piece, first, count),
         Level::NoSuchLevel => refuse(6, s),
     }

@@ -1,6 +1,6 @@
 // The table of modes: what a digit does to all of the state but the frame in hand. Nothing here looks at the frame.
 use crate::Mode;
-use levels::table::Row;
+use table::Row;
 ghost use mathlib.Core.Path.{_≡_};
 ghost use Prim.Native.Nat.{_+_, _*_, _-_, _^_, _<_, _≤_};
 ghost use lib.ListN.{length};

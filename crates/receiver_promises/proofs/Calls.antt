@@ -9,9 +9,9 @@ use lib.Dec.{eqb}
 use lib.ListN.{length, take, drop, length-take}
 use lib.Seq.{length-take-le, take-all, take-nil, take-take, take-add, drop-drop}
 use Rattle.digits.specs.Digits.{digitsOf}
-use Rattle.levels.specs.declared.table.Row.{Row}
-use Rattle.levels.specs.declared.table.Level.the-variants.{Of}
-use Rattle.levels.specs.Table.{levelOf}
+use Rattle.table.specs.declared.Row.{Row}
+use Rattle.table.specs.declared.Level.the-variants.{Of}
+use Rattle.table.specs.Table.{levelOf}
 use Rattle.levels.proofs.Rows.{shared-row}
 use Rattle.receiver.specs.declared.State.{State}
 use Rattle.receiver.specs.declared.Fed.{Fed}

@@ -8,7 +8,7 @@ use native.Mathlib.Omega.{arith}
 use borrow.Author.Tests.{eqb-false, eq-eqb}
 use lib.Dec.{eqb}
 use lib.ListN.{length, take}
-use Rattle.levels.specs.declared.table.Row.{Row}
+use Rattle.table.specs.declared.Row.{Row}
 use Rattle.levels.specs.Table.{Shared}
 use Rattle.receiver.specs.declared.Mode.the-variants.{Hunting, Aligned}
 use Rattle.receiver.specs.declared.State.{State}

@@ -6,7 +6,7 @@ use mathlib.Core.List.{List, [], _∷_}
 use Prim.Native.Nat.{ℕ, zero, suc, _+_, _/_, _≤_}
 use lib.ListN.{length, take, drop}
 use Rattle.digits.specs.Digits.{zerosIn}
-use Rattle.levels.specs.declared.table.Row.{Row}
+use Rattle.table.specs.declared.Row.{Row}
 use Rattle.receiver.specs.Alarm.{isFew, alarmAfter}
 
 -- the first n stretches of these digits, N digits each

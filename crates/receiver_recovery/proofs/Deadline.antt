@@ -9,7 +9,7 @@ use native.Mathlib.Nat.{suc-mod, mod-self, mod-eq-of-lt, mod-lt, add-mul, mul-le
 use borrow.Author.Tests.{eqb-true, eqb-false, eq-eqb, ne-eqb}
 use lib.Dec.{eqb}
 use Rattle.digits.proofs.Tests.{cond-told}
-use Rattle.levels.specs.declared.table.Row.{Row}
+use Rattle.table.specs.declared.Row.{Row}
 use Rattle.receiver.specs.declared.Mode.{Mode}
 use Rattle.receiver.specs.declared.Mode.the-variants.{Hunting, OneFound, TwoFound, Aligned}
 use Rattle.receiver.specs.Modes.{hunting, missed, judged, placeAfter}

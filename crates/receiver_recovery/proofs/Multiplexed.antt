@@ -13,11 +13,12 @@ use Rattle.digits.specs.Digits.{digitsOf, Binary, written, tab}
 use Rattle.digits.proofs.Laws.{digits-of-bytes, tab-length, tab-at, tab-of, tab-binary}
 use Rattle.digits.proofs.Tests.{cond-told}
 use Rattle.digits.proofs.Written.{written-length, written-binary}
-use Rattle.levels.specs.declared.table.Row.{Row}
-use Rattle.levels.specs.declared.table.Level.the-variants.{Of}
+use Rattle.table.specs.declared.Row.{Row}
+use Rattle.table.specs.declared.Level.the-variants.{Of}
 use Rattle.levels.specs.declared.places.Kind.{Kind}
 use Rattle.levels.specs.declared.places.Kind.the-variants.{Word, Service, Control, Justification, Tributary}
-use Rattle.levels.specs.Table.{Shared, levelOf}
+use Rattle.table.specs.Table.{levelOf}
+use Rattle.levels.specs.Table.{Shared}
 use Rattle.levels.specs.Places.{firstSet, middleSet, lastSet, kindOf, posOf, kindAt}
 use Rattle.levels.specs.Order.{decisions, before}
 use Rattle.levels.specs.Word.{wordDigit}

@@ -8,8 +8,8 @@ use Prim.Native.Nat.{ℕ, _+_, _^_, _<_}
 use native.Mathlib.Omega.{arith}
 use lib.ListN.{replicate}
 use Rattle.digits.specs.Digits.{written, tab}
-use Rattle.levels.specs.declared.table.Row.{Row}
-use Rattle.levels.specs.Table.{row2, row3, row4}
+use Rattle.table.specs.declared.Row.{Row}
+use Rattle.table.specs.Table.{row2, row3, row4}
 use Rattle.receiver.specs.declared.Mode.the-variants.{TwoFound, Aligned}
 use Rattle.receiver.specs.declared.State.{State}
 use Rattle.receiver.specs.Alarm.{freshStretch}

@@ -16,9 +16,10 @@ use Rattle.digits.proofs.Tests.{cond-told}
 use Rattle.digits.proofs.Lists.{binary-take}
 use Rattle.digits.proofs.Written.{written-length}
 use Rattle.digits.proofs.Histories.{Recent, recent-own, recent-more, is-came, came-is, came-append, append-came, last-take}
-use Rattle.levels.specs.declared.table.Row.{Row}
-use Rattle.levels.specs.declared.table.Level.the-variants.{Of}
-use Rattle.levels.specs.Table.{Shared, levelOf}
+use Rattle.table.specs.declared.Row.{Row}
+use Rattle.table.specs.declared.Level.the-variants.{Of}
+use Rattle.table.specs.Table.{levelOf}
+use Rattle.levels.specs.Table.{Shared}
 use Rattle.levels.proofs.Rows.{shared-row}
 use Rattle.receiver.specs.declared.Mode.{Mode}
 use Rattle.receiver.specs.declared.Mode.the-variants.{Hunting, OneFound, TwoFound, Aligned}

@@ -12,10 +12,11 @@ use lib.Seq.{getD-take, getD-drop}
 use Rattle.digits.specs.Digits.{written}
 use Rattle.digits.proofs.Laws.{tab-length, tab-at, tab-binary}
 use Rattle.digits.proofs.Written.{written-binary}
-use Rattle.levels.specs.declared.table.Row.{Row}
-use Rattle.levels.specs.declared.table.Level.{Level}
-use Rattle.levels.specs.declared.table.Level.the-variants.{Of, NoSuchLevel}
-use Rattle.levels.specs.Table.{Shared, levelOf}
+use Rattle.table.specs.declared.Row.{Row}
+use Rattle.table.specs.declared.Level.{Level}
+use Rattle.table.specs.declared.Level.the-variants.{Of, NoSuchLevel}
+use Rattle.table.specs.Table.{levelOf}
+use Rattle.levels.specs.Table.{Shared}
 use Rattle.levels.proofs.Choice.{cond-by}
 use Rattle.levels.proofs.Rows.{shared-row}
 use Rattle.receiver_promises.specs.Line.{inFrame}

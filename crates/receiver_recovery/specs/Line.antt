@@ -4,7 +4,7 @@ use mathlib.Core.List.{List}
 use Prim.Native.Nat.{ℕ, _+_, _-_, _%_, _≤_}
 use lib.ListN.{length, getD, take, drop}
 use Rattle.digits.specs.Digits.{Binary, written, tab}
-use Rattle.levels.specs.declared.table.Row.{Row}
+use Rattle.table.specs.declared.Row.{Row}
 use Rattle.receiver.specs.declared.Mode.the-variants.{Aligned}
 use Rattle.receiver.specs.declared.State.{State}
 use Rattle.receiver_promises.specs.Line.{inFrame, Framed}

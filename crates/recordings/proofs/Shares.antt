@@ -14,9 +14,10 @@ use contract.Lifetimes.{Lfts}
 use denote.Ref.{now}
 use denote.Triple.Clauses.{AtExit}
 use borrow.Fn.World.{ArgsD, ResD}
-use Rattle.levels.specs.declared.table.Row.{Row}
-use Rattle.levels.specs.declared.table.Level.the-variants.{Of}
-use Rattle.levels.specs.Table.{Shared, levelOf}
+use Rattle.table.specs.declared.Row.{Row}
+use Rattle.table.specs.declared.Level.the-variants.{Of}
+use Rattle.table.specs.Table.{levelOf}
+use Rattle.levels.specs.Table.{Shared}
 use Rattle.levels.proofs.Rows.{shared-row}
 use Rattle.receiver.specs.declared.Mode.{Mode}
 use Rattle.receiver.specs.declared.Mode.the-variants.{Hunting, OneFound, TwoFound, Aligned}

@@ -4,7 +4,7 @@ use denote.Triple.Clauses.{AtExit}
 use borrow.Fn.World.{ArgsD, ResD}
 use mathlib.Core.Path.{_≡_, sym, _∙_}
 use Prim.Native.Nat.{ℕ}
-use Rattle.levels.specs.declared.table.Row.{Row}
+use Rattle.table.specs.declared.Row.{Row}
 use Rattle.recordings.specs.Sizes.{LeastMet, FramesInMet, FrameBytesMet, TributaryDigitsMet, QuarterBytesMet, QuarterStartMet, BytesWantedMet, PlusMet, MinusMet}
 use Rattle.recordings.proofs.sizes.least
 use Rattle.recordings.proofs.sizes.frames_in

@@ -2,7 +2,7 @@
 -- large it may be, by which a caller sees that its own sums and places are small.
 use mathlib.Core.Path.{_≡_}
 use Prim.Native.Nat.{ℕ, _+_, _-_, _*_, _/_, _%_, _≤_, min}
-use Rattle.levels.specs.declared.table.Row.{Row}
+use Rattle.table.specs.declared.Row.{Row}
 
 -- the longest file, in bytes: 2 to the 40
 abbrev pub longest : ℕ

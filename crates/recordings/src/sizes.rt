@@ -1,6 +1,6 @@
 // The sizes and places of a recording that goes through the calls in runs of 64 frames: of its lines, buffers and quarters. Files may be up
 // to 2 to the 40 bytes long, so that no product here is too large for a number.
-use levels::table::Row;
+use table::Row;
 ghost use Prim.Native.Nat.{_≤_};
 ghost use Rattle.levels.specs.Table.{Shared};
 ghost use Rattle.recordings.specs.Sizes.{longest, LeastMet, FramesInMet, FrameBytesMet, TributaryDigitsMet};

@@ -1,10 +1,10 @@
 // Listening to a recording: the receiver is fed in shares that end with the next word it judges and with the end of its stretch, so that each
 // finding and each losing of alignment, and each begin and end of the alarm, is seen at its own digit. A share that begins hunting ends at
 // the latest with the first frame handed over.
-use levels::table::Row;
 use receiver::Fed;
 use receiver::Mode;
 use receiver::State;
+use table::Row;
 ghost use mathlib.Core.Path.{_≡_};
 ghost use Prim.Native.Nat.{_-_, min};
 ghost use Rattle.recordings.specs.Watch.{changeOf, shareOf, ListenMet};

@@ -2,3 +2,4 @@ pub mod Answers
 pub mod FinderAnswers
 pub mod CompareAnswers
 pub mod RackAnswers
+pub mod PlainAnswers

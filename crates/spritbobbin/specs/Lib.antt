@@ -1,3 +1,4 @@
 pub mod Face
 pub mod Finding
 pub mod Comparing
+pub mod PlainFace

@@ -2,11 +2,11 @@
 use crate::apart;
 use console::say;
 use levels::order;
-use levels::table::Row;
 use passages::passage;
 use passages::passage::Passage;
 use reading::Noted;
 use recordings::sizes;
+use table::Row;
 ghost use Prim.Native.Nat.{_<_, _≤_};
 ghost use lib.ListN.{length};
 ghost use Rattle.levels.specs.Table.{Shared};

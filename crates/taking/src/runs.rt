@@ -2,10 +2,10 @@
 use crate::apart;
 use crate::rows;
 use console::files;
-use levels::table::Row;
 use passages::passage;
 use passages::passage::Passage;
 use recordings::sizes;
+use table::Row;
 ghost use Prim.Native.Nat.{_*_, _≤_};
 ghost use lib.ListN.{length};
 ghost use Rattle.levels.specs.Table.{Shared};

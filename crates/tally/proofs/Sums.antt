@@ -16,7 +16,7 @@ use Rattle.digits.specs.Digits.{tab}
 use Rattle.digits.specs.Sums.{sumTo}
 use Rattle.digits.proofs.Laws.{tab-length, tab-at, zeros-at}
 use Rattle.digits.proofs.Sums.{sum-same, sum-most, sum-all}
-use Rattle.levels.specs.declared.table.Row.{Row}
+use Rattle.table.specs.declared.Row.{Row}
 use Rattle.levels.specs.declared.places.Kind.{Kind}
 use Rattle.levels.specs.declared.places.Kind.the-variants.{Word, Service, Control, Justification, Tributary}
 use Rattle.levels.specs.declared.places.ServiceDigit.{ServiceDigit}

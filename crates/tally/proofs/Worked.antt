@@ -1,7 +1,7 @@
 -- A place of each kind and tributary, and which sum it counts in: level 2, and the national places of level 4.
 use mathlib.Core.Path.{_≡_, refl}
 use Prim.Native.Nat.{_*_, _+_}
-use Rattle.levels.specs.Table.{row2, row4}
+use Rattle.table.specs.Table.{row2, row4}
 use Rattle.levels.specs.Places.{kindOf, firstSet, middleSet, lastSet, posOf}
 use Rattle.tally.specs.Tally.{numberAt}
 

@@ -4,7 +4,7 @@ use levels::places;
 use levels::places::FramePlace;
 use levels::places::Kind;
 use levels::places::ServiceDigit;
-use levels::table::Row;
+use table::Row;
 ghost use mathlib.Core.Path.{_≡_};
 ghost use Prim.Native.Nat.{ℕ, _^_, _<_};
 ghost use lib.ListN.{getD};

@@ -6,7 +6,7 @@ use levels::lent;
 use levels::order;
 use levels::places;
 use levels::places::FramePlace;
-use levels::table::Row;
+use table::Row;
 use words::Writer;
 ghost use mathlib.Core.Path.{_≡_};
 ghost use Prim.Native.Nat.{ℕ, _+_, _*_, _-_, _/_, _%_, _^_, _<_, _≤_};

@@ -11,7 +11,7 @@ use native.Mathlib.Omega.{arith}
 use native.Mathlib.Decide.{decLt, ℕ-discrete}
 use lib.ListN.{length, getD}
 use Rattle.digits.specs.Digits.{digitsOf}
-use Rattle.levels.specs.declared.table.Row.{Row}
+use Rattle.table.specs.declared.Row.{Row}
 use Rattle.levels.specs.Places.{kindAt}
 use Rattle.levels.specs.Sizes.{quarterOf}
 use Rattle.levels.specs.declared.judging.Counted.{Counted}

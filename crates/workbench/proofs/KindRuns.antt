@@ -6,7 +6,7 @@ use lib.ListN.{getD}
 use Prim.Native.Nat.{ℕ, _+_, _≤_, _<_}
 use native.Mathlib.Omega.{arith}
 use native.Mathlib.Decide.{decLt}
-use Rattle.levels.specs.declared.table.Row.{Row}
+use Rattle.table.specs.declared.Row.{Row}
 use Rattle.levels.specs.declared.places.Kind.{Kind}
 use Rattle.levels.specs.declared.places.Kind.the-variants.{Word, Service, Control, Justification, Tributary}
 use Rattle.levels.specs.declared.places.ServiceDigit.the-variants.{RemoteAlarm, FirstNational, SecondNational, ThirdNational}

@@ -3,7 +3,7 @@ use levels::places;
 use levels::places::FramePlace;
 use levels::places::Kind;
 use levels::places::ServiceDigit;
-use levels::table::Row;
+use table::Row;
 ghost use mathlib.Core.Path.{_≡_};
 ghost use Prim.Native.Nat.{_<_};
 ghost use Rattle.levels.specs.Table.{Shared};

@@ -18,6 +18,18 @@ extern "C" {
         level: u64, line: *const u8, line_bytes: usize, notes: *const u8, notes_bytes: usize,
         buffer: *mut u8, buffer_bytes: usize, answer: *mut u64,
     ) -> u64;
+    fn spritbobbin_plain_multiplex(
+        level: u64, line: *mut u8, line_bytes: usize, notes: *const u8, notes_bytes: usize,
+        buffer: *const u8, buffer_bytes: usize, answer: *mut u64,
+    ) -> u64;
+    fn spritbobbin_plain_read_notes(
+        level: u64, line: *const u8, line_bytes: usize, notes: *mut u8, notes_bytes: usize,
+        answer: *mut u64,
+    ) -> u64;
+    fn spritbobbin_plain_extract(
+        level: u64, line: *const u8, line_bytes: usize, notes: *const u8, notes_bytes: usize,
+        buffer: *mut u8, buffer_bytes: usize, answer: *mut u64,
+    ) -> u64;
     pub fn spritbobbin_receiver_fresh(level: u64, state: *mut u64, frame: *mut u8) -> u64;
     pub fn spritbobbin_receiver_feed(
         state: *mut u64, frame: *mut u8, piece: *const u8, piece_bytes: usize,
@@ -54,6 +66,13 @@ extern "C" {
     pub fn spritbobbin_rack_reset(records: *mut u64, number: usize, line: u64, level: u64) -> u64;
     pub fn spritbobbin_rack_aligned(records: *const u64, number: usize, answer: *mut u64) -> u64;
 }
+
+/// One of the two engines' calls.
+type Building =
+    unsafe extern "C" fn(u64, *mut u8, usize, *const u8, usize, *const u8, usize, *mut u64) -> u64;
+type Reading = unsafe extern "C" fn(u64, *const u8, usize, *mut u8, usize, *mut u64) -> u64;
+type Extracting =
+    unsafe extern "C" fn(u64, *const u8, usize, *const u8, usize, *mut u8, usize, *mut u64) -> u64;
 
 /// What stands in an array of numbers before the call, so that one left unwritten is seen.
 pub const UNWRITTEN: u64 = 0xA5A5_A5A5_A5A5_A5A5;
@@ -106,9 +125,17 @@ pub fn numbers(name: &'static str, inner: &[u64]) -> Lent<u64> {
 
 pub fn by_face(call: &Call) -> Outcome {
     match call {
-        Call::Multiplex(with) => multiplex(with),
-        Call::ReadNotes(with) => read_notes(with),
-        Call::Extract(with) => extract(with),
+        Call::Multiplex(with) => alike(
+            multiplex(with, spritbobbin_multiplex),
+            multiplex(with, spritbobbin_plain_multiplex),
+        ),
+        Call::ReadNotes(with) => alike(
+            read_notes(with, spritbobbin_read_notes),
+            read_notes(with, spritbobbin_plain_read_notes),
+        ),
+        Call::Extract(with) => {
+            alike(extract(with, spritbobbin_extract), extract(with, spritbobbin_plain_extract))
+        }
         Call::Fresh(level) => fresh(*level),
         Call::Feed(piece) => feed(piece),
         Call::LineDigit(line, place) => line_digit(line, *place),
@@ -130,7 +157,15 @@ fn outcome(returned: u64, arrays: &[Lent<u64>], slices: &[Lent<u8>]) -> Outcome 
     Outcome { returned, numbers, lent, outside }
 }
 
-fn multiplex(with: &Lending) -> Outcome {
+/// The outcome of the quick engine, with a mark where the plain one's is another.
+fn alike(mut quick: Outcome, plain: Outcome) -> Outcome {
+    if quick != plain {
+        quick.outside.push("the plain engine's outcome");
+    }
+    quick
+}
+
+fn multiplex(with: &Lending, by: Building) -> Outcome {
     let mut line = bytes("line", &with.line);
     let mut notes = bytes("notes", &with.notes);
     let mut buffer = bytes("buffer", &with.buffer);
@@ -139,12 +174,12 @@ fn multiplex(with: &Lending) -> Outcome {
     let refusal = unsafe {
         let (l, n, b) = (line.pointer(), notes.pointer(), buffer.pointer());
         let (lc, nc, bc) = (line.count(), notes.count(), buffer.count());
-        spritbobbin_multiplex(with.level, l, lc, n, nc, b, bc, answer.pointer())
+        by(with.level, l, lc, n, nc, b, bc, answer.pointer())
     };
     outcome(refusal, &[answer], &[line, notes, buffer])
 }
 
-fn read_notes(with: &Lending) -> Outcome {
+fn read_notes(with: &Lending, by: Reading) -> Outcome {
     let mut line = bytes("line", &with.line);
     let mut notes = bytes("notes", &with.notes);
     let mut answer = numbers("answer", &[UNWRITTEN; 5]);
@@ -152,12 +187,12 @@ fn read_notes(with: &Lending) -> Outcome {
     let refusal = unsafe {
         let (l, n) = (line.pointer(), notes.pointer());
         let (lc, nc) = (line.count(), notes.count());
-        spritbobbin_read_notes(with.level, l, lc, n, nc, answer.pointer())
+        by(with.level, l, lc, n, nc, answer.pointer())
     };
     outcome(refusal, &[answer], &[line, notes])
 }
 
-fn extract(with: &Lending) -> Outcome {
+fn extract(with: &Lending, by: Extracting) -> Outcome {
     let mut line = bytes("line", &with.line);
     let mut notes = bytes("notes", &with.notes);
     let mut buffer = bytes("buffer", &with.buffer);
@@ -166,7 +201,7 @@ fn extract(with: &Lending) -> Outcome {
     let refusal = unsafe {
         let (l, n, b) = (line.pointer(), notes.pointer(), buffer.pointer());
         let (lc, nc, bc) = (line.count(), notes.count(), buffer.count());
-        spritbobbin_extract(with.level, l, lc, n, nc, b, bc, answer.pointer())
+        by(with.level, l, lc, n, nc, b, bc, answer.pointer())
     };
     outcome(refusal, &[answer], &[line, notes, buffer])
 }

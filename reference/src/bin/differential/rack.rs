@@ -13,9 +13,9 @@ use reference::random::Random;
 use reference::{fresh, rack_aligned, rack_feed, rack_refusal, rack_reset, State};
 
 /// The kinds of the three calls, among the names of all.
-const FEED: usize = 11;
-const RESET: usize = 12;
-const ALIGNED: usize = 13;
+const FEED: usize = 13;
+const RESET: usize = 14;
+const ALIGNED: usize = 15;
 
 /// A record in words of eight bytes: nine numbers, then 366 bytes of frame and two that are nobody's.
 const WORDS: usize = 9 + 46;

@@ -1,7 +1,7 @@
 -- `first_set` is `firstSet`: a row's head is level 2's or level 4's, by the length of its word.
 use borrow.Author.Needs.{needs}
 use mathlib.Core.Path.{_≡_, _∙_, sym}
-use Rattle.levels.specs.Table.{row2, row4}
+use Rattle.table.specs.Table.{row2, row4}
 use Rattle.levels.proofs.Ways.{same-head}
 use Rattle.levels.proofs.places.first_set.Statement.{statement}
 use Rattle.levels.proofs.places.first_set.Tie as tie

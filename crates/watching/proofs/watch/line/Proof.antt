@@ -1,6 +1,5 @@
 -- The row of a level that was found is one of the table.
 use mathlib.Core.Path.{sym, _∙_}
-use native.Mathlib.Omega.{arith}
 use Rattle.levels.proofs.Rows.{shared-row}
 use borrow.Author.Needs.{needs}
 use Rattle.watching.proofs.watch.line.Statement.{statement}
@@ -14,4 +13,6 @@ at-its-end-requires c κs =
 pub line-spec : {M : Type 1} → statement M
 line-spec =
     tie.close
-    (tie.spec (λ c κs. search needs) (λ c. search needs) (λ c κs. search needs) (λ c. search needs) (λ c. search needs) (λ c κs. search needs) (λ c κs. search needs) (λ c. search needs) at-its-end-requires (λ c. search needs) (λ c. search needs) (λ c. search needs))
+    (tie.spec (λ c κs. search needs) (λ c. search needs) (λ c κs. search needs) (λ c. search needs) (λ c. search needs)
+    (λ c κs. search needs) (λ c κs. search needs) (λ c. search needs) at-its-end-requires (λ c. search needs) (λ c. search needs)
+    (λ c. search needs))

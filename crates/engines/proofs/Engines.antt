@@ -1,0 +1,109 @@
+-- THE THEOREM of request 9, call by call: on every input, refused or not, both engines give the same answer and leave the same slice. It is
+-- said of their contracts: whatever meets the one and whatever meets the other are alike.
+use mathlib.Core.Path.{_≡_, refl, sym, _∙_, ap}
+use mathlib.Core.Bool.{Bool, cond, true, false}
+use mathlib.Core.List.{List}
+use Prim.Native.Nat.{ℕ, _*_, _/_}
+use lib.Dec.{eqb}
+use lib.ListN.{length}
+use Rattle.digits.specs.Digits.{digitsOf}
+use Rattle.table.specs.declared.Row.{Row}
+use Rattle.table.specs.declared.Level.{Level}
+use Rattle.table.specs.declared.Level.the-variants.{Of, NoSuchLevel}
+use Rattle.table.specs.Table.{levelOf}
+use Rattle.levels.specs.declared.judging.Counted.{Counted}
+use Rattle.levels.specs.Table.{Shared}
+use Rattle.levels.specs.Sizes.{onLevel, framesRefusal}
+use Rattle.levels.specs.Judging as judging
+use Rattle.levels.proofs.Rows.{shared-row}
+use Rattle.multiplex.specs.Multiplex as multiplex
+use Rattle.reading.specs.declared.Noted.{Noted}
+use Rattle.reading.specs.Notes.{notesOf}
+use Rattle.reading.specs.Reading as reading
+use Rattle.extraction.specs.Extract as extraction
+use Rattle.plain.specs.declared.Answered.{Answered}
+use Rattle.plain.specs.declared.NotesRead.{NotesRead}
+use Rattle.plain.specs.Engine as plain
+use Rattle.engines.specs.Same.{SameCounted, SameNoted}
+use Rattle.engines.proofs.Line.{line-same}
+use Rattle.engines.proofs.Notes.{notes-same, alignment-same, dissents-same}
+use Rattle.engines.proofs.Quarters.{quarters-same}
+use Rattle.engines.proofs.Judging.{sound, answer-same, left-same}
+
+-- ---- multiplexing
+
+pub same-multiplexing : (level : ℕ) (line notes buffer : List ℕ) (a : Counted) (l : List ℕ) (b : Answered) (m : List ℕ)
+    → multiplex.Met level line notes buffer a l → plain.MultiplexMet level line notes buffer b m → SameCounted a b × (l ≡ m)
+same-multiplexing level line notes buffer a l b m x y = rw (x .0, x .1, y .answered, y .written) (go (levelOf level) refl)
+  where
+    go : (found : Level) → levelOf level ≡ found
+        → SameCounted (onLevel found (λ (row : Row). judging.answerOn row (length line) notes (length buffer)) (judging.refusedWith (judging.fault 1 0)))
+        (plain.onLevel found (λ (row : Row). plain.answerBy row (length line) notes (plain.verdictOn row (length line) notes (length buffer)))
+        (record { refusal = 1; frame = 0; counts = plain.none }))
+        × (onLevel found (λ (row : Row). multiplex.lineOn row line notes buffer) line
+        ≡ plain.onLevel found (λ (row : Row). plain.sentLine row line notes buffer (plain.verdictOn row (length line) notes (length buffer))) line)
+    go (Of row) e =
+        let sh = shared-row level row e in
+        (answer-same row sh (length line) notes (length buffer), left-same row sh (length line) notes (length buffer) _ line _ (λ _. line-same row sh notes buffer (length line)))
+    go NoSuchLevel e = (record { refusal = refl; frame = refl; counts = refl }, refl)
+
+-- ---- reading the notes
+
+module _ (row : Row) (sh : Shared row) (line notes : List ℕ) where
+  abbrev no : ℕ
+  no = framesRefusal row (length line) (length notes)
+
+  judged : no ≡ plain.readingOn row (length line) (length notes)
+  unfolding framesRefusal plain.readingOn
+  judged = refl
+
+  read-on-row : SameNoted (reading.answerOn row line (length notes)) (plain.readAnswer row line (length notes) (plain.readingOn row (length line) (length notes)))
+      × (reading.notesOn row line notes ≡ plain.readLeft row line notes (plain.readingOn row (length line) (length notes)))
+  read-on-row = rw (← judged) (go (eqb no 0))
+    where
+      F : ℕ
+      F = length notes
+
+      go : (t : Bool)
+          → SameNoted (cond t (reading.notedFrom row (digitsOf line) F) (reading.refusedWith no))
+          (cond t (record { refusal = 0; alignment = plain.alignmentTo row line F; dissent = plain.dissentsTo row line F }) (record { refusal = no; alignment = 0; dissent = plain.none }))
+          × (cond t (notesOf row (digitsOf line) F) notes ≡ cond t (plain.notesTo row line F) notes)
+      go true =
+          (record { refusal = refl; alignment = sym (alignment-same row sh line F); dissent = sym (dissents-same row sh line F) }, sym (notes-same row sh line F))
+      go false = (record { refusal = refl; alignment = refl; dissent = refl }, refl)
+
+pub same-reading : (level : ℕ) (line notes : List ℕ) (a : Noted) (l : List ℕ) (b : NotesRead) (m : List ℕ)
+    → reading.ReadNotesMet level line notes a l → plain.ReadNotesMet level line notes b m → SameNoted a b × (l ≡ m)
+same-reading level line notes a l b m x y = rw (x .0, x .1, y .answered, y .written) (go (levelOf level) refl)
+  where
+    go : (found : Level) → levelOf level ≡ found
+        → SameNoted (onLevel found (λ (row : Row). reading.answerOn row line (length notes)) (reading.refusedWith 1))
+        (plain.onLevel found (λ (row : Row). plain.readAnswer row line (length notes) (plain.readingOn row (length line) (length notes)))
+        (record { refusal = 1; alignment = 0; dissent = plain.none }))
+        × (onLevel found (λ (row : Row). reading.notesOn row line notes) notes
+        ≡ plain.onLevel found (λ (row : Row). plain.readLeft row line notes (plain.readingOn row (length line) (length notes))) notes)
+    go (Of row) e = read-on-row row (shared-row level row e) line notes
+    go NoSuchLevel e = (record { refusal = refl; alignment = refl; dissent = refl }, refl)
+
+-- ---- extraction
+
+pub same-extraction : (level : ℕ) (line notes buffer : List ℕ) (a : Counted) (l : List ℕ) (b : Answered) (m : List ℕ)
+    → extraction.ExtractMet level line notes buffer a l → plain.ExtractMet level line notes buffer b m → SameCounted a b × (l ≡ m)
+same-extraction level line notes buffer a l b m x y = rw (x .0, x .1, y .answered, y .written) (go (levelOf level) refl)
+  where
+    go : (found : Level) → levelOf level ≡ found
+        → SameCounted (onLevel found (λ (row : Row). judging.answerOn row (length line) notes (length buffer)) (judging.refusedWith (judging.fault 1 0)))
+        (plain.onLevel found (λ (row : Row). plain.answerBy row (length line) notes (plain.verdictOn row (length line) notes (length buffer)))
+        (record { refusal = 1; frame = 0; counts = plain.none }))
+        × (onLevel found (λ (row : Row). extraction.bufferOn row line notes buffer) buffer
+        ≡ plain.onLevel found (λ (row : Row). plain.takenBuffer row line notes buffer (plain.verdictOn row (length line) notes (length buffer))) buffer)
+    go (Of row) e =
+        let sh = shared-row level row e in
+        let q = length buffer / 4 in (
+          answer-same row sh (length line) notes (length buffer),
+          left-same row sh (length line) notes (length buffer) _ buffer _
+              (λ z.
+              let ok = sound row sh (length line) notes (length buffer) z in
+              quarters-same row sh notes line q (ok .0) (ok .2) ∙ ap (λ (n : ℕ). plain.packed n (plain.handedAt row notes line (8 * q))) (sym (ok .1))),
+        )
+    go NoSuchLevel e = (record { refusal = refl; frame = refl; counts = refl }, refl)

@@ -1,0 +1,22 @@
+-- `carries_at` is `carriesAt`: the place, and the bit of its own frame's note.
+use borrow.Author.Needs.{needs}
+use native.Mathlib.Omega.{arith}
+use native.Mathlib.Nat.{mod-lt}
+use Rattle.plain.specs.Engine.{carriesAt}
+use Rattle.plain.proofs.frame.carries_at.Statement.{statement}
+use Rattle.plain.proofs.frame.carries_at.Tie as tie
+
+place-in-requires : tie.Need-place-in-requires
+place-in-requires c κs =
+    let c5 = c .before .before .before .before .before in
+    let re = c5 .pre .0 in
+    (re, mod-lt _ (omega (arith, re .packed, re .some)))
+
+returns : tie.Need-returns
+unfolding carriesAt
+returns c = rw (c .carries-by .ensures, c .before .place-in .ensures, c .before .before .note-bit .ensures .0)
+
+pub carries-at-spec : {M : Type 1} → statement M
+carries-at-spec =
+    tie.close
+    (tie.spec (λ c. search needs) (λ c. search needs) (λ c. search needs) (λ c κs. search needs) place-in-requires (λ c κs. search needs) returns)

@@ -1,0 +1,62 @@
+-- `verdict_on` is `verdictOn`: each return rewrites with the tests that lead to it.
+use borrow.Author.Needs.{needs}
+use mathlib.Core.Path.{_≡_, refl, sym, _∙_, ap}
+use borrow.Author.Tests.{lt-ltb, le-ltb, eq-eqb, ne-eqb}
+use Rattle.plain.specs.Engine.{verdictOn}
+use Rattle.plain.proofs.Judged.{line-frames}
+use Rattle.plain.proofs.refusals.verdict_on.Statement.{statement}
+use Rattle.plain.proofs.refusals.verdict_on.Tie as tie
+
+returns : tie.Need-returns
+unfolding verdictOn
+returns c = rw (sym (c .before .before .bad-line .ensures) ∙ c .before .if1 .taken) (c .refused .ensures)
+
+returns-2 : tie.Need-returns-2
+unfolding verdictOn
+returns-2 c =
+    let c3 = c .before .before .before in
+    let c4 = c3 .before in
+    rw (sym (c4 .bad-line .ensures) ∙ c3 .if1 .left, ne-eqb _ _ (c .before .if2 .taken)) (c .refused2 .ensures)
+
+bad-buffer-requires : tie.Need-bad-buffer-requires
+bad-buffer-requires c κs =
+    let c3 = c .before .before .before in
+    let c5 = c3 .before .before in
+    (c5 .pre .0, line-frames (c5 .args .row) (c5 .args .line) (sym (c3 .bad-line .ensures) ∙ c .before .before .if1 .left) .1, c5 .pre .1)
+
+returns-3 : tie.Need-returns-3
+unfolding verdictOn
+returns-3 c =
+    let c3 = c .before .before .before in
+    let c5 = c3 .before .before in
+    let c6 = c5 .before in
+    rw (sym (c6 .bad-line .ensures) ∙ c5 .if1 .left, eq-eqb _ _ (c3 .if2 .left), sym (c .before .before .bad-buffer .ensures) ∙ c .before .if3 .taken) (c .refused3 .ensures)
+
+returns-4 : tie.Need-returns-4
+unfolding verdictOn
+returns-4 c =
+    let c3 = c .before .before .before in
+    let c4 = c3 .before in
+    let c5 = c4 .before in
+    let c7 = c5 .before .before in
+    let c8 = c7 .before in
+    let f = c .before .before .first-faulty .ensures in
+    rw (sym (c8 .bad-line .ensures) ∙ c7 .if1 .left, eq-eqb _ _ (c5 .if2 .left), sym (c4 .bad-buffer .ensures) ∙ c3 .if3 .left, ← f, lt-ltb _ _ (c .before .if4 .taken)) (c .refused4 .ensures)
+
+returns-5 : tie.Need-returns-5
+unfolding verdictOn
+returns-5 c =
+    let c3 = c .before .before .before in
+    let c4 = c3 .before in
+    let c5 = c4 .before in
+    let c7 = c5 .before .before in
+    let c8 = c7 .before in
+    let f = c .before .before .first-faulty .ensures in
+    rw (sym (c8 .bad-line .ensures) ∙ c7 .if1 .left, eq-eqb _ _ (c5 .if2 .left), sym (c4 .bad-buffer .ensures) ∙ c3 .if3 .left, ← f, le-ltb _ _ (c .before .if4 .left)) (c .refused5 .ensures)
+
+pub verdict-on-spec : {M : Type 1} → statement M
+verdict-on-spec =
+    tie.close
+    (tie.spec (λ c κs. search needs) (λ c κs. search needs) returns (λ c. search needs) (λ c κs. search needs) returns-2
+    bad-buffer-requires (λ c κs. search needs) returns-3 (λ c κs. search needs) (λ c κs. search needs) returns-4 (λ c κs. search needs)
+    returns-5)

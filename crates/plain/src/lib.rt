@@ -1,0 +1,158 @@
+// The plain engine: multiplexing and demultiplexing digit by digit. Besides the level table it shares nothing with the quick engine (crates
+// multiplex and demultiplex); specs/Engine.antt is the whole of its specification. For each place of a line, in order: ask what the place
+// is, then read or write one digit.
+pub mod frame;
+pub mod packed;
+pub mod reading;
+pub mod refusals;
+pub mod send;
+pub mod take;
+
+use table::Level;
+use table::Row;
+ghost use mathlib.Core.Path.{_≡_};
+ghost use lib.ListN.{length};
+ghost use Rattle.plain.specs.Engine.{verdictOn, readingOn, MultiplexMet, ReadNotesMet, ExtractMet};
+ghost use Rattle.plain.specs.Engine.{answerBy, sentLine, readAnswer, readLeft, takenBuffer};
+ghost use Rattle.plain.specs.Walk.{Regular};
+
+// What multiplexing and extraction answer: the refusal, the frame that refusal 5 names, the digits of each tributary.
+pub struct Answered {
+    pub refusal: u64,
+    pub frame: usize,
+    pub counts: [usize; 4],
+}
+
+// What reading the notes answers: alignment digits that differ from the word and dissenting digits of each tributary, over all frames.
+pub struct NotesRead {
+    pub refusal: u64,
+    pub alignment: usize,
+    pub dissent: [usize; 4],
+}
+
+// A level's row is known.
+fn multiplex_on(row: Row, line: &mut [u8], notes: &[u8], buffer: &[u8]) -> Answered
+    requires { ⌜ Regular row ⌝ }
+    ensures { λ r. ⌜
+        (r
+        ≡ answerBy row (length (now (line .entry))) (now (notes .entry))
+        (verdictOn row (length (now (line .entry))) (now (notes .entry)) (length (now (buffer .entry)))))
+        × (now (line .exit)
+        ≡ sentLine row (now (line .entry)) (now (notes .entry)) (now (buffer .entry))
+        (verdictOn row (length (now (line .entry))) (now (notes .entry)) (length (now (buffer .entry)))))
+        ⌝ }
+{
+    let v = refusals::verdict_on(row, line.len(), notes, buffer.len());
+    if v.refusal != 0 {
+        return Answered {
+            refusal: v.refusal,
+            frame: v.frame,
+            counts: [0; 4],
+        };
+    }
+    let counts = send::send(row, line, notes, buffer);
+    Answered {
+        refusal: 0,
+        frame: 0,
+        counts,
+    }
+}
+
+// Multiplexes the notes and the quarters of the buffer into the line.
+pub fn multiplex(level: u64, line: &mut [u8], notes: &[u8], buffer: &[u8]) -> Answered
+    ensures { λ r. ⌜ MultiplexMet level (now (line .entry)) (now (notes .entry)) (now (buffer .entry)) r (now (line .exit)) ⌝ }
+{
+    let found = table::level_of(level);
+    match found {
+        Level::Of(row) => multiplex_on(row, line, notes, buffer),
+        Level::NoSuchLevel => Answered {
+            refusal: 1,
+            frame: 0,
+            counts: [0; 4],
+        },
+    }
+}
+
+fn read_notes_on(row: Row, line: &[u8], notes: &mut [u8]) -> NotesRead
+    requires { ⌜ Regular row ⌝ }
+    ensures { λ r. ⌜
+        (r
+        ≡ readAnswer row (now (line .entry)) (length (now (notes .entry)))
+        (readingOn row (length (now (line .entry))) (length (now (notes .entry)))))
+        × (now (notes .exit)
+        ≡ readLeft row (now (line .entry)) (now (notes .entry)) (readingOn row (length (now (line .entry))) (length (now (notes .entry)))))
+        ⌝ }
+{
+    let no = refusals::reading_on(row, line.len(), notes.len());
+    if no != 0 {
+        return NotesRead {
+            refusal: no,
+            alignment: 0,
+            dissent: [0; 4],
+        };
+    }
+    let errors = reading::read(row, line, notes);
+    let dissent = errors.dissent;
+    NotesRead {
+        refusal: 0,
+        alignment: errors.alignment,
+        dissent,
+    }
+}
+
+// Reads the notes of the line's frames, and counts the errors of alignment signals and control digits.
+pub fn read_notes(level: u64, line: &[u8], notes: &mut [u8]) -> NotesRead
+    ensures { λ r. ⌜ ReadNotesMet level (now (line .entry)) (now (notes .entry)) r (now (notes .exit)) ⌝ }
+{
+    let found = table::level_of(level);
+    match found {
+        Level::Of(row) => read_notes_on(row, line, notes),
+        Level::NoSuchLevel => NotesRead {
+            refusal: 1,
+            alignment: 0,
+            dissent: [0; 4],
+        },
+    }
+}
+
+fn extract_on(row: Row, line: &[u8], notes: &[u8], buffer: &mut [u8]) -> Answered
+    requires { ⌜ Regular row ⌝ }
+    ensures { λ r. ⌜
+        (r
+        ≡ answerBy row (length (now (line .entry))) (now (notes .entry))
+        (verdictOn row (length (now (line .entry))) (now (notes .entry)) (length (now (buffer .entry)))))
+        × (now (buffer .exit)
+        ≡ takenBuffer row (now (line .entry)) (now (notes .entry)) (now (buffer .entry))
+        (verdictOn row (length (now (line .entry))) (now (notes .entry)) (length (now (buffer .entry)))))
+        ⌝ }
+{
+    let v = refusals::verdict_on(row, line.len(), notes, buffer.len());
+    if v.refusal != 0 {
+        return Answered {
+            refusal: v.refusal,
+            frame: v.frame,
+            counts: [0; 4],
+        };
+    }
+    let counts = take::take(row, line, notes, buffer);
+    Answered {
+        refusal: 0,
+        frame: 0,
+        counts,
+    }
+}
+
+// Extracts the tributaries of the line into the quarters of the buffer, by the notes given.
+pub fn extract(level: u64, line: &[u8], notes: &[u8], buffer: &mut [u8]) -> Answered
+    ensures { λ r. ⌜ ExtractMet level (now (line .entry)) (now (notes .entry)) (now (buffer .entry)) r (now (buffer .exit)) ⌝ }
+{
+    let found = table::level_of(level);
+    match found {
+        Level::Of(row) => extract_on(row, line, notes, buffer),
+        Level::NoSuchLevel => Answered {
+            refusal: 1,
+            frame: 0,
+            counts: [0; 4],
+        },
+    }
+}

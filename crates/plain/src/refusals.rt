@@ -1,0 +1,92 @@
+// The refusals of the three calls, in document 01's order.
+use table::Row;
+ghost use mathlib.Core.Path.{_≡_};
+ghost use Prim.Native.Nat.{_/_, _^_, _<_, _≤_};
+ghost use lib.ListN.{length};
+ghost use Rattle.plain.specs.Engine.{badLine, badBuffer, firstFaulty, verdictOn, readingOn};
+ghost use Rattle.plain.specs.Walk.{Regular};
+
+// The refusal, or 0, and the frame that refusal 5 names, or 0.
+pub struct Verdict {
+    pub refusal: u64,
+    pub frame: usize,
+}
+
+// 2: no whole number of frames, or over 64 of them.
+fn bad_line(row: Row, line: usize) -> bool
+    requires { ⌜ Regular row ⌝ }
+    ensures { λ r. ⌜ r ≡ badLine row line ⌝ }
+{
+    if line % row.bytes != 0 {
+        return true;
+    }
+    64 < line / row.bytes
+}
+
+// 4: no four equal quarters, or too little room.
+fn bad_buffer(row: Row, line: usize, buffer: usize) -> bool
+    requires { ⌜ Regular row × (line / row .bytes ≤ 64) × (buffer < 2 ^ 63) ⌝ }
+    ensures { λ r. ⌜ r ≡ badBuffer row line buffer ⌝ }
+{
+    if buffer % 4 != 0 {
+        return true;
+    }
+    8 * (buffer / 4) < line / row.bytes * row.room
+}
+
+// 5: the first frame whose note has a bit that the level has not, or the number of notes where there is none.
+fn first_faulty(row: Row, notes: &[u8]) -> usize
+    requires { ⌜ Regular row ⌝ }
+    ensures { λ r. ⌜ r ≡ firstFaulty row (now (notes .entry)) ⌝ }
+{
+    let limit: usize = 1 << (5 + row.nationals);
+    let mut f: usize = 0;
+    while f < notes.len() {
+        if limit <= notes[f] as usize {
+            return f;
+        }
+        f += 1;
+    }
+    f
+}
+
+fn refused(refusal: u64, frame: usize) -> Verdict
+    ensures { λ r. ⌜ r ≡ record { refusal = refusal; frame = frame } ⌝ }
+{
+    Verdict { refusal, frame }
+}
+
+// 2, 3, 4 and 5 in this order: for multiplexing and for extraction.
+pub fn verdict_on(row: Row, line: usize, notes: &[u8], buffer: usize) -> Verdict
+    requires { ⌜ Regular row × (buffer < 2 ^ 63) ⌝ }
+    ensures { λ r. ⌜ r ≡ verdictOn row line (now (notes .entry)) buffer ⌝ }
+{
+    if bad_line(row, line) {
+        return refused(2, 0);
+    }
+    if notes.len() != line / row.bytes {
+        return refused(3, 0);
+    }
+    if bad_buffer(row, line, buffer) {
+        return refused(4, 0);
+    }
+    let f = first_faulty(row, notes);
+    if f < notes.len() {
+        return refused(5, f);
+    }
+    refused(0, 0)
+}
+
+// 2 and 3: for reading the notes.
+pub fn reading_on(row: Row, line: usize, notes: usize) -> u64
+    requires { ⌜ Regular row ⌝ }
+    ensures { λ r. ⌜ r ≡ readingOn row line notes ⌝ }
+{
+    if bad_line(row, line) {
+        return 2;
+    }
+    if notes != line / row.bytes {
+        return 3;
+    }
+    0
+}
