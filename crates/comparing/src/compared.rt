@@ -1,8 +1,8 @@
 // compare ONE OTHER [PICTURE.svg]: where two captures differ. The library's comparison answers, and says which file is at fault where it refuses.
-use crate::svg;
 use crate::text;
 use captures::Reading;
 use compare::Compared;
+use comparison_picture::svg;
 use console::files;
 use console::page::Page;
 use console::say;

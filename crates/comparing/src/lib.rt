@@ -1,4 +1,3 @@
-// The command compare: where two captures differ, in words and in a picture.
+// The command compare: where two captures differ, in words; comparison_picture draws them.
 pub mod compared;
-mod svg;
 mod text;

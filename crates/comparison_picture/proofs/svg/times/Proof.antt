@@ -3,8 +3,8 @@ use Prim.Native.Nat.{ℕ, _*_, _≤_}
 use native.Mathlib.Omega.{arith}
 use native.Mathlib.Nat.{mul-le-mul}
 use borrow.Author.Needs.{needs}
-use Rattle.comparing.proofs.svg.times.Statement.{statement}
-use Rattle.comparing.proofs.svg.times.Tie as tie
+use Rattle.comparison_picture.proofs.svg.times.Statement.{statement}
+use Rattle.comparison_picture.proofs.svg.times.Tie as tie
 
 small : {a b : ℕ} → a ≤ 4096 → b ≤ 4096 → a * b ≤ 16777216
 small {a} {b} x y = omega (arith, mul-le-mul {n₁ = a} {m₁ = b} {n₂ = 4096} {m₂ = 4096} x y)

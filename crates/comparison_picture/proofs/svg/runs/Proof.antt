@@ -1,8 +1,8 @@
 -- The place stays inside the frame, and every run is some places.
 use Prim.Native.Nat.{_≤_, _-_}
 use borrow.Author.Needs.{needs}
-use Rattle.comparing.proofs.svg.runs.Statement.{statement}
-use Rattle.comparing.proofs.svg.runs.Tie as tie
+use Rattle.comparison_picture.proofs.svg.runs.Statement.{statement}
+use Rattle.comparison_picture.proofs.svg.runs.Tie as tie
 
 abbrev Inv-loop : tie.InvT-loop
 Inv-loop row cell one other before drawn₀ p₀ drawn p = p ≤ row .digits

@@ -1,8 +1,8 @@
 -- The place stays up to the end, and every stretch is some places.
 use Prim.Native.Nat.{_≤_, _-_}
 use borrow.Author.Needs.{needs}
-use Rattle.comparing.proofs.svg.digits_of.Statement.{statement}
-use Rattle.comparing.proofs.svg.digits_of.Tie as tie
+use Rattle.comparison_picture.proofs.svg.digits_of.Statement.{statement}
+use Rattle.comparison_picture.proofs.svg.digits_of.Tie as tie
 
 abbrev Inv-loop : tie.InvT-loop
 Inv-loop row cell one other from end drawn₀ p₀ drawn p = p ≤ end

@@ -1,8 +1,8 @@
 -- Ten ticks.
 use Prim.Native.Nat.{_≤_, _-_}
 use borrow.Author.Needs.{needs}
-use Rattle.comparing.proofs.svg.ruler.Statement.{statement}
-use Rattle.comparing.proofs.svg.ruler.Tie as tie
+use Rattle.comparison_picture.proofs.svg.ruler.Statement.{statement}
+use Rattle.comparison_picture.proofs.svg.ruler.Tie as tie
 
 abbrev Inv-loop : tie.InvT-loop
 Inv-loop set wide drawn₀ k₀ drawn k = k ≤ 10

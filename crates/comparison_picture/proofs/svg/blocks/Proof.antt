@@ -1,8 +1,8 @@
 -- As many frames as there are.
 use Prim.Native.Nat.{_≤_, _-_}
 use borrow.Author.Needs.{needs}
-use Rattle.comparing.proofs.svg.blocks.Statement.{statement}
-use Rattle.comparing.proofs.svg.blocks.Tie as tie
+use Rattle.comparison_picture.proofs.svg.blocks.Statement.{statement}
+use Rattle.comparison_picture.proofs.svg.blocks.Tie as tie
 
 abbrev Inv-loop : tie.InvT-loop
 Inv-loop row frames cell one other drawn₀ f₀ drawn f = f ≤ frames
