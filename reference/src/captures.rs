@@ -49,7 +49,8 @@ pub fn write_capture(level: u64, line: &[u8], label: Option<&[u8]>, file: &mut [
         return refused(9);
     }
     let mut bytes = Vec::new();
-    let bodies = [Some(&[level as u8][..]), Some(line), label];
+    let level = [level as u8];
+    let bodies = [Some(&level[..]), Some(line), label];
     for ((tag, _), body) in FIELDS.into_iter().zip(bodies) {
         if let Some(body) = body {
             bytes.push(tag);

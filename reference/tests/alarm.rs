@@ -110,6 +110,6 @@ fn the_search_agrees() {
         let zeros = (0..12).map(|_| random.index(2 * limit + 2));
         let stream: Vec<u8> = zeros.flat_map(|zeros| stretch(digits, zeros)).collect();
         let (_, state) = after(&fresh(level).1, &[stream.clone()]);
-        assert_eq!(history::whole(level, &stream).1, state);
+        assert_eq!(history::whole(level, &stream).2, state);
     }
 }

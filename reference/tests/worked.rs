@@ -93,25 +93,32 @@ fn start(level: u64) -> State {
 
 /// Feeds all digits of a list, call after call, and says after how many a frame was ready.
 fn feed_all(state: &State, list: &[u8]) -> (Vec<u64>, State) {
-    let (slice, mut at, mut ready) = (pack(list), 0, Vec::new());
+    let (ready, _, state) = feed_counted(state, list);
+    (ready, state)
+}
+
+/// The same, with the words tested.
+fn feed_counted(state: &State, list: &[u8]) -> (Vec<u64>, u64, State) {
+    let (slice, mut at, mut ready, mut words) = (pack(list), 0, Vec::new(), 0);
     let mut state = state.clone();
     while at < list.len() as u64 {
         let fed = feed(&state, &slice, at, list.len() as u64 - at);
         assert_eq!(fed.refusal, 0);
         at += fed.taken;
+        words += fed.words;
         state = fed.state;
         if fed.ready {
             ready.push(at);
         }
     }
-    (ready, state)
+    (ready, words, state)
 }
 
 fn feed_refused(state: &State, slice: usize, first: u64, count: u64) -> u64 {
     let fed = feed(state, &vec![0; slice], first, count);
     if fed.refusal != 0 {
         let (taken, state) = (0, state.clone());
-        let expected = Fed { refusal: fed.refusal, taken, ready: false, alarm: false, state };
+        let expected = Fed { refusal: fed.refusal, taken, ready: false, alarm: false, words: 0, state };
         assert_eq!(fed, expected);
     }
     fed.refusal
@@ -499,7 +506,7 @@ fn empty_pieces() {
     let waiting = state(2, 0, 10, 3, 838, 0xFF);
     let fed = feed(&waiting, &[], 0, 0);
     let state_before = waiting.clone();
-    assert_eq!(fed, Fed { refusal: 0, taken: 0, ready: false, alarm: false, state: state_before });
+    assert_eq!(fed, Fed { refusal: 0, taken: 0, ready: false, alarm: false, words: 0, state: state_before });
     assert_eq!(feed_refused(&state(2, 0, 0, 0, 1, 0), 0, 0, 0), 6);
     assert_eq!(feed_refused(&waiting, 65_537, 0, 0), 2);
     assert_eq!(feed_refused(&waiting, 0, 1, 0), 7);
@@ -602,10 +609,10 @@ fn feeding_agrees_with_the_search_through_the_whole_stream() {
     for seed in 0..30 {
         let level = 2 + seed % 3;
         let stream = rough_stream(level, seed);
-        let (frames, end) = history::whole(level, &stream);
-        let (ready, state) = feed_all(&start(level), &stream);
+        let (frames, tested, end) = history::whole(level, &stream);
+        let (ready, words, state) = feed_counted(&start(level), &stream);
         let after: Vec<u64> = frames.iter().map(|frame| frame.after as u64).collect();
-        assert_eq!((ready, state), (after, end), "seed {seed}");
+        assert_eq!((ready, words, state), (after, tested as u64, end), "seed {seed}");
     }
 }
 
