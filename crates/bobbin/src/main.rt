@@ -2,6 +2,7 @@
 // `refused` or `failed`, which ./spritbobbin turns into an exit status.
 mod demo;
 
+use approving::agree;
 use comparing::compared;
 use console::help;
 use console::words;
@@ -50,23 +51,30 @@ const NOTES: u8 = 5;
 
 const EXTRACT: u8 = 6;
 
+// Those of the plain engine, and of both.
+const PLAIN_SEND: u8 = 7;
+
+const PLAIN_TAKE: u8 = 8;
+
+const AGREE: u8 = 9;
+
 // Those that take no level in that place.
-const SHOW: u8 = 7;
+const SHOW: u8 = 10;
 
-const WATCH: u8 = 8;
+const WATCH: u8 = 11;
 
-const COMPARE: u8 = 9;
+const COMPARE: u8 = 12;
 
 // Those of 2048 kbit/s.
-const BUILD: u8 = 10;
+const BUILD: u8 = 13;
 
-const APART: u8 = 11;
+const APART: u8 = 14;
 
-const HUNT: u8 = 12;
+const HUNT: u8 = 15;
 
-const MULTIFRAME: u8 = 13;
+const MULTIFRAME: u8 = 16;
 
-const NO_COMMAND: u8 = 14;
+const NO_COMMAND: u8 = 17;
 
 // Beside NO_NOTE, where there is none: a word that should be a note and is none.
 const WRONG_NOTE: u16 = 257;
@@ -130,6 +138,19 @@ fn which_command(word: &[u8]) -> u8 {
     if check::same(word, b"compare") {
         return COMPARE;
     }
+    which_of_plain(word)
+}
+
+fn which_of_plain(word: &[u8]) -> u8 {
+    if check::same(word, b"plain-send") {
+        return PLAIN_SEND;
+    }
+    if check::same(word, b"plain-take") {
+        return PLAIN_TAKE;
+    }
+    if check::same(word, b"agree") {
+        return AGREE;
+    }
     which_of_2048(word)
 }
 
@@ -159,6 +180,9 @@ fn fits(which: u8, last: usize) -> bool {
         KEEP => last == keep::CAPTURE || last == keep::LABEL,
         NOTES => last == notes::LINE || last == notes::NOTES,
         EXTRACT => last == extract::TRIBUTARIES,
+        PLAIN_SEND => last == send::LINE,
+        PLAIN_TAKE => last == take::TRIBUTARIES,
+        AGREE => last == agree::LINE,
         SHOW => last == opened::CAPTURE || last == opened::LINE,
         WATCH => watch::FIRST < last && last <= watch::LAST && last % 2 == 1,
         COMPARE => last == compared::OTHER || last == compared::PICTURE,
@@ -189,6 +213,15 @@ fn wrong_words(which: u8) {
         COMPARE => help::wrong_call(
             b"compare takes two captures, and a file for the picture where wanted.",
         ),
+        _ => wrong_words_of_plain(which),
+    }
+}
+
+fn wrong_words_of_plain(which: u8) {
+    match which {
+        PLAIN_SEND => help::wrong_call(b"plain-send takes a level and three files, as send does."),
+        PLAIN_TAKE => help::wrong_call(b"plain-take takes a level and three files."),
+        AGREE => help::wrong_call(b"agree takes a level and a file."),
         _ => wrong_words_of_2048(which),
     }
 }
@@ -208,7 +241,7 @@ fn counted(which: u8, last: usize) {
         wrong_words(which);
         return;
     }
-    if which == TAKE {
+    if which == TAKE || which == PLAIN_TAKE {
         if words::one_name(sizes::minus(last, 1), last) {
             help::wrong_call(b"NOTES and TRIBUTARIES are two files: give two names.");
             return;
@@ -302,11 +335,14 @@ fn started(which: u8, last: usize, row: Row, level: u64)
 {
     match which {
         FRAME => frame_shown(row, level, last),
-        SEND => send::run(row, level),
+        SEND => send::run(row, level, false),
         TAKE => take_line(row, level, last),
         FIND => find::run(row, level, last == find::PREFIX),
         NOTES => notes::run(row, level, last == notes::NOTES),
         EXTRACT => extract::run(row, level),
+        PLAIN_SEND => send::run(row, level, true),
+        PLAIN_TAKE => take::run(row, level, true),
+        AGREE => agree::run(row, level),
         _ => keep::run(row, level, last == keep::LABEL),
     }
 }
@@ -319,7 +355,7 @@ fn take_line(row: Row, level: u64, last: usize)
         wrong_words(TAKE);
         return;
     }
-    take::run(row, level);
+    take::run(row, level, false);
 }
 
 // frame LEVEL [NOTE] [FILE.svg]: the last word is a file where it ends in .svg, and a word before it is a note.

@@ -24,6 +24,14 @@ pub fn forms() {
         b"takes the line of a capture apart",
     );
     form(
+        b"plain-send .., plain-take LEVEL ..   ",
+        b"as send and as take of a line, by the plain engine",
+    );
+    form(
+        b"agree LEVEL LINE                     ",
+        b"takes LINE apart and makes it again by both engines",
+    );
+    form(
         b"notes LEVEL LINE [NOTES]             ",
         b"the notes of a line as a table; NOTES: writes them",
     );

@@ -55,5 +55,5 @@ fn read_on(which: u8, row: Row, c: Opened, room: &[u8])
         notes: NOTES,
         tributaries: TRIBUTARIES,
     };
-    take::run_from(row, r.level, from);
+    take::run_from(row, r.level, false, from);
 }

@@ -38,7 +38,8 @@ pub const NOTES: u8 = 2;
 
 pub const TRIBUTARIES: u8 = 3;
 
-// How far it is, and which file could not be read or written first, or none; and the refusal number and the frame that it names.
+// How far it is, and which file could not be read or written first, or none; the refusal number and the frame that it names; and whether the
+// plain engine makes the calls, or the quick one.
 pub struct Passage {
     pub open: OpenFiles,
     pub totals: Totals,
@@ -46,9 +47,16 @@ pub struct Passage {
     pub failed: u8,
     pub refusal: u64,
     pub frame: usize,
+    pub plain: bool,
 }
 
+// By the quick engine.
 pub fn start(open: OpenFiles) -> Passage {
+    start_by(open, false)
+}
+
+// By the plain engine, or by the quick one.
+pub fn start_by(open: OpenFiles, plain: bool) -> Passage {
     Passage {
         open,
         totals: Totals {
@@ -66,6 +74,7 @@ pub fn start(open: OpenFiles) -> Passage {
         failed: NONE,
         refusal: 0,
         frame: 0,
+        plain,
     }
 }
 

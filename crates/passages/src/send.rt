@@ -1,11 +1,12 @@
-// send LEVEL NOTES TRIBUTARIES LINE: makes a line of any number of frames. Each tributary's digits are read on from where the run before
-// ended, wherever in a byte that is.
+// send LEVEL NOTES TRIBUTARIES LINE: makes a line of any number of frames; plain-send by the plain engine. Each tributary's digits are read
+// on from where the run before ended, wherever in a byte that is.
 use crate::passage;
 use crate::passage::OpenFiles;
 use crate::passage::Passage;
 use crate::runs;
 use console::files;
 use console::help;
+use levels::judging::Counted;
 use recordings::carry;
 use recordings::sizes;
 use table::Row;
@@ -20,7 +21,7 @@ const TRIBUTARIES: usize = 4;
 
 pub const LINE: usize = 5;
 
-pub fn run(row: Row, level: u64)
+pub fn run(row: Row, level: u64, plain: bool)
     requires { ⌜ Shared row ⌝ }
 {
     let notes = files::open(NOTES);
@@ -40,13 +41,14 @@ pub fn run(row: Row, level: u64)
     if line < 0 {
         return;
     }
-    let start = passage::start(OpenFiles {
+    let from = OpenFiles {
         line,
         first: 0,
         notes: notes.fd,
         tributaries: tributaries.fd,
         quarter: tributaries.bytes / 4,
-    });
+    };
+    let start = passage::start_by(from, plain);
     end(level, runs::all(row, level, notes.bytes, start));
 }
 
@@ -91,7 +93,7 @@ fn send_on(
     filled: bool,
     t: Passage,
 ) -> Passage {
-    let r = multiplex::multiplex(level, line, notes, buffer);
+    let r = multiplex_by(t.plain, level, line, notes, buffer);
     let to = t.open;
     let written = files::write_at(to.line, line, at);
     let totals = t.totals;
@@ -106,6 +108,25 @@ fn send_on(
         failed: passage::first_failed(unread, written && r.refusal == 0, passage::LINE),
         refusal: r.refusal,
         frame: sizes::plus(totals.frames, r.frame),
+        plain: t.plain,
+    }
+}
+
+// The call, by one engine or the other.
+fn multiplex_by(plain: bool, level: u64, line: &mut [u8], notes: &[u8], buffer: &[u8]) -> Counted {
+    if plain {
+        return multiplex_plainly(level, line, notes, buffer);
+    }
+    multiplex::multiplex(level, line, notes, buffer)
+}
+
+fn multiplex_plainly(level: u64, line: &mut [u8], notes: &[u8], buffer: &[u8]) -> Counted {
+    let r = plain::multiplex(level, line, notes, buffer);
+    let counts = r.counts;
+    Counted {
+        refusal: r.refusal,
+        frame: r.frame,
+        counts,
     }
 }
 

@@ -1,5 +1,6 @@
 // Frames taken apart, up to 64 at a time: what is found is added up, and the notes and the tributaries' digits go to two files. The digits of
 // a tributary that do not fill a byte yet are kept for the next run, so that there is no gap.
+use crate::by;
 use console::files;
 use levels::judging::Counted;
 use passages::passage;
@@ -17,7 +18,7 @@ ghost use lib.ListN.{length};
 pub fn run(level: u64, line: &[u8], notes: &mut [u8], buffer: &mut [u8], t: Passage) -> Passage
     requires { ⌜ length (now buffer) ≤ 65536 ⌝ }
 {
-    let read = reading::read_notes(level, line, notes);
+    let read = by::read_notes(t.plain, level, line, notes);
     let u = write_notes(notes, t);
     extract(read, level, line, notes, buffer, u)
 }
@@ -44,7 +45,7 @@ fn extract(
 ) -> Passage
     requires { ⌜ length (now buffer) ≤ 65536 ⌝ }
 {
-    let taken = extraction::extract(level, line, notes, buffer);
+    let taken = by::extract(t.plain, level, line, notes, buffer);
     add(read, taken, notes, buffer, t)
 }
 

@@ -1,4 +1,4 @@
-// take LEVEL LINE NOTES TRIBUTARIES: takes a line of any number of frames apart.
+// take LEVEL LINE NOTES TRIBUTARIES: takes a line of any number of frames apart; plain-take does by the plain engine.
 use crate::apart;
 use crate::runs;
 use console::files;
@@ -29,7 +29,7 @@ pub struct Source {
     pub tributaries: usize,
 }
 
-pub fn run(row: Row, level: u64)
+pub fn run(row: Row, level: u64, plain: bool)
     requires { ⌜ Shared row ⌝ }
 {
     let line = files::open(LINE);
@@ -48,11 +48,11 @@ pub fn run(row: Row, level: u64)
         notes: NOTES,
         tributaries: TRIBUTARIES,
     };
-    run_from(row, level, whole);
+    run_from(row, level, plain, whole);
 }
 
 // The same with a line that has whole frames, wherever in a file it begins.
-pub fn run_from(row: Row, level: u64, from: Source)
+pub fn run_from(row: Row, level: u64, plain: bool, from: Source)
     requires { ⌜ Shared row × (from .bytes ≤ longest) ⌝ }
 {
     let notes = files::create(from.notes, b"");
@@ -65,13 +65,14 @@ pub fn run_from(row: Row, level: u64, from: Source)
         return;
     }
     let frames = from.bytes / row.bytes;
-    let start = passage::start(OpenFiles {
+    let to = OpenFiles {
         line: from.fd,
         first: from.first,
         notes,
         tributaries,
         quarter: sizes::quarter_bytes(row, frames),
-    });
+    };
+    let start = passage::start_by(to, plain);
     end(
         level,
         from,

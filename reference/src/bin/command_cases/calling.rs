@@ -2,11 +2,13 @@
 
 use crate::case::{words, Case};
 
-const COMMANDS: [&str; 16] = [
+const COMMANDS: [&str; 18] = [
     "demo",
     "frame",
     "send",
     "take",
+    "plain-send",
+    "agree",
     "notes",
     "extract",
     "find",
@@ -22,7 +24,7 @@ const COMMANDS: [&str; 16] = [
 ];
 
 /// Wrong calls. The files that they name are there.
-const WRONG: [&str; 56] = [
+const WRONG: [&str; 66] = [
     "",
     "bogus",
     "sen 2 notes tributaries out",
@@ -42,6 +44,16 @@ const WRONG: [&str; 56] = [
     "take 2 line out",
     "take 2 line out more yet-more",
     "take 2 line out out",
+    "plain-send",
+    "plain-send 2 notes tributaries",
+    "plain-send 2 notes tributaries out more",
+    "plain-take",
+    "plain-take 2 line out",
+    "plain-take 2 line out more yet-more",
+    "plain-take 2 line out out",
+    "agree",
+    "agree 2",
+    "agree 2 line more",
     "notes",
     "notes 2",
     "notes 2 line out more",

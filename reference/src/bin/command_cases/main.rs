@@ -16,6 +16,7 @@
 //! `case` writes such a folder. `inputs` and `stream` make what is read, `worked` says
 //! what comes of it and `texts` in which words. The others list the cases.
 
+mod approving;
 mod calling;
 mod case;
 mod comparing;
@@ -59,6 +60,7 @@ fn main() -> io::Result<()> {
     cases.extend(comparing::cases());
     cases.extend(multiframes::cases());
     cases.extend(hunting::cases());
+    cases.extend(approving::cases());
     cases.extend(trips::cases());
     cases.extend(calling::cases());
     let mut list = String::new();

@@ -40,6 +40,19 @@ pub fn taken(row: &Row, taken: &Taken) -> String {
     heading + &table_and_errors(taken)
 }
 
+/// What agree prints where both engines give the same: the bytes compared after each call.
+pub fn agree(row: &Row, compared: [usize; 3]) -> String {
+    let [notes, tributaries, line] = compared;
+    format!(
+        "Level {}: {notes} frames, by the quick engine and by the plain one.\n\
+         bytes compared after read_notes: {notes}\n\
+         bytes compared after extract:    {tributaries}\n\
+         bytes compared after multiplex:  {line}\n\
+         The two engines agree, in every byte and in what each call answered.\n",
+        row.level
+    )
+}
+
 pub fn extracted(row: &Row, taken: &Taken) -> String {
     let frames = taken.notes.len();
     format!("Level {}: {frames} frames taken apart by these notes.\n", row.level)

@@ -1,0 +1,3 @@
+// The command agree: both engines beside each other on a line.
+pub mod agree;
+mod pair;
