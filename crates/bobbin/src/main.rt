@@ -1,12 +1,11 @@
 // Spritbobbin on the command line: reads the arguments and hands on to a command. The last line of a refused or failed command begins with
 // `refused` or `failed`, which ./spritbobbin turns into an exit status.
-mod demo;
-
 use approving::agree;
 use comparing::compared;
 use console::help;
 use console::words;
 use console::words::NO_NOTE;
+use demonstration::demo;
 use finding::find;
 use hunting::hunt;
 use keeping::keep;

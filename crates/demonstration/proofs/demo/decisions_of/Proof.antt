@@ -1,8 +1,8 @@
 -- The frame stays inside the notes.
 use Prim.Native.Nat.{_≤_, _-_}
 use borrow.Author.Needs.{needs}
-use Rattle.bobbin.proofs.demo.decisions_of.Statement.{statement}
-use Rattle.bobbin.proofs.demo.decisions_of.Tie as tie
+use Rattle.demonstration.proofs.demo.decisions_of.Statement.{statement}
+use Rattle.demonstration.proofs.demo.decisions_of.Tie as tie
 
 abbrev Inv-loop : tie.InvT-loop
 Inv-loop j f₀ t5 t6 f = f ≤ 8

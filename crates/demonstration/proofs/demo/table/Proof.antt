@@ -1,8 +1,8 @@
 -- The tributary stays inside the counts.
 use Prim.Native.Nat.{_≤_, _-_}
 use borrow.Author.Needs.{needs}
-use Rattle.bobbin.proofs.demo.table.Statement.{statement}
-use Rattle.bobbin.proofs.demo.table.Tie as tie
+use Rattle.demonstration.proofs.demo.table.Statement.{statement}
+use Rattle.demonstration.proofs.demo.table.Tie as tie
 
 abbrev Inv-loop : tie.InvT-loop
 Inv-loop sent back counts came j₀ j = j ≤ 4

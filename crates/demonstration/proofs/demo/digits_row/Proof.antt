@@ -1,8 +1,8 @@
 -- The frame stays inside the line.
 use Prim.Native.Nat.{_≤_, _-_}
 use borrow.Author.Needs.{needs}
-use Rattle.bobbin.proofs.demo.digits_row.Statement.{statement}
-use Rattle.bobbin.proofs.demo.digits_row.Tie as tie
+use Rattle.demonstration.proofs.demo.digits_row.Statement.{statement}
+use Rattle.demonstration.proofs.demo.digits_row.Tie as tie
 
 abbrev Inv-loop : tie.InvT-loop
 Inv-loop words line place f₀ t5 f = f ≤ 8

@@ -1,8 +1,8 @@
 -- Each tributary once.
 use Prim.Native.Nat.{_≤_, _-_}
 use borrow.Author.Needs.{needs}
-use Rattle.bobbin.proofs.demo.decisions.Statement.{statement}
-use Rattle.bobbin.proofs.demo.decisions.Tie as tie
+use Rattle.demonstration.proofs.demo.decisions.Statement.{statement}
+use Rattle.demonstration.proofs.demo.decisions.Tie as tie
 
 abbrev Inv-loop : tie.InvT-loop
 Inv-loop j₀ j = j ≤ 4

@@ -1,0 +1,2 @@
+// The command demo.
+pub mod demo;
