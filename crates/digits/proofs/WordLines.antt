@@ -1,7 +1,7 @@
 -- A search for words on a line. The line's words come n digits apart, and nothing else in it equals the word; the search keeps its last digits as a number. Once as
 -- many digits of the line came as a word has, the window is the word exactly at the true place, whatever came before the line. So a search whose digits each
 -- are a move of proofs/Deadline.antt holds the true place after as many digits of the line as were due, from any state, and as long as the line lasts.
-use mathlib.Core.Path.{_≡_, refl, sym, _∙_}
+use mathlib.Core.Path.{_≡_, sym, _∙_}
 use mathlib.Core.Bool.{cond}
 use mathlib.Core.List.{List, [], _∷_, _++_, append-nil}
 use Prim.Native.Nat.{ℕ, suc, _+_, _*_, _-_, _%_, _^_, _≤_, _<_, min}
