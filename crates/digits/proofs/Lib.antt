@@ -8,5 +8,7 @@ pub mod Written
 pub mod Lasts
 pub mod Histories
 pub mod Runs
+pub mod Deadline
+pub mod WordLines
 pub mod ZeroLaws
 pub mod Below

@@ -8,7 +8,7 @@ use Prim.Native.Nat.{ℕ, zero, suc, _+_, _-_, _*_, _≤_, _<_}
 use native.Mathlib.Omega.{arith}
 use native.Mathlib.Numerals.{add-one}
 use lib.ListN.{length, getD, take, drop, length-take}
-use lib.Seq.{length-take-le, take-all, take-nil, take-take, take-add, drop-drop, drop-cons, getD-drop}
+use lib.Seq.{length-take-le, take-all, take-nil, take-take, take-add, take-suc, drop-drop, drop-cons, getD-drop}
 use Rattle.digits.specs.Digits.{digitsOf, Binary}
 use Rattle.digits.specs.Runs.{heard, Run, runOf, stopsAt, untouched, joined, Stop, stopsOf}
 use Rattle.digits.specs.Runs.{pieceOf, Piece, digitsIn, Lent, AllLent, digitsInAll, restOf, leftBy, takenBy, saidBy, callsFor, callsForAll}
@@ -54,6 +54,11 @@ module _ {S : Type 0} (step : S → ℕ → S) where
   unfolding heard
   heard-kept P keeps [] s h = h
   heard-kept P keeps (d ∷ ds) s h = heard-kept P keeps ds (step s d) (keeps s h d)
+
+  -- one digit more of a list
+  pub heard-next : (s : S) (ds : List ℕ) (k : ℕ) → k < length ds → heard step s (take (suc k) ds) ≡ step (heard step s (take k ds)) (getD ds k 0)
+  unfolding heard
+  heard-next s ds k h = rw (take-suc ds k 0 h) (heard-append s (take k ds) (getD ds k 0 ∷ []))
 
   module _ (stops : S → S → Bool) where
     -- ---- a run: the state is that of the history grown by the digits taken; it stops where it is to, or else at the end
@@ -228,18 +233,19 @@ module _ {S : Type 0} (step : S → ℕ → S) where
             let on : before + suc n ≡ before + 1 + n = omega arith in
             rw (more, q, on) (rest n (omega arith))
 
-    -- ---- any calls whatever, refused ones too: each takes nothing, or is the run over its digits
+    -- ---- any calls whatever, refused ones too: from a state that is known, as every digit leaves it, each takes nothing or is the run over its digits
 
-    module _ (call : S → Piece → Run S) (each : (s : S) (p : Piece) → (call s p ≡ untouched s) ⊎ (call s p ≡ runOf step stops (digitsIn p) 0 s)) where
+    module _ (call : S → Piece → Run S) (K : S → Type 0) (knows : (s : S) → K s → (d : ℕ) → K (step s d))
+        (each : (s : S) → K s → (p : Piece) → (call s p ≡ untouched s) ⊎ (call s p ≡ runOf step stops (digitsIn p) 0 s)) where
       -- one call: its state and what it says are those of the digits that it took
-      record Answered (s : S) (p : Piece) (r : Run S) : Type 0 where
+      pub record Answered (s : S) (p : Piece) (r : Run S) : Type 0 where
         pub within : r .taken ≤ length (digitsIn p)
         pub state : r .state ≡ heard step s (take (r .taken) (digitsIn p))
         pub said : (before : ℕ) → saidIn (before + r .taken) r ≡ stopsOf step stops before s (take (r .taken) (digitsIn p))
 
-      answered : (s : S) (p : Piece) → Answered s p (call s p)
+      pub answered : (s : S) → K s → (p : Piece) → Answered s p (call s p)
       unfolding heard stopsOf
-      answered s p = ⊎-elim (λ e. rw e none) (λ e. rw e run) (each s p)
+      answered s known p = ⊎-elim (λ e. rw e none) (λ e. rw e run) (each s known p)
         where
           none : Answered s p (untouched s)
           none = record { within = omega arith; state = refl; said = λ _. refl }
@@ -254,18 +260,21 @@ module _ {S : Type 0} (step : S → ℕ → S) where
                 said = λ before. run-said (digitsIn p) 0 before s (runOf step stops (digitsIn p) 0 s .taken) (omega arith);
               }
 
+      pub call-known : (s : S) → K s → (p : Piece) → K (call s p .state)
+      call-known s known p = rw (answered s known p .state) (heard-kept K knows (take (call s p .taken) (digitsIn p)) s known)
+
       -- however a stream is cut into calls, and whatever they answer: the state that they leave and the stops that they say are those of the
       -- digits that they took
-      pub as-taken : (ps : List Piece) (before : ℕ) (s : S)
+      pub as-taken : (ps : List Piece) (before : ℕ) (s : S) → K s
           → (leftBy call s ps ≡ heard step s (takenBy call s ps)) × (saidBy call before s ps ≡ stopsOf step stops before s (takenBy call s ps))
       unfolding leftBy takenBy saidBy heard stopsOf
-      as-taken [] before s = (refl, refl)
-      as-taken (p ∷ ps) before s =
-          let one = answered s p in
+      as-taken [] before s known = (refl, refl)
+      as-taken (p ∷ ps) before s known =
+          let one = answered s known p in
           let r = call s p in
           let xs = take (r .taken) (digitsIn p) in
           let ys = takenBy call (r .state) ps in
-          let rest = as-taken ps (before + r .taken) (r .state) in
+          let rest = as-taken ps (before + r .taken) (r .state) (call-known s known p) in
           let size : length xs ≡ r .taken = length-take-le (r .taken) (digitsIn p) (one .within) in (
             rest .0 ∙ rw (heard-append s xs ys, one .state),
             ap₂ (λ (a b : List (Stop S)). a ++ b) (one .said before) (rest .1) ∙ rw (stops-append before s xs ys, size, one .state),
@@ -281,10 +290,10 @@ module _ {S : Type 0} (step : S → ℕ → S) where
           (sym (append-assoc (take (call s p .taken) (digitsIn p)) (takenBy call (call s p .state) ps) (takenBy call (leftBy call (call s p .state) ps) ys)))
 
       -- a state from which every lent piece is accepted, and a digit keeps it so
-      module _ (P : S → Type 0) (keeps : (s : S) → P s → (d : ℕ) → P (step s d))
+      module _ (P : S → Type 0) (keeps : (s : S) → P s → (d : ℕ) → P (step s d)) (known : (s : S) → P s → K s)
           (accepts : (s : S) → P s → (p : Piece) → Lent p → call s p ≡ runOf step stops (digitsIn p) 0 s) where
         pub left-kept : (s : S) → P s → (ps : List Piece) → P (leftBy call s ps)
-        left-kept s v ps = rw (as-taken ps 0 s .0) (heard-kept P keeps (takenBy call s ps) s v)
+        left-kept s v ps = rw (as-taken ps 0 s (known s v) .0) (heard-kept P keeps (takenBy call s ps) s v)
 
         -- the calls for a piece take all its digits
         all-of-one : (n : ℕ) (s : S) → P s → (p : Piece) → Lent p → p .count ≤ n → takenBy call s (callsFor call n s p) ≡ digitsIn p
@@ -316,7 +325,7 @@ module _ {S : Type 0} (step : S → ℕ → S) where
             by-stop true e rest = ap (λ (xs : List ℕ). take k ds ++ xs) (rest (omega (arith, r .counted, r .at-stop e .0))) ∙ piece-rest p k upto
             by-stop false e rest = append-nil (take k ds) ∙ take-all k ds (omega (arith, r .counted, r .at-end e))
 
-        all-taken : (ps : List Piece) (s : S) → P s → AllLent ps → takenBy call s (callsForAll call s ps) ≡ digitsInAll ps
+        pub all-taken : (ps : List Piece) (s : S) → P s → AllLent ps → takenBy call s (callsForAll call s ps) ≡ digitsInAll ps
         unfolding callsForAll takenBy digitsInAll
         all-taken [] s v lent = refl
         all-taken (p ∷ ps) s v lent =
@@ -328,7 +337,7 @@ module _ {S : Type 0} (step : S → ℕ → S) where
         pub as-the-stream : (s : S) → P s → (ps : List Piece) → AllLent ps
             → (leftBy call s (callsForAll call s ps) ≡ heard step s (digitsInAll ps))
             × (saidBy call 0 s (callsForAll call s ps) ≡ stopsOf step stops 0 s (digitsInAll ps))
-        as-the-stream s v ps lent = rw (all-taken ps s v lent) at (as-taken (callsForAll call s ps) 0 s)
+        as-the-stream s v ps lent = rw (all-taken ps s v lent) at (as-taken (callsForAll call s ps) 0 s (known s v))
 
         -- two ways to cut one stream
         pub cut-anywhere : (s : S) → P s → (ps qs : List Piece) → AllLent ps → AllLent qs → digitsInAll ps ≡ digitsInAll qs

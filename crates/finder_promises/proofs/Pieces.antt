@@ -120,9 +120,9 @@ call-run s v p lent =
     let said = run-says (digitsIn p) 0 s in
     rw (e, said)
 
-pub call-each : (s : State) (p : Piece) → (callOf s p ≡ untouched s) ⊎ (callOf s p ≡ runOf stepOf turned (digitsIn p) 0 s)
+pub call-each : (s : State) → Unit {0} → (p : Piece) → (callOf s p ≡ untouched s) ⊎ (callOf s p ≡ runOf stepOf turned (digitsIn p) 0 s)
 unfolding feedOf
-call-each s p =
+call-each s _ p =
     cond-told (λ (r : Fed). (record { taken = r .taken; stopped = differ (aligned (s .mode)) (aligned (r .state .mode)); state = r .state } ≡ untouched s)
     ⊎ (record { taken = r .taken; stopped = differ (aligned (s .mode)) (aligned (r .state .mode)); state = r .state } ≡ runOf stepOf turned (digitsIn p) 0 s))
     (eqb (refusalOf s (length (p .slice)) (p .first) (p .count)) 0)
@@ -158,19 +158,19 @@ feed-cut s v slice first a b l =
 -- any calls whatever, refused ones too: the state that they leave and what they say is found and lost are those of the digits that they took
 pub as-taken : (ps : List Piece) (before : ℕ) (s : State)
     → (leftBy callOf s ps ≡ heard stepOf s (takenBy callOf s ps)) × (saidBy callOf before s ps ≡ stopsOf stepOf turned before s (takenBy callOf s ps))
-as-taken = runs.as-taken stepOf turned callOf call-each
+as-taken ps before s = runs.as-taken stepOf turned callOf (λ _. Unit {0}) (λ _ _ _. tt) call-each ps before s tt
 
 -- pieces fed one after another, each with its rest after a stop: the stream of all their digits
 pub as-the-stream : (s : State) → Valid s → (ps : List Piece) → AllLent ps
     → (leftBy callOf s (callsForAll callOf s ps) ≡ heard stepOf s (digitsInAll ps))
     × (saidBy callOf 0 s (callsForAll callOf s ps) ≡ stopsOf stepOf turned 0 s (digitsInAll ps))
-as-the-stream = runs.as-the-stream stepOf turned callOf call-each Valid (λ s v d. step-valid s v d) call-run
+as-the-stream = runs.as-the-stream stepOf turned callOf (λ _. Unit {0}) (λ _ _ _. tt) call-each Valid (λ s v d. step-valid s v d) (λ _ _. tt) call-run
 
 -- two ways to cut one stream
 pub cut-anywhere : (s : State) → Valid s → (ps qs : List Piece) → AllLent ps → AllLent qs → digitsInAll ps ≡ digitsInAll qs
     → (leftBy callOf s (callsForAll callOf s ps) ≡ leftBy callOf s (callsForAll callOf s qs))
     × (saidBy callOf 0 s (callsForAll callOf s ps) ≡ saidBy callOf 0 s (callsForAll callOf s qs))
-cut-anywhere = runs.cut-anywhere stepOf turned callOf call-each Valid (λ s v d. step-valid s v d) call-run
+cut-anywhere = runs.cut-anywhere stepOf turned callOf (λ _. Unit {0}) (λ _ _ _. tt) call-each Valid (λ s v d. step-valid s v d) (λ _ _. tt) call-run
 
 -- from reset
 pub fresh-stream : (ps : List Piece) → AllLent ps

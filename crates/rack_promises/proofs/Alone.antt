@@ -20,7 +20,7 @@ use Rattle.receiver.specs.declared.State.{State}
 use Rattle.receiver.specs.declared.Fed.{Fed}
 use Rattle.receiver.specs.Modes.{missed}
 use Rattle.receiver.specs.Feed.{freshState, freshOf, freshAt, feedOf, feedAt, feedRow, refused, refusalOf, runOf, pieceOf, coreOf, ValidState}
-use Rattle.receiver_promises.proofs.Pieces.{feed-valid, fresh-state, ran}
+use Rattle.receiver_promises.proofs.Pieces.{feed-valid, fresh-state, run-answer}
 use Rattle.rack.specs.declared.record.Record.{Record}
 use Rattle.rack.specs.declared.record.Kept.{Kept}
 use Rattle.rack.specs.Record.{modeNumber, modeOf, isYes, stateFrom, recordOf, fedBy, fedAnswer, fedRecord, keptAfter, keptReset}
@@ -134,7 +134,7 @@ refused-equal s row known piece first count =
     rw known
     (cond-told (λ (f : Fed). cond (eqb (f .refusal) 0) (recordOf (f .state)) (recordOf s) ≡ recordOf (f .state))
     (eqb (refusalOf row (coreOf s) (s .stretch) (length piece) first count) 0)
-    (λ _. rw (ran row (pieceOf piece first count) 0 0 s .accepted)) (λ e. rw e))
+    (λ _. rw (run-answer row (pieceOf piece first count) s)) (λ e. rw e))
 
 module _ (s : State) (sound : Sound s) where
   few : missed (s .mode) ≤ 3

@@ -11,7 +11,7 @@ use Rattle.digits.proofs.ZeroLaws.{between-none, between-one, between-join, bet
 use Rattle.table.specs.declared.Row.{Row}
 use Rattle.receiver.specs.declared.alarm.Stretch.{Stretch}
 use Rattle.receiver.specs.Alarm.{added, countOf, counted, Counting}
-use Rattle.receiver.proofs.Validity.{cond-told}
+use Rattle.digits.proofs.Tests.{cond-told}
 
 module _ (row : Row) where
   pub counted-append : (st : Stretch) (xs ys : List ℕ) → counted row st (xs ++ ys) ≡ counted row (counted row st xs) ys

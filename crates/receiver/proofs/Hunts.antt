@@ -20,9 +20,10 @@ use Rattle.receiver.specs.Modes.{hunting, windowOf, seenOf, good, asks, 
 use Rattle.receiver.specs.Frame.{keepOf, readyOf}
 use Rattle.receiver.specs.Feed.{stateOf, afterOf, runOf, pieceOf, Valid}
 use Rattle.receiver.specs.Hunt.{stillHunting, testedIn, Hunted}
-use Rattle.receiver.proofs.Validity.{cond-told, step-valid}
+use Rattle.receiver.proofs.Validity.{step-valid}
 use Rattle.receiver.proofs.Counts.{counted-none, counted-one}
-use Rattle.receiver.proofs.Runs.{piece-step}
+use Rattle.digits.proofs.Runs.{piece-step}
+use Rattle.digits.proofs.Tests.{cond-told}
 
 -- a valid core that hunts is no more than its window and its digits seen
 hunting-is : (mode : Mode) → hunting mode ≡ true → mode ≡ Hunting

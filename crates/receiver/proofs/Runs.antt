@@ -1,14 +1,12 @@
 -- Laws of the run over a piece: the loop's invariant, one turn of the loop, and its two ends.
 use mathlib.Core.Path.{_≡_, refl, sym, _∙_}
 use mathlib.Core.Bool.{true, false}
-use mathlib.Core.List.{List, _∷_}
+use mathlib.Core.List.{List}
 use Prim.Native.Nat.{ℕ, suc, _+_, _*_, _-_, _≤_, _<_}
 use native.Mathlib.Omega.{arith}
-use native.Mathlib.Numerals.{add-one}
 use lib.ListN.{length, getD}
-use lib.Seq.{drop-cons}
 use Rattle.digits.specs.Digits.{digitsOf, between}
-use Rattle.digits.proofs.Laws.{digits-length}
+use Rattle.digits.proofs.Runs.{piece-step}
 use Rattle.table.specs.declared.Row.{Row}
 use Rattle.receiver.specs.declared.modes.Core.{Core}
 use Rattle.receiver.specs.declared.alarm.Stretch.{Stretch}
@@ -49,13 +47,6 @@ going row slice first count level st c f v k small within =
       most = omega arith;
       same = rw (← counted-none row slice st first, none, whole);
     }
-
--- the next digit of a piece is its first
-pub piece-step : (slice : List ℕ) (p end : ℕ) → p < end → end ≤ 8 * length slice
-    → pieceOf slice p (end - p) ≡ getD (digitsOf slice) p 0 ∷ pieceOf slice (p + 1) (end - (p + 1))
-piece-step slice p end h w =
-    let e : end - p ≡ suc (end - (p + 1)) = omega arith in
-    rw (e, add-one p, drop-cons (digitsOf slice) p 0 (omega (arith, digits-length slice)))
 
 -- a stretch of the hunt leaves the same to do
 pub going-on : (row : Row) (slice : List ℕ) (first count end level : ℕ) (st₀ : Stretch) (c₀ : Core) (f₀ : List ℕ) (c : Core) (f : List ℕ) (words p at tested : ℕ) (c′ : Core)

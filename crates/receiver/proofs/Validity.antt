@@ -1,12 +1,13 @@
 -- Validity: a state is not refused with 6 exactly if each item holds, and a digit keeps it so.
-use mathlib.Core.Path.{_≡_, refl, sym, ap}
-use mathlib.Core.Bool.{Bool, cond, true, false, not, _&&_, _||_, true≢false}
+use mathlib.Core.Path.{_≡_, refl, ap}
+use mathlib.Core.Bool.{Bool, cond, true, false, not, _&&_, _||_}
 use Prim.Native.Nat.{ℕ, _+_, _*_, _^_, _≤_, _<_}
 use native.Mathlib.Omega.{arith}
 use native.Mathlib.Nat.{mod-lt}
 use borrow.Author.Tests.{ltb-true, ltb-false, leb-true, leb-false, eqb-true, eqb-false, lt-leb, le-ltb, eq-eqb}
 use lib.Dec.{eqb, ltb, leb}
 use lib.Pow.{pow-pos}
+use Rattle.digits.proofs.Tests.{cond-told, or-neither, and-asked, not-true}
 use Rattle.table.specs.declared.Row.{Row}
 use Rattle.levels.specs.Table.{Shared}
 use Rattle.receiver.specs.declared.Mode.{Mode}
@@ -17,59 +18,29 @@ use Rattle.receiver.specs.declared.alarm.Stretch.{Stretch}
 use Rattle.receiver.specs.Alarm.{uncounted, Counting}
 use Rattle.receiver.specs.Feed.{invalid, refusalOf, Valid}
 
--- ---- tests
-
--- what the test says may be used in either answer
-pub cond-told : {A : Type 0} (P : A → Type 0) (t : Bool) {a b : A} → (t ≡ true → P a) → (t ≡ false → P b) → P (cond t a b)
-cond-told P true x y = x refl
-cond-told P false x y = y refl
-
-or-left : (a b : Bool) → (a || b) ≡ false → a ≡ false
-or-left false b e = refl
-or-left true b e = e
-
-or-right : (a b : Bool) → (a || b) ≡ false → b ≡ false
-or-right false b e = e
-or-right true b e = absurd (true≢false e)
-
-none : (a b c d e f : Bool) → (a || b || c || d || e || f) ≡ false
-    → (a ≡ false) × (b ≡ false) × (c ≡ false) × (d ≡ false) × (e ≡ false) × (f ≡ false)
-none a b c d e f h5 =
-    let h4 = or-left (a || b || c || d || e) f h5 in
-    let h3 = or-left (a || b || c || d) e h4 in
-    let h2 = or-left (a || b || c) d h3 in
-    let h1 = or-left (a || b) c h2 in
-    (or-left a b h1, or-right a b h1, or-right (a || b) c h2, or-right (a || b || c) d h3, or-right (a || b || c || d) e h4, or-right (a || b || c || d || e) f h5)
-
--- a test that is asked only where another holds
-pub and-asked : (a b : Bool) → (a && b) ≡ false → a ≡ true → b ≡ false
-and-asked true b e h = e
-and-asked false b e h = absurd (true≢false (sym h))
-
-pub and-both : (a b : Bool) → (a && b) ≡ true → (a ≡ true) × (b ≡ true)
-and-both true b e = (refl, e)
-and-both false b e = absurd (true≢false (sym e))
-
-not-true : (t : Bool) → not t ≡ false → t ≡ true
-not-true true e = refl
-not-true false e = absurd (true≢false e)
-
 -- ---- not refused with 6 is valid
 
 module _ (row : Row) (c : Core) where
   pub valid-if : invalid row c ≡ false → Valid row c
   unfolding invalid
   valid-if e =
-      let no-item =
-      none (leb (2 ^ row .len) (c .window)) (ltb (row .len) (c .seen)) (ltb 3 (missed (c .mode))) (leb (row .digits) (c .place))
-      (hunting (c .mode) && not (eqb (c .place) 0)) (not (hunting (c .mode)) && ltb (c .seen) (row .len)) e in
+      let u = leb (2 ^ row .len) (c .window) in
+      let v = ltb (row .len) (c .seen) in
+      let x = ltb 3 (missed (c .mode)) in
+      let y = leb (row .digits) (c .place) in
+      let z = hunting (c .mode) && not (eqb (c .place) 0) in
+      let h5 = or-neither (u || v || x || y || z) (not (hunting (c .mode)) && ltb (c .seen) (row .len)) e in
+      let h4 = or-neither (u || v || x || y) z (h5 .0) in
+      let h3 = or-neither (u || v || x) y (h4 .0) in
+      let h2 = or-neither (u || v) x (h3 .0) in
+      let h1 = or-neither u v (h2 .0) in
       record {
-        window = leb-false (2 ^ row .len) (c .window) (no-item .0);
-        seen = ltb-false (row .len) (c .seen) (no-item .1);
-        missed = ltb-false 3 (missed (c .mode)) (no-item .2);
-        place = leb-false (row .digits) (c .place) (no-item .3);
-        rests = λ h. eqb-true (c .place) 0 (not-true (eqb (c .place) 0) (and-asked (hunting (c .mode)) (not (eqb (c .place) 0)) (no-item .4) h));
-        came = λ h. ltb-false (c .seen) (row .len) (and-asked (not (hunting (c .mode))) (ltb (c .seen) (row .len)) (no-item .5) (ap not h));
+        window = leb-false (2 ^ row .len) (c .window) (h1 .0);
+        seen = ltb-false (row .len) (c .seen) (h1 .1);
+        missed = ltb-false 3 (missed (c .mode)) (h2 .1);
+        place = leb-false (row .digits) (c .place) (h3 .1);
+        rests = λ h. eqb-true (c .place) 0 (not-true (eqb (c .place) 0) (and-asked (hunting (c .mode)) (not (eqb (c .place) 0)) (h4 .1) h));
+        came = λ h. ltb-false (c .seen) (row .len) (and-asked (not (hunting (c .mode))) (ltb (c .seen) (row .len)) (h5 .1) (ap not h));
       }
 
   pub valid-only : Valid row c → invalid row c ≡ false
@@ -88,10 +59,8 @@ module _ (row : Row) (c : Core) where
 pub counting-if : (row : Row) (st : Stretch) → uncounted row st ≡ false → Counting row st
 unfolding uncounted
 counting-if row st e =
-    record {
-      within = leb-false (row .digits) (st .digits) (or-left (leb (row .digits) (st .digits)) (ltb (st .digits) (st .zeros)) e);
-      fewer = ltb-false (st .digits) (st .zeros) (or-right (leb (row .digits) (st .digits)) (ltb (st .digits) (st .zeros)) e);
-    }
+    let neither = or-neither (leb (row .digits) (st .digits)) (ltb (st .digits) (st .zeros)) e in
+    record { within = leb-false (row .digits) (st .digits) (neither .0); fewer = ltb-false (st .digits) (st .zeros) (neither .1) }
 
 pub counting-only : (row : Row) (st : Stretch) → Counting row st → uncounted row st ≡ false
 unfolding uncounted
@@ -113,8 +82,8 @@ module _ (row : Row) (c : Core) (st : Stretch) (bytes first count : ℕ) where
       (λ v. cond-told (λ (n : ℕ). n ≡ 0 → Accepted row c st bytes first count) (ltb 65536 bytes) (λ _ h. absurd (omega arith))
       (λ b. cond-told (λ (n : ℕ). n ≡ 0 → Accepted row c st bytes first count) (ltb (8 * bytes) (first + count)) (λ _ h. absurd (omega arith))
       (λ w _. record {
-        valid = valid-if row c (or-left (invalid row c) (uncounted row st) v);
-        counting = counting-if row st (or-right (invalid row c) (uncounted row st) v);
+        valid = valid-if row c (or-neither (invalid row c) (uncounted row st) v .0);
+        counting = counting-if row st (or-neither (invalid row c) (uncounted row st) v .1);
         small = ltb-false 65536 bytes b;
         within = ltb-false (8 * bytes) (first + count) w;
       })))

@@ -18,15 +18,17 @@ use Rattle.table.specs.Table.{levelOf}
 use Rattle.levels.specs.Table.{Shared}
 use Rattle.levels.proofs.Rows.{shared-row}
 use Rattle.receiver.specs.declared.State.{State}
+use Rattle.receiver.specs.declared.Fed.{Fed}
 use Rattle.receiver.specs.declared.alarm.Stretch.{Stretch}
 use Rattle.receiver.specs.Alarm.{isFew, alarmAfter, ended, added, counted, freshStretch, Counting}
 use Rattle.receiver_promises.specs.Stretches.{stretchesOf, alarmOver, alarmOf, EverywhereFew}
 use Rattle.receiver.specs.Feed.{freshState, afterOf, pieceOf, feedOf}
 use Rattle.receiver_promises.specs.History.{heard, since}
-use Rattle.receiver_promises.specs.Calls.{Piece, leftBy, callsForAll, digitsInAll, AllLent}
+use Rattle.digits.specs.Runs.{Piece, AllLent, digitsInAll, leftBy, callsForAll}
+use Rattle.receiver_promises.specs.Calls.{callOf}
 use Rattle.receiver.proofs.Counts.{counted-append, counted-added}
 use Rattle.receiver.proofs.Holding.{word-within}
-use Rattle.receiver_promises.proofs.Pieces.{heard-stretch, accepted-ran}
+use Rattle.receiver_promises.proofs.Pieces.{heard-stretch, accepted-answer, ran}
 use Rattle.receiver_promises.proofs.Calls.{fresh-stream}
 
 pub some-digits : (row : Row) → Shared row → 0 < row .digits
@@ -96,7 +98,7 @@ since-alarm level row known ds =
 
 -- whatever pieces it came in
 pub calls-alarm : (level : ℕ) (row : Row) → levelOf level ≡ Of row → (ps : List Piece) → AllLent ps
-    → leftBy (freshState level) (callsForAll (freshState level) ps) .stretch .alarm ≡ alarmOf row (digitsInAll ps)
+    → leftBy callOf (freshState level) (callsForAll callOf (freshState level) ps) .stretch .alarm ≡ alarmOf row (digitsInAll ps)
 calls-alarm level row known ps lent =
     ap (λ (s : State). s .stretch .alarm) (fresh-stream level row known ps lent .0) ∙ since-alarm level row known (digitsInAll ps)
 
@@ -104,9 +106,10 @@ calls-alarm level row known ps lent =
 pub reported : (s : State) (row : Row) → levelOf (s .level) ≡ Of row → (slice : List ℕ) (first count : ℕ) → feedOf s slice first count .refusal ≡ 0
     → feedOf s slice first count .alarm ≡ counted row (s .stretch) (take (feedOf s slice first count .taken) (pieceOf slice first count)) .alarm
 reported s row known slice first count e =
-    let r = accepted-ran s row known slice first count e in
-    let taken : r .taken ≡ feedOf s slice first count .taken = omega (arith, r .counted) in
-    r .alarm ∙ ap (λ (s′ : State). s′ .stretch .alarm) (r .state)
+    let is = accepted-answer s row known slice first count e in
+    let r = ran row (pieceOf slice first count) s in
+    let taken : feedOf s slice first count .taken ≡ r .taken = ap (λ (f : Fed). f .taken) is ∙ omega (arith, r .counted) in
+    ap (λ (f : Fed). f .alarm) is ∙ ap (λ (s′ : State). s′ .stretch .alarm) (r .state)
     ∙ ap (λ (st : Stretch). st .alarm) (heard-stretch row (take (r .taken) (pieceOf slice first count)) s) ∙ rw taken
 
 -- ---- everywhere few, or everywhere more

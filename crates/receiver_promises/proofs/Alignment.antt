@@ -8,6 +8,7 @@ use native.Mathlib.Omega.{arith}
 use borrow.Author.Tests.{eqb-true, eq-eqb, ne-eqb}
 use lib.Dec.{eqb}
 use lib.ListN.{length}
+use Rattle.digits.specs.Runs as runs
 use Rattle.table.specs.declared.Row.{Row}
 use Rattle.receiver.specs.declared.Mode.{Mode}
 use Rattle.receiver.specs.declared.Mode.the-variants.{Hunting, OneFound, TwoFound, Aligned}
@@ -16,7 +17,7 @@ use Rattle.receiver.specs.Modes.{hunting, seenOf, good, asks, judged, placeAfte
 use Rattle.receiver.specs.Frame.{aligned, readyOf}
 use Rattle.receiver.specs.Feed.{coreOf, afterOf}
 use Rattle.receiver_promises.specs.History.{heard}
-use Rattle.receiver.proofs.Validity.{cond-told, and-both}
+use Rattle.digits.proofs.Tests.{cond-told, and-both}
 
 -- ---- one digit, where the word is asked for and where it is not
 
@@ -47,7 +48,7 @@ module _ (row : Row) where
   -- outside hunting the mode stays until the place comes to N
   pub rises : (es : List ℕ) (s : State) → hunting (s .mode) ≡ false → s .place + length es < row .digits
       → (heard row s es .mode ≡ s .mode) × (heard row s es .place ≡ s .place + length es)
-  unfolding heard
+  unfolding runs.heard
   rises [] s h room = (refl, omega arith)
   rises (e ∷ es) s h room =
       let before : asks row (seenOf row (s .seen)) (s .mode) (s .place) ≡ false =
@@ -60,7 +61,7 @@ module _ (row : Row) where
   -- at N the word is judged
   arrives : (e : ℕ) (es : List ℕ) (s : State) → hunting (s .mode) ≡ false → s .place + suc (length es) ≡ row .digits
       → (heard row s (e ∷ es) .mode ≡ judged (s .mode) (good row (heard row s (e ∷ es) .window))) × (heard row s (e ∷ es) .place ≡ 0)
-  unfolding heard
+  unfolding runs.heard
   arrives e [] s h end =
       after-turn row s e
       (asks-held row (seenOf row (s .seen)) (s .mode) (s .place) h ∙ eq-eqb (s .place + 1) (row .digits) (omega arith))
@@ -140,7 +141,7 @@ module _ (row : Row) where
       by-asked false e = rw (after-on row s d e .0, after-on row s d e .1) (since-up n (s .mode) (s .place) h)
 
   since-all : (es : List ℕ) (n : ℕ) (s : State) → Since n (s .mode) (s .place) → Since (n + length es) (heard row s es .mode) (heard row s es .place)
-  unfolding heard
+  unfolding runs.heard
   since-all [] n s h =
       let e : n + 0 ≡ n = omega arith in
       rw e h

@@ -8,6 +8,7 @@ use native.Mathlib.Omega.{arith}
 use borrow.Author.Tests.{eqb-false, eq-eqb}
 use lib.Dec.{eqb}
 use lib.ListN.{length, take}
+use Rattle.digits.specs.Runs as runs
 use Rattle.table.specs.declared.Row.{Row}
 use Rattle.levels.specs.Table.{Shared}
 use Rattle.receiver.specs.declared.Mode.the-variants.{Hunting, Aligned}
@@ -17,7 +18,7 @@ use Rattle.receiver.specs.Frame.{aligned, readyOf}
 use Rattle.receiver.specs.Feed.{coreOf, afterOf}
 use Rattle.receiver_promises.specs.History.{heard, readyAfter, Missed}
 use Rattle.receiver.proofs.Holding.{word-within}
-use Rattle.receiver.proofs.Validity.{and-asked}
+use Rattle.digits.proofs.Tests.{and-asked}
 use Rattle.receiver_promises.proofs.Alignment.{after-on, after-turn, asked-at, up-one, frame-ready, missed-on, missed-out, not-before}
 use Rattle.receiver_promises.proofs.Traces.{aligned-held}
 
@@ -87,7 +88,7 @@ module _ (row : Row) (sh : Shared row) where
 
   -- hunting, no frame is ready
   pub none-hunting : (s : State) → s .mode ≡ Hunting → readyAfter row s [] ≡ false
-  unfolding heard readyOf
+  unfolding runs.heard readyOf
   none-hunting s e = rw e
 
   module _ (s : State) (early : Early s) (none : readyOf row (coreOf s) ≡ false) (d : ℕ) where
@@ -123,7 +124,7 @@ module _ (row : Row) (sh : Shared row) where
   -- while no frame is ready, the mode that is aligned stays
   pub early-stays : (es : List ℕ) (s : State) → Early s → aligned (s .mode) ≡ true
       → ((k : ℕ) → k < length es → readyAfter row s (take k es) ≡ false) → heard row s es .mode ≡ s .mode
-  unfolding heard
+  unfolding runs.heard
   early-stays [] s early q none = refl
   early-stays (d ∷ es) s early q none =
       let same = early-same s early (none 0 (omega arith)) d q in

@@ -9,6 +9,7 @@ use borrow.Author.Tests.{ltb-true, ltb-false, leb-true, leb-false, eqb-true, ne-
 use lib.Dec.{eqb, ltb, leb}
 use lib.ListN.{length, set, take, replicate, length-append, length-replicate}
 use lib.Seq.{take-all, take-append-le, set-at}
+use Rattle.digits.specs.Runs as runs
 use Rattle.digits.specs.Digits.{Binary, written}
 use Rattle.table.specs.declared.Row.{Row}
 use Rattle.levels.specs.Table.{Shared}
@@ -24,7 +25,8 @@ use Rattle.receiver_promises.specs.History.{heard, since, Handed}
 use Rattle.digits.proofs.Written.{written-zero}
 use Rattle.digits.proofs.Lists.{binary-append}
 use Rattle.receiver.proofs.Holding.{word-within, holding-digits, holding-length}
-use Rattle.receiver.proofs.Validity.{cond-told, and-both, step-valid, asked-came}
+use Rattle.digits.proofs.Tests.{cond-told, and-both}
+use Rattle.receiver.proofs.Validity.{step-valid, asked-came}
 use Rattle.digits.proofs.Lasts.{last-length, last-binary, last-more, last-zeros}
 use Rattle.digits.proofs.Histories.{recent-more}
 
@@ -204,7 +206,7 @@ module _ (row : Row) (sh : Shared row) where
 
   -- the trace goes on with every digit
   pub traced-on : (ds es : List ℕ) (s : State) → Traced row ds s → Binary es → Traced row (ds ++ es) (heard row s es)
-  unfolding heard
+  unfolding runs.heard
   traced-on ds [] s t bin = rw (append-nil ds) t
   traced-on ds (e ∷ es) s t bin =
       rw (append-assoc ds (e ∷ []) es) at (traced-on (ds ++ (e ∷ [])) es (afterOf row s e) (traced-more ds s t e (bin 0)) (λ i. bin (suc i)))

@@ -8,6 +8,7 @@ use native.Mathlib.Omega.{arith}
 use borrow.Author.Tests.{eqb-true, eqb-false, eq-eqb, le-leb}
 use lib.Dec.{eqb}
 use lib.ListN.{length, take}
+use Rattle.digits.specs.Runs as runs
 use Rattle.digits.specs.Digits.{Binary, written}
 use Rattle.table.specs.declared.Row.{Row}
 use Rattle.levels.specs.Table.{Shared}
@@ -21,7 +22,8 @@ use Rattle.digits.specs.Histories.{lastOf, ago}
 use Rattle.receiver_promises.specs.History.{heard, readyAfter, since, WordCame, ThreeWords}
 use Rattle.digits.proofs.Written.{written-inj}
 use Rattle.receiver.proofs.Holding.{word-within}
-use Rattle.receiver.proofs.Validity.{cond-told, and-both, asked-came}
+use Rattle.digits.proofs.Tests.{cond-told, and-both}
+use Rattle.receiver.proofs.Validity.{asked-came}
 use Rattle.digits.proofs.Lasts.{ago-none, ago-more, last-zeros}
 use Rattle.receiver_promises.proofs.Traces.{Traced, traced-fresh, traced-more, traced-on, seen-more}
 use Rattle.receiver_promises.proofs.Alignment.{asked-at, after-on, after-turn, frame-end, frame-ready}
@@ -87,7 +89,7 @@ module _ (row : Row) (sh : Shared row) where
       → ((k : ℕ) → 0 < k → k < length es → WordCame row (ds ++ take k es) → ⊥)
       → WordCame row (ds ++ es)
       → (heard row s es .mode ≡ OneFound) × (heard row s es .place ≡ 0)
-  unfolding heard
+  unfolding runs.heard
   half-received [] ds s t e bin some none w = absurd (omega arith)
   half-received (d ∷ []) ds s t e bin some none w = found ds s t d (bin 0) e w
   half-received (d ∷ d′ ∷ es) ds s t e bin some none w =
@@ -111,7 +113,7 @@ module _ (row : Row) (sh : Shared row) where
       → length es₁ ≡ row .digits → length es₂ ≡ row .digits → length es₃ ≡ row .digits - row .len
       → WordCame row (ds ++ (d ∷ [])) → WordCame row (ds ++ (d ∷ []) ++ es₁) → WordCame row (ds ++ (d ∷ []) ++ es₁ ++ es₂)
       → Locked s d es₁ es₂ es₃
-  unfolding heard
+  unfolding runs.heard
   locks ds s t e d es₁ es₂ es₃ b b₁ b₂ l₁ l₂ l₃ w w₁ w₂ =
       let some : 0 < row .digits = omega (arith, sh .word-some, word-within row sh) in
       let s₀ = afterOf row s d in
@@ -207,7 +209,7 @@ module _ (row : Row) (sh : Shared row) where
   came-all : (es ds : List ℕ) (s : State) → Traced row ds s → Binary es
       → ((k : ℕ) → k < length es → readyOf row (coreOf (heard row s (take k es))) ≡ false)
       → Came ds (s .mode) (s .place) → Came (ds ++ es) (heard row s es .mode) (heard row s es .place)
-  unfolding heard
+  unfolding runs.heard
   came-all [] ds s t bin none c = rw (append-nil ds) c
   came-all (d ∷ es) ds s t bin none c =
       rw (append-assoc ds (d ∷ []) es) at

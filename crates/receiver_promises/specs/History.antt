@@ -7,6 +7,7 @@ use Prim.Native.Nat.{ℕ, _+_, _-_, _≤_}
 use lib.ListN.{length}
 use Rattle.digits.specs.Digits.{written}
 use Rattle.digits.specs.Histories.{lastOf, ago}
+use Rattle.digits.specs.Runs as runs
 use Rattle.table.specs.declared.Row.{Row}
 use Rattle.receiver.specs.declared.State.{State}
 use Rattle.receiver.specs.declared.Fed.{Fed}
@@ -15,9 +16,12 @@ use Rattle.receiver.specs.Frame.{holding, readyOf}
 use Rattle.receiver.specs.Feed.{coreOf, afterOf, freshState}
 
 -- the state that these digits make of a state, whatever calls they came in
-unfoldable pub heard : Row → State → List ℕ → State
-heard row s [] = s
-heard row s (d ∷ ds) = heard row (afterOf row s d) ds
+abbrev pub heard : Row → State → List ℕ → State
+heard row s ds = runs.heard (afterOf row) s ds
+
+-- a call stops after a digit that completes a frame: of the states before and after it, a frame is ready in the second
+abbrev pub readyAt : Row → State → State → Bool
+readyAt row s s′ = readyOf row (coreOf s′)
 
 -- how many words these digits test: each adds 1, or nothing
 unfoldable pub testedBy : Row → State → List ℕ → ℕ

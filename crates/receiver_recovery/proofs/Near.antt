@@ -8,6 +8,7 @@ use Prim.Native.Nat.{ℕ, _+_, _^_, _<_}
 use native.Mathlib.Omega.{arith}
 use lib.ListN.{replicate}
 use Rattle.digits.specs.Digits.{written, tab}
+use Rattle.digits.specs.Runs as runs
 use Rattle.table.specs.declared.Row.{Row}
 use Rattle.table.specs.Table.{row2, row3, row4}
 use Rattle.receiver.specs.declared.Mode.the-variants.{TwoFound, Aligned}
@@ -31,13 +32,13 @@ late-valid row level window place small under =
     record { window = small; seen = omega arith; missed = omega arith; place = under; rests = λ e. absurd (true≢false (sym e)); came = λ _. omega arith }
 
 pub near : Takes row2 (late 2 0b111101 10 844) 7 5938
-unfolding heard afterOf stepOf afterDigit windowOf seenOf good asks placeAfter written tab
+unfolding runs.heard afterOf stepOf afterDigit windowOf seenOf good asks placeAfter written tab
 near = (late-valid row2 2 0b111101 844 (omega arith) (omega arith), refl, refl)
 
 pub near-at-34368 : Takes row3 (late 3 0b111101 10 1532) 7 10754
-unfolding heard afterOf stepOf afterDigit windowOf seenOf good asks placeAfter written tab
+unfolding runs.heard afterOf stepOf afterDigit windowOf seenOf good asks placeAfter written tab
 near-at-34368 = (late-valid row3 3 0b111101 1532 (omega arith) (omega arith), refl, refl)
 
 pub near-at-139264 : Takes row4 (late 4 0b1111101 12 2923) 8 20499
-unfolding heard afterOf stepOf afterDigit windowOf seenOf good asks placeAfter written tab
+unfolding runs.heard afterOf stepOf afterDigit windowOf seenOf good asks placeAfter written tab
 near-at-139264 = (late-valid row4 4 0b1111101 2923 (omega arith) (omega arith), refl, refl)

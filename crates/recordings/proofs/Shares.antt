@@ -26,10 +26,11 @@ use Rattle.receiver.specs.declared.Fed.{Fed}
 use Rattle.receiver.specs.Modes.{hunting}
 use Rattle.receiver.specs.Frame.{aligned}
 use Rattle.receiver.specs.Feed.{coreOf, afterOf, pieceOf, feedOf, Valid}
+use Rattle.digits.specs.Runs as runs
 use Rattle.receiver_promises.specs.History.{heard, readyAfter}
 use Rattle.receiver_promises.proofs.Pieces.{accepted-valid, none-passed}
-use Rattle.receiver_promises.proofs.Calls.{Answered, answered}
-use Rattle.receiver.proofs.Validity.{cond-told}
+use Rattle.receiver_promises.proofs.Calls.{answered}
+use Rattle.digits.proofs.Tests.{cond-told}
 use Rattle.receiver_promises.proofs.Alarms.{inside-stretch, inside-all}
 use Rattle.receiver_promises.proofs.Alignment.{rises}
 use Rattle.receiver_promises.proofs.Losses.{Early, early-hunting, none-hunting, early-more, early-same, early-stays}
@@ -77,11 +78,11 @@ module _ (row : Row) where
   -- where it is the same at every digit but the last
   last-said : (is : State → Bool) (e e′ : ℕ) (es : List ℕ) (s : State) → is (afterOf row s e) ≡ is s → AllSaid row is (afterOf row s e) (e′ ∷ es)
       → AllSaid row is s (e ∷ e′ ∷ es)
-  unfolding changesIn heard
+  unfolding changesIn runs.heard
   last-said is e e′ es s same rest = rw rest (as-before (is s) (is (afterOf row s e)) (is (heard row s (e ∷ e′ ∷ es))) same)
 
   held-said : (es : List ℕ) (s : State) → hunting (s .mode) ≡ false → s .place + length es ≤ row .digits → AllSaid row isAligned s es
-  unfolding changesIn heard
+  unfolding changesIn runs.heard
   held-said [] s h room = none-said (isAligned s)
   held-said (e ∷ []) s h room = append-nil (said (changeOf (isAligned s) (isAligned (afterOf row s e))))
   held-said (e ∷ e′ ∷ es) s h room =
@@ -89,7 +90,7 @@ module _ (row : Row) where
       last-said isAligned e e′ es s (ap aligned (up .0)) (held-said (e′ ∷ es) (afterOf row s e) (rw (up .0) h) (omega (arith, up .1)))
 
   alarm-said : (es : List ℕ) (s : State) → s .stretch .digits + length es ≤ row .digits → AllSaid row isAlarmed s es
-  unfolding changesIn heard
+  unfolding changesIn runs.heard
   alarm-said [] s room = none-said (isAlarmed s)
   alarm-said (e ∷ []) s room = append-nil (said (changeOf (isAlarmed s) (isAlarmed (afterOf row s e))))
   alarm-said (e ∷ e′ ∷ es) s room =
@@ -99,7 +100,7 @@ module _ (row : Row) where
   module _ (sh : Shared row) where
     -- while no frame was ready before the last of them
     hunt-said : (es : List ℕ) (s : State) → Early row sh s → ((k : ℕ) → k < length es → readyAfter row s (take k es) ≡ false) → AllSaid row isAligned s es
-    unfolding changesIn heard
+    unfolding changesIn runs.heard
     hunt-said [] s early none = none-said (isAligned s)
     hunt-said (e ∷ es) s early none =
         let not-yet = none 0 (omega arith) in
@@ -133,7 +134,7 @@ module _ (row : Row) (s : State) (known : levelOf (s .level) ≡ Of row) (slice 
   -- an accepted share: the changes of alignment that its digits make, digit by digit, are the one that is said
   pub nothing-missed : fed .refusal ≡ 0 → changesIn row isAligned s (take (fed .taken) share) ≡ said (changeOf (isAligned s) (isAligned (fed .state)))
   nothing-missed e =
-      rw (answered row s known (record { slice = slice; first = first; count = count }) .state)
+      rw (answered row s known (record { slice = slice; first = first; count = count }) .1)
       (by-hunting (s .mode) refl)
     where
       valid : Valid row (coreOf s)
@@ -165,7 +166,7 @@ module _ (row : Row) (s : State) (known : levelOf (s .level) ≡ Of row) (slice 
   -- and so for the alarm, which changes at the share's last digit if at all
   pub no-alarm-missed : fed .refusal ≡ 0 → changesIn row isAlarmed s (take (fed .taken) share) ≡ said (changeOf (isAlarmed s) (isAlarmed (fed .state)))
   no-alarm-missed e =
-      rw (answered row s known (record { slice = slice; first = first; count = count }) .state)
+      rw (answered row s known (record { slice = slice; first = first; count = count }) .1)
       (alarm-said row (take (fed .taken) share) s
       (omega (arith, accepted-valid s row known slice first count e .counting .within, size, to-end row (s .mode) (s .place) (s .stretch .digits) left)))
 
@@ -177,14 +178,11 @@ module _ (row : Row) (s : State) (known : levelOf (s .level) ≡ Of row) (slice 
         | no h ↦ omega (arith, length-taken, size, to-end row (s .mode) (s .place) (s .stretch .digits) left, accepted-valid s row known slice first count e .counting .within)
       ]
     where
-      a : Answered row s known (record { slice = slice; first = first; count = count }) fed
-      a = answered row s known (record { slice = slice; first = first; count = count })
-
       length-taken : length (take (fed .taken) share) ≡ fed .taken
-      length-taken = length-take-le (fed .taken) share (a .within)
+      length-taken = length-take-le (fed .taken) share (answered row s known (record { slice = slice; first = first; count = count }) .0)
 
       inside : s .stretch .digits + fed .taken < row .digits → isAlarmed (fed .state) ≡ isAlarmed s
-      inside h = rw (a .state) (inside-all row (take (fed .taken) share) s (omega (arith, length-taken)))
+      inside h = rw (answered row s known (record { slice = slice; first = first; count = count }) .1) (inside-all row (take (fed .taken) share) s (omega (arith, length-taken)))
 
 -- ---- the call and its whole statement: it leaves no second answer, and what the function ensures is it
 
