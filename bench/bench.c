@@ -15,7 +15,7 @@
 #include "rows.h"
 #include "spritbobbin.h"
 
-enum { FRAMES = 64, ENGINES = 4, TASKS = 8, LEVELS = 3 };
+enum { FRAMES = 64, ENGINES = 4, TASKS = 8 };
 enum { LINE_BYTES = FRAMES * 366, BUFFER_BYTES = 4 * ((FRAMES * 723 + 7) / 8) };
 /* The stream's first frame begins in the middle of a byte, as frames do on a real line. */
 enum { STREAM_FIRST = 3 };
@@ -49,6 +49,7 @@ enum { LIBRARY_PLAIN = 3 };
 struct input {
     const struct row *row;
     size_t line_bytes, buffer_bytes;
+    uint64_t earlier; /* the vote before the first frame */
     uint8_t notes[FRAMES], buffer[BUFFER_BYTES], line[LINE_BYTES];
     uint8_t stream[LINE_BYTES + 1]; /* the line, from digit STREAM_FIRST on */
     uint8_t noise[LINE_BYTES];      /* digits without an alignment word */
@@ -118,12 +119,13 @@ static void make_input(struct input *input, const struct row *row)
     uint64_t answer[5];
 
     input->row = row;
-    input->buffer_bytes = 4 * ((FRAMES * row->tributary_digits + 7) / 8);
+    input->buffer_bytes = 4 * ((FRAMES * room_digits(row) + 7) / 8);
+    input->earlier = random_number() % 16;
     fill_randomly(input->notes, FRAMES);
     for (unsigned f = 0; f < FRAMES; f++)
-        input->notes[f] &= row->service_digits == 4 ? 0xFF : 0x3F;
+        input->notes[f] &= (uint8_t)((16u << row->noted_digits) - 1);
     fill_randomly(input->buffer, input->buffer_bytes);
-    plain_multiplex(row->level, input->line, length, input->notes, FRAMES, input->buffer, input->buffer_bytes, answer);
+    plain_multiplex(row->level, input->earlier, input->line, length, input->notes, FRAMES, input->buffer, input->buffer_bytes, answer);
     for (size_t i = 0; i <= length; i++)
         input->stream[i] = (uint8_t)((i ? input->line[i - 1] << (8 - STREAM_FIRST) : 0)
                                      | (i < length ? input->line[i] >> STREAM_FIRST : 0));
@@ -151,22 +153,25 @@ static unsigned feed_all(feed_call *feed, uint64_t state[9], uint8_t frame[366],
 static unsigned run_by_one(unsigned task, const struct engine *engine, const struct input *input, struct output *output)
 {
     const struct row *row = input->row;
-    size_t bytes = row->frame_digits / 8, room = 4 * ((row->tributary_digits + 7) / 8);
+    size_t bytes = row->frame_digits / 8, room = 4 * ((room_digits(row) + 7) / 8);
     uint64_t refused = 0;
 
-    for (unsigned f = 0; f < FRAMES; f++)
+    for (unsigned f = 0; f < FRAMES; f++) {
+        uint64_t earlier = f ? input->notes[f - 1] : input->earlier;
+
         switch (task) {
         case 0:
-            refused |= engine->multiplex(row->level, output->line_by_one + f * bytes, bytes, input->notes + f, 1,
+            refused |= engine->multiplex(row->level, earlier, output->line_by_one + f * bytes, bytes, input->notes + f, 1,
                                          input->buffer, room, output->answer);
             break;
         case 1:
             refused |= engine->read_notes(row->level, input->line + f * bytes, bytes, output->notes_by_one + f, 1, output->answer);
             break;
         default:
-            refused |= engine->extract(row->level, input->line + f * bytes, bytes, input->notes + f, 1,
+            refused |= engine->extract(row->level, earlier, input->line + f * bytes, bytes, input->notes + f, 1,
                                        output->buffer_by_one, room, output->answer);
         }
+    }
     return (unsigned)refused;
 }
 
@@ -178,12 +183,12 @@ static unsigned run(unsigned task, const struct engine *engine, const struct inp
 
     switch (task) {
     case 0:
-        return (unsigned)engine->multiplex(level, output->line, length, input->notes, FRAMES,
+        return (unsigned)engine->multiplex(level, input->earlier, output->line, length, input->notes, FRAMES,
                                            input->buffer, input->buffer_bytes, output->answer);
     case 1:
         return (unsigned)engine->read_notes(level, input->line, length, output->notes, FRAMES, output->answer);
     case 2:
-        return (unsigned)engine->extract(level, input->line, length, input->notes, FRAMES,
+        return (unsigned)engine->extract(level, input->earlier, input->line, length, input->notes, FRAMES,
                                          output->buffer, input->buffer_bytes, output->answer);
     case ALIGNED:
         return feed_all(engine->feed, output->state[0], output->frame[0], input->stream, length + 1, STREAM_FIRST, digits);
@@ -247,8 +252,9 @@ static void compare_taking(const struct input *input, const uint8_t *line)
         memset(of[e].buffer, 0xA5, input->buffer_bytes);
         memset(of[e].buffer_by_one, 0xA5, input->buffer_bytes);
         engines[e].read_notes(level, line, input->line_bytes, of[e].notes, FRAMES, answers[e][0]);
-        engines[e].extract(level, line, input->line_bytes, of[e].notes, FRAMES, of[e].buffer, input->buffer_bytes, answers[e][1]);
-        engines[e].extract(level, line, input->line_bytes, input->notes, FRAMES, of[e].buffer_by_one, input->buffer_bytes, answers[e][2]);
+        engines[e].extract(level, input->earlier, line, input->line_bytes, of[e].notes, FRAMES, of[e].buffer, input->buffer_bytes, answers[e][1]);
+        engines[e].extract(level, input->earlier, line, input->line_bytes, input->notes, FRAMES, of[e].buffer_by_one, input->buffer_bytes,
+                           answers[e][2]);
         check(memcmp(&of[e], &of[PLAIN], sizeof of[e]) == 0 && memcmp(answers[e], answers[PLAIN], sizeof answers[e]) == 0,
               "takes a damaged line apart otherwise", input->row, engines[e].name);
     }

@@ -9,7 +9,12 @@
 
 enum { FRAMES = 64, MOST = FRAMES * SPRITBOBBIN_FRAME_BYTES_4 };
 
-static const size_t frame_bytes[] = {SPRITBOBBIN_FRAME_BYTES_2, SPRITBOBBIN_FRAME_BYTES_3, SPRITBOBBIN_FRAME_BYTES_4};
+static const struct {
+    uint64_t number;
+    size_t frame_bytes;
+} levels[] = {{2, SPRITBOBBIN_FRAME_BYTES_2}, {3, SPRITBOBBIN_FRAME_BYTES_3}, {4, SPRITBOBBIN_FRAME_BYTES_4},
+              {12, SPRITBOBBIN_FRAME_BYTES_12}, {14, SPRITBOBBIN_FRAME_BYTES_14}};
+enum { LEVELS = sizeof levels / sizeof levels[0] };
 static uint8_t line[MOST], other[MOST], one_file[MOST + 7], other_file[MOST + 7];
 static uint64_t answer[19], places[128];
 static volatile uint64_t seen;
@@ -39,18 +44,18 @@ static void fail(const char *what)
 /* Lines of a level: `how` 0 equal, 1 a digit of each frame, 2 random digits. */
 static void fill(int level, int how)
 {
-    size_t bytes = FRAMES * frame_bytes[level - 2], i;
+    size_t frame_bytes = levels[level].frame_bytes, bytes = FRAMES * frame_bytes, i;
     uint64_t state = 88172645463325252u, wrote[2], differing = 0, sums = 0;
 
     for (i = 0; i < bytes; i++) {
         line[i] = (uint8_t)next(&state);
         other[i] = how == 2 ? (uint8_t)next(&state) : line[i];
-        if (how == 1 && i % frame_bytes[level - 2] == 40)
+        if (how == 1 && i % frame_bytes == 40)
             other[i] ^= 4;
         differing += (uint64_t)__builtin_popcount((unsigned)(line[i] ^ other[i]));
     }
-    if (spritbobbin_capture_write((uint64_t)level, line, bytes, NULL, 0, 0, one_file, sizeof one_file, wrote)
-        || spritbobbin_capture_write((uint64_t)level, other, bytes, NULL, 0, 0, other_file, sizeof other_file, wrote)
+    if (spritbobbin_capture_write(levels[level].number, line, bytes, NULL, 0, 0, one_file, sizeof one_file, wrote)
+        || spritbobbin_capture_write(levels[level].number, other, bytes, NULL, 0, 0, other_file, sizeof other_file, wrote)
         || spritbobbin_compare(one_file, bytes + 7, other_file, bytes + 7, answer, places))
         fail("the captures are refused");
     for (i = SPRITBOBBIN_WORD_DIFFERS; i < SPRITBOBBIN_ALL_DIFFER; i++)
@@ -62,7 +67,7 @@ static void fill(int level, int how)
 /* The best of so many times, in nanoseconds a digit; memcmp looks at the lines alone. */
 static double timed(int level, int library, int repeats)
 {
-    size_t bytes = FRAMES * frame_bytes[level - 2];
+    size_t bytes = FRAMES * levels[level].frame_bytes;
     double best = 1e18;
     int r;
 
@@ -87,9 +92,9 @@ int main(int argc, char **argv)
 
     puts("| compare           | level | library, ns a digit | memcmp, ns a digit |\n|---|---|---:|---:|");
     for (how = 0; how < 3; how++)
-        for (level = 2; level <= 4; level++) {
+        for (level = 0; level < LEVELS; level++) {
             fill(level, how);
-            printf("| %-17s | %5d | %19.4f | %18.4f |\n", names[how], level, timed(level, 1, repeats), timed(level, 0, repeats));
+            printf("| %-17s | %5u | %19.4f | %18.4f |\n", names[how], (unsigned)levels[level].number, timed(level, 1, repeats), timed(level, 0, repeats));
         }
     return 0;
 }

@@ -11,12 +11,12 @@
 #include <stddef.h>
 #include <stdint.h>
 
-typedef uint64_t multiplex_call(uint64_t level, uint8_t *line, size_t line_bytes, const uint8_t *notes, size_t notes_bytes,
-                                const uint8_t *buffer, size_t buffer_bytes, uint64_t answer[5]);
+typedef uint64_t multiplex_call(uint64_t level, uint64_t earlier, uint8_t *line, size_t line_bytes,
+                                const uint8_t *notes, size_t notes_bytes, const uint8_t *buffer, size_t buffer_bytes, uint64_t answer[5]);
 typedef uint64_t read_notes_call(uint64_t level, const uint8_t *line, size_t line_bytes, uint8_t *notes, size_t notes_bytes,
                                  uint64_t answer[5]);
-typedef uint64_t extract_call(uint64_t level, const uint8_t *line, size_t line_bytes, const uint8_t *notes, size_t notes_bytes,
-                              uint8_t *buffer, size_t buffer_bytes, uint64_t answer[5]);
+typedef uint64_t extract_call(uint64_t level, uint64_t earlier, const uint8_t *line, size_t line_bytes,
+                              const uint8_t *notes, size_t notes_bytes, uint8_t *buffer, size_t buffer_bytes, uint64_t answer[5]);
 typedef uint64_t feed_call(uint64_t state[9], uint8_t frame[366], const uint8_t *piece, size_t piece_bytes,
                            uint64_t first, uint64_t count, uint64_t answer[4]);
 

@@ -16,19 +16,24 @@ static void put(uint8_t *bytes, size_t place, unsigned digit)
     bytes[place / 8] = (uint8_t)(digit ? bytes[place / 8] | bit : bytes[place / 8] & ~bit);
 }
 
-enum kind { WORD, SERVICE, CONTROL, JUSTIFICATION, TRIBUTARY };
+/* A service digit is noted, or sent as 1. */
+enum kind { WORD, NOTED, SERVICE, CONTROL, NEGATIVE, JUSTIFICATION, TRIBUTARY };
 
 static enum kind kind_of(const struct row *row, unsigned set, unsigned at)
 {
     if (set == 0 && at < row->word_digits)
         return WORD;
-    if (set == 0 && at < row->word_digits + row->service_digits)
-        return SERVICE;
-    if (set > 0 && at < 4)
+    if (set == 0 && at < row->word_digits + row->noted_digits)
+        return NOTED;
+    if (set == 0)
+        return at < row->first_head ? SERVICE : TRIBUTARY;
+    if (at < 4)
         return CONTROL;
-    if (set == row->sets - 1 && at < 8)
-        return JUSTIFICATION;
-    return TRIBUTARY;
+    if (set < row->sets - 1)
+        return at < row->middle_head ? SERVICE : TRIBUTARY;
+    if (at < 4 + 4 * row->negative)
+        return NEGATIVE;
+    return at < 8 + 4 * row->negative ? JUSTIFICATION : TRIBUTARY;
 }
 
 static unsigned word_digit(const struct row *row, unsigned at)
@@ -36,30 +41,37 @@ static unsigned word_digit(const struct row *row, unsigned at)
     return row->word >> (row->word_digits - 1 - at) & 1;
 }
 
-uint64_t plain_multiplex(uint64_t level, uint8_t *line, size_t line_bytes, const uint8_t *notes, size_t notes_bytes,
-                         const uint8_t *buffer, size_t buffer_bytes, uint64_t answer[5])
+uint64_t plain_multiplex(uint64_t level, uint64_t earlier, uint8_t *line, size_t line_bytes,
+                         const uint8_t *notes, size_t notes_bytes, const uint8_t *buffer, size_t buffer_bytes, uint64_t answer[5])
 {
     const struct row *row = row_of(level);
     size_t quarter = buffer_bytes / 4, place = 0, next[4] = {0}, f;
 
     (void)line_bytes;
     for (f = 0; f < notes_bytes; f++) {
+        unsigned stuffed = notes[f] & before(row, earlier, notes, f), idle = notes[f] | before(row, earlier, notes, f);
+
         for (unsigned set = 0; set < row->sets; set++) {
             for (unsigned at = 0; at < row->set_digits; at++) {
-                unsigned j = at % 4, digit = 0;
+                unsigned j = at % 4, digit = 1;
 
                 switch (kind_of(row, set, at)) {
                 case WORD:
                     digit = word_digit(row, at);
                     break;
-                case SERVICE:
+                case NOTED:
                     digit = notes[f] >> (4 + at - row->word_digits) & 1;
+                    break;
+                case SERVICE:
                     break;
                 case CONTROL:
                     digit = notes[f] >> j & 1;
                     break;
+                case NEGATIVE:
+                    digit = idle >> j & 1 ? 1 : get(buffer + j * quarter, next[j]++);
+                    break;
                 case JUSTIFICATION:
-                    digit = notes[f] >> j & 1 ? 1 : get(buffer + j * quarter, next[j]++);
+                    digit = stuffed >> j & 1 ? 1 : get(buffer + j * quarter, next[j]++);
                     break;
                 case TRIBUTARY:
                     digit = get(buffer + j * quarter, next[j]++);
@@ -94,12 +106,14 @@ uint64_t plain_read_notes(uint64_t level, const uint8_t *line, size_t line_bytes
                 case WORD:
                     answer[0] += digit != word_digit(row, at);
                     break;
-                case SERVICE:
+                case NOTED:
                     note |= digit << (4 + at - row->word_digits);
                     break;
                 case CONTROL:
                     ones[at % 4] += digit;
                     break;
+                case SERVICE:
+                case NEGATIVE:
                 case JUSTIFICATION:
                 case TRIBUTARY:
                     break;
@@ -117,23 +131,26 @@ uint64_t plain_read_notes(uint64_t level, const uint8_t *line, size_t line_bytes
     return 0;
 }
 
-uint64_t plain_extract(uint64_t level, const uint8_t *line, size_t line_bytes, const uint8_t *notes, size_t notes_bytes,
-                       uint8_t *buffer, size_t buffer_bytes, uint64_t answer[5])
+uint64_t plain_extract(uint64_t level, uint64_t earlier, const uint8_t *line, size_t line_bytes,
+                       const uint8_t *notes, size_t notes_bytes, uint8_t *buffer, size_t buffer_bytes, uint64_t answer[5])
 {
     const struct row *row = row_of(level);
     size_t quarter = buffer_bytes / 4, place = 0, next[4] = {0}, f;
 
     (void)line_bytes;
     memset(buffer, 0, buffer_bytes);
-    for (f = 0; f < notes_bytes; f++)
+    for (f = 0; f < notes_bytes; f++) {
+        unsigned stuffed = notes[f] & before(row, earlier, notes, f), idle = notes[f] | before(row, earlier, notes, f);
+
         for (unsigned set = 0; set < row->sets; set++)
             for (unsigned at = 0; at < row->set_digits; at++, place++) {
                 unsigned j = at % 4;
                 int kind = kind_of(row, set, at);
 
-                if (kind == TRIBUTARY || (kind == JUSTIFICATION && !(notes[f] >> j & 1)))
+                if (kind == TRIBUTARY || (kind == JUSTIFICATION && !(stuffed >> j & 1)) || (kind == NEGATIVE && !(idle >> j & 1)))
                     put(buffer + j * quarter, next[j]++, get(line, place));
             }
+    }
     for (unsigned j = 0; j < 4; j++)
         answer[j] = next[j];
     answer[4] = 0;

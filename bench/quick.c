@@ -153,44 +153,49 @@ static inline void send_columns(struct writer *writer, struct quarters *quarters
     }
 }
 
-/* The justification digits of a frame: 1, or the tributary's next digit. */
-static uint64_t justification(struct quarters *quarters, unsigned note)
+/* The justification digits of a frame, or its negative ones: 1 where they carry nothing, or the tributary's next digit. */
+static uint64_t justification(struct quarters *quarters, unsigned nothing)
 {
     uint64_t column = 0;
 
     for (unsigned j = 0; j < 4; j++) {
-        unsigned stuffed = note >> j & 1;
+        unsigned idle = nothing >> j & 1;
 
-        column = column << 1 | stuffed | quarter_digits(quarters, j) >> 63;
-        quarters->next[j] += 1 - stuffed;
+        column = column << 1 | idle | quarter_digits(quarters, j) >> 63;
+        quarters->next[j] += 1 - idle;
     }
     return column;
 }
 
-static void send_frame(const struct row *row, struct writer *writer, struct quarters *quarters, unsigned note)
+static void send_frame(const struct row *row, struct writer *writer, struct quarters *quarters, unsigned note, unsigned before)
 {
-    unsigned head = row->word_digits + row->service_digits;
-    uint64_t service = REVERSED[note >> 4] >> (4 - row->service_digits), control = REVERSED[note & 15];
+    unsigned service = row->first_head - row->word_digits, others = service - row->noted_digits;
+    uint64_t noted = REVERSED[note >> 4] >> (4 - row->noted_digits), control = REVERSED[note & 15];
+    uint64_t start = (uint64_t)row->word << service | noted << others | ((1u << others) - 1);
 
-    put(writer, ((uint64_t)row->word << row->service_digits | service) << (64 - head), head);
-    send_columns(writer, quarters, (row->set_digits - head) / 4);
+    put(writer, start << (64 - row->first_head), row->first_head);
+    send_columns(writer, quarters, (row->set_digits - row->first_head) / 4);
     for (unsigned set = 1; set < row->sets - 1; set++) {
-        put(writer, control << 60, 4);
-        send_columns(writer, quarters, row->set_digits / 4 - 1);
+        put(writer, first_of(control << 60 | UINT64_C(15) << 56, row->middle_head), row->middle_head);
+        send_columns(writer, quarters, (row->set_digits - row->middle_head) / 4);
     }
-    put(writer, control << 60 | justification(quarters, note) << 56, 8);
-    send_columns(writer, quarters, row->set_digits / 4 - 2);
+    put(writer, control << 60, 4);
+    if (row->negative)
+        put(writer, justification(quarters, note | before) << 60, 4);
+    put(writer, justification(quarters, note & before) << 60, 4);
+    send_columns(writer, quarters, row->set_digits / 4 - 2 - row->negative);
 }
 
-uint64_t quick_multiplex(uint64_t level, uint8_t *line, size_t line_bytes, const uint8_t *notes, size_t notes_bytes,
-                         const uint8_t *buffer, size_t buffer_bytes, uint64_t answer[5])
+uint64_t quick_multiplex(uint64_t level, uint64_t earlier, uint8_t *line, size_t line_bytes,
+                         const uint8_t *notes, size_t notes_bytes, const uint8_t *buffer, size_t buffer_bytes, uint64_t answer[5])
 {
+    const struct row *row = row_of(level);
     struct writer writer = {line, 0, 0};
     struct quarters quarters = {buffer, buffer_bytes / 4, {0}};
 
     (void)line_bytes;
     for (size_t f = 0; f < notes_bytes; f++)
-        send_frame(row_of(level), &writer, &quarters, notes[f]);
+        send_frame(row, &writer, &quarters, notes[f], before(row, earlier, notes, f));
     finish(&writer);
     for (unsigned j = 0; j < 4; j++)
         answer[j] = quarters.next[j];
@@ -269,12 +274,12 @@ static unsigned majority(uint32_t ones, unsigned control_digits)
 
 static unsigned read_frame(const struct row *row, struct reader *reader, uint64_t answer[5])
 {
-    unsigned head = row->word_digits + row->service_digits, control_digits = row->sets - 1;
+    unsigned head = row->word_digits + row->noted_digits, control_digits = row->sets - 1;
     unsigned start = (unsigned)(next_word(reader, reader->place) >> (64 - head));
-    unsigned service = start << (4 - row->service_digits) & 15;
+    unsigned service = start << (4 - row->noted_digits) & 15;
     uint32_t ones = 0;
 
-    answer[0] += ones_of(start >> row->service_digits ^ row->word);
+    answer[0] += ones_of(start >> row->noted_digits ^ row->word);
     for (unsigned set = 1; set < row->sets; set++) {
         reader->place += row->set_digits;
         ones += SPREAD[next_word(reader, reader->place) >> 60];
@@ -295,29 +300,37 @@ uint64_t quick_read_notes(uint64_t level, const uint8_t *line, size_t line_bytes
     return 0;
 }
 
-static void extract_frame(const struct row *row, struct reader *reader, struct writer writers[4], unsigned note)
+/* The justification digits, or the negative ones, where they carry a digit. */
+static inline void receive_carried(struct reader *reader, struct writer writers[4], unsigned nothing)
 {
-    unsigned head = row->word_digits + row->service_digits, column;
+    unsigned column = next_column(reader);
 
-    reader->place += head;
-    receive_columns(reader, writers, (row->set_digits - head) / 4);
-    for (unsigned set = 1; set < row->sets - 1; set++) {
-        reader->place += 4;
-        receive_columns(reader, writers, row->set_digits / 4 - 1);
-    }
-    reader->place += 4;
-    column = next_column(reader);
     for (unsigned j = 0; j < 4; j++) {
-        unsigned carried = 1 - (note >> j & 1);
+        unsigned carried = 1 - (nothing >> j & 1);
 
         put(&writers[j], (uint64_t)(carried & column >> (3 - j)) << 63, carried);
     }
-    receive_columns(reader, writers, row->set_digits / 4 - 2);
 }
 
-uint64_t quick_extract(uint64_t level, const uint8_t *line, size_t line_bytes, const uint8_t *notes, size_t notes_bytes,
-                       uint8_t *buffer, size_t buffer_bytes, uint64_t answer[5])
+static void extract_frame(const struct row *row, struct reader *reader, struct writer writers[4], unsigned note, unsigned before)
 {
+    reader->place += row->first_head;
+    receive_columns(reader, writers, (row->set_digits - row->first_head) / 4);
+    for (unsigned set = 1; set < row->sets - 1; set++) {
+        reader->place += row->middle_head;
+        receive_columns(reader, writers, (row->set_digits - row->middle_head) / 4);
+    }
+    reader->place += 4;
+    if (row->negative)
+        receive_carried(reader, writers, note | before);
+    receive_carried(reader, writers, note & before);
+    receive_columns(reader, writers, row->set_digits / 4 - 2 - row->negative);
+}
+
+uint64_t quick_extract(uint64_t level, uint64_t earlier, const uint8_t *line, size_t line_bytes,
+                       const uint8_t *notes, size_t notes_bytes, uint8_t *buffer, size_t buffer_bytes, uint64_t answer[5])
+{
+    const struct row *row = row_of(level);
     size_t quarter = buffer_bytes / 4;
     struct reader reader = {line, line_bytes, 0};
     struct writer writers[4];
@@ -325,7 +338,7 @@ uint64_t quick_extract(uint64_t level, const uint8_t *line, size_t line_bytes, c
     for (unsigned j = 0; j < 4; j++)
         writers[j] = (struct writer){buffer + j * quarter, 0, 0};
     for (size_t f = 0; f < notes_bytes; f++)
-        extract_frame(row_of(level), &reader, writers, notes[f]);
+        extract_frame(row, &reader, writers, notes[f], before(row, earlier, notes, f));
     for (unsigned j = 0; j < 4; j++) {
         uint8_t *begin = buffer + j * quarter, *end = begin + quarter;
 
@@ -419,11 +432,13 @@ static void begin_frame(const struct row *row, uint8_t *frame, uint64_t window)
 }
 
 /* The places of a word, at its top bits, from which on the alignment word stands: so many ones, then
-   0 1, then as many zeros. */
+   0 1, then as many zeros; or, at three ones, 11100110. */
 static inline uint64_t words_in(uint64_t word, unsigned run)
 {
     uint64_t ones = word & word << 1, zeros = ~(word | word << 1);
 
+    if (run == 3)
+        return ones & word << 2 & zeros << 3 & ones << 5 & ~(word << 7);
     ones &= ones << 2;
     zeros &= zeros << 2;
     if (run == 5) {

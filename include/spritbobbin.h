@@ -1,6 +1,7 @@
 /*
- * spritbobbin.h: frames of 8448, 34368 and 139264 kbit/s (G.742, G.751), built, taken apart,
- * found in a stream of digits, kept in files and compared.
+ * spritbobbin.h: frames of 8448, 34368 and 139264 kbit/s (G.742, G.751), and the older frames of
+ * 8448 and 139264 kbit/s with positive/zero/negative justification, built, taken apart, found in a
+ * stream of digits, kept in files and compared.
  *
  * Link with libspritbobbin.a, which is for x86-64 Linux and asks for memcpy, memset and the like
  * and nothing else.
@@ -11,7 +12,8 @@
  *
  * WORDS
  *
- * level       2 (8448 kbit/s), 3 (34368 kbit/s) or 4 (139264 kbit/s).
+ * level       2 (8448 kbit/s), 3 (34368 kbit/s) or 4 (139264 kbit/s), with positive justification;
+ *             12 (8448 kbit/s) or 14 (139264 kbit/s), with positive/zero/negative justification.
  * digit       0 or 1. Digits are packed eight to a byte, the first in the most significant bit.
  * line        F whole frames, one after the other, F from 0 to 64.
  * place       where a digit stands, counted from 0.
@@ -20,17 +22,42 @@
  * buffer      the digits of the four tributaries, in four equal quarters, quarter j for
  *             tributary j. A tributary's digits are the first of its quarter and run on from
  *             frame to frame without a gap.
- * note        one byte for each frame: which tributaries are stuffed, and the service digits.
+ * note        one byte for each frame: which tributaries are stuffed, and the service digits; at
+ *             levels 12 and 14 the vote of each tributary, and nothing else.
+ * earlier     at levels 12 and 14, the vote of the frame before the first: see below.
  * capture     a file that keeps a line: see spritbobbin_capture_write.
  * rack        a list of receivers, one to a line: see spritbobbin_rack_feed.
  * multiframe  sixteen frames of 32 bytes at 2048 kbit/s: see spritbobbin_multiframe_build.
  *
- *                           level 2    level 3    level 4
- *   frame, digits N             848       1536       2928
- *   frame, bytes                106        192        366
- *   word, digits L               10         10         12
- *   digits n of a tributary     206        378        723    in a frame; one fewer if stuffed
- *   national digits               1          1          3
+ *                           level 2   level 3   level 4   level 12   level 14
+ *   frame, digits N             848      1536      2928       1056       2176
+ *   frame, bytes                106       192       366        132        272
+ *   word, digits L               10        10        12          8         10
+ *   digits n of a tributary     206       378       723        256        537   in a frame
+ *   one fewer if stuffed        205       377       722        255        536
+ *   one more                      -         -         -        257        538   by a negative place
+ *   room, digits a frame        206       378       723        257        538
+ *   remote alarm digit            1         1         1          -          -   in a note
+ *   national digits               1         1         3          -          -   in a note
+ *   few zeros, at most            4         4         5          2          4   alarm indication
+ *
+ *
+ * LEVELS 12 AND 14
+ *
+ * Bits 0 to 3 of a note are votes, bit j - 1 for tributary j. A frame acts on its own vote and on
+ * that of the frame before it:
+ *
+ *   both 1      the tributary's positive place is stuffed: n - 1 digits
+ *   both 0      its negative place carries a digit too, the one before the positive place's: n + 1
+ *   otherwise   only its positive place carries a digit: n
+ *
+ * The vote before the first frame of a line is the number earlier, 0 to 15, which multiplexing and
+ * extraction take; levels 2 to 4 do not look at it. Where a run of frames goes on in the next line,
+ * earlier is the last note of this one.
+ *
+ * Sent as 1: stuffed positive places, negative places that carry nothing, and every service place
+ * (four in the second and third group of level 12, two after the word of level 14). What stands
+ * there in a line that is read is not looked at, and bits 4 to 7 of the notes read are 0.
  *
  *
  * WHO OWNS WHAT
@@ -55,16 +82,18 @@
  * Each call but spritbobbin_line_digit returns one of these numbers.
  *
  *   0  accepted
- *   1  the level is not 2, 3 or 4
+ *   1  the level is not 2, 3, 4, 12 or 14
  *   2  the line is not a whole number of frames, or has over 64; for a piece: the slice is over
  *      65,536 bytes; for a multiframe: a slice has not the length that the call asks for; for a
  *      rack: it has over 64 records
  *   3  the notes are not exactly F bytes
- *   4  the buffer's length is not a multiple of 4, or a quarter has room for fewer than F * n
- *      digits (asked even where frames are stuffed and fewer are needed)
- *   5  multiplexing at level 2 or 3: a note has bit 6 or 7 set; the answer names the first such
- *      frame, counted from 0
- *   6  the receiver state is not valid: a level that is not 2, 3 or 4, a window of 2 to the L
+ *   4  the buffer's length is not a multiple of 4, or a quarter has fewer digits than F times the
+ *      level's room (asked even where frames are stuffed and fewer are needed)
+ *   5  multiplexing and extraction: earlier is over 15, at level 12 or 14, and the answer names
+ *      frame 0; or a note has a bit set that notes of its level have not, which is bit 6 or 7 at
+ *      level 2 or 3, and bits 4 to 7 at level 12 or 14, and the answer names the first such frame,
+ *      counted from 0
+ *   6  the receiver state is not valid: a level as under 1, a window of 2 to the L
  *      or more, over L digits seen, a mode over 6, a place of N or more, hunting at a place
  *      other than 0, not hunting with fewer than L digits seen, N or more digits in the
  *      stretch, more zeros than digits there, or a number for yes or no that is over 1; for the
@@ -96,7 +125,7 @@
  *     #include <string.h>
  *     #include "spritbobbin.h"
  *
- *     #define QUARTER SPRITBOBBIN_QUARTER_BYTES(1, SPRITBOBBIN_TRIBUTARY_DIGITS_2)
+ *     #define QUARTER SPRITBOBBIN_QUARTER_BYTES(1, SPRITBOBBIN_ROOM_DIGITS_2)
  *     #define FRAME SPRITBOBBIN_FRAME_BYTES_2
  *
  *     static void receive(const uint8_t *bytes, size_t length)
@@ -123,14 +152,14 @@
  *         int i;
  *
  *         buffer[1 * QUARTER] = 0x80; // the first digit of tributary 2
- *         if (spritbobbin_multiplex(2, line, sizeof line, notes, sizeof notes,
+ *         if (spritbobbin_multiplex(2, 0, line, sizeof line, notes, sizeof notes,
  *                                   buffer, sizeof buffer, sent) != SPRITBOBBIN_ACCEPTED)
  *             return 1;
  *         printf("tributary 1 sent %u digits\n", (unsigned)sent[0]);
  *
  *         if (spritbobbin_read_notes(2, line, sizeof line, notes, sizeof notes, noted) != SPRITBOBBIN_ACCEPTED)
  *             return 1;
- *         if (spritbobbin_extract(2, line, sizeof line, notes, sizeof notes,
+ *         if (spritbobbin_extract(2, 0, line, sizeof line, notes, sizeof notes,
  *                                 buffer, sizeof buffer, taken) != SPRITBOBBIN_ACCEPTED)
  *             return 1;
  *         printf("%u alignment digits differ\n", (unsigned)noted[SPRITBOBBIN_ALIGNMENT]);
@@ -171,12 +200,24 @@ enum {
     SPRITBOBBIN_FRAME_DIGITS_2 = 848,
     SPRITBOBBIN_FRAME_DIGITS_3 = 1536,
     SPRITBOBBIN_FRAME_DIGITS_4 = 2928,
+    SPRITBOBBIN_FRAME_DIGITS_12 = 1056,
+    SPRITBOBBIN_FRAME_DIGITS_14 = 2176,
     SPRITBOBBIN_FRAME_BYTES_2 = 106,
     SPRITBOBBIN_FRAME_BYTES_3 = 192,
     SPRITBOBBIN_FRAME_BYTES_4 = 366,
-    SPRITBOBBIN_TRIBUTARY_DIGITS_2 = 206, /* in a frame that is not stuffed */
+    SPRITBOBBIN_FRAME_BYTES_12 = 132,
+    SPRITBOBBIN_FRAME_BYTES_14 = 272,
+    SPRITBOBBIN_TRIBUTARY_DIGITS_2 = 206, /* n: in a frame that is not stuffed, without negative places */
     SPRITBOBBIN_TRIBUTARY_DIGITS_3 = 378,
     SPRITBOBBIN_TRIBUTARY_DIGITS_4 = 723,
+    SPRITBOBBIN_TRIBUTARY_DIGITS_12 = 256,
+    SPRITBOBBIN_TRIBUTARY_DIGITS_14 = 537,
+    SPRITBOBBIN_ROOM_DIGITS_2 = 206, /* that a quarter must have for each frame */
+    SPRITBOBBIN_ROOM_DIGITS_3 = 378,
+    SPRITBOBBIN_ROOM_DIGITS_4 = 723,
+    SPRITBOBBIN_ROOM_DIGITS_12 = 257,
+    SPRITBOBBIN_ROOM_DIGITS_14 = 538,
+    SPRITBOBBIN_MOST_EARLIER = 15,       /* the largest earlier vote of levels 12 and 14 */
     SPRITBOBBIN_FRAME_STORE_BYTES = 366, /* the receiver's frame in hand, at every level */
     SPRITBOBBIN_MOST_FRAMES = 64,        /* in a line */
     SPRITBOBBIN_MOST_BYTES = 65536,      /* in a piece, or in a line that is read digit by digit */
@@ -187,23 +228,23 @@ enum {
     SPRITBOBBIN_SPARE_BYTES = 9        /* of a multiframe: 68 digits */
 };
 
-/* The fewest bytes of a quarter for so many frames, tributary_digits being n of the level. The
+/* The fewest bytes of a quarter for so many frames, room_digits being the room of the level. The
    buffer is four times as long. */
-#define SPRITBOBBIN_QUARTER_BYTES(frames, tributary_digits) \
-    (((frames) * (tributary_digits) + 7) / 8)
+#define SPRITBOBBIN_QUARTER_BYTES(frames, room_digits) \
+    (((frames) * (room_digits) + 7) / 8)
 
 /* The bytes of a capture of a line of so many bytes, without a label and with one. */
 #define SPRITBOBBIN_CAPTURE_BYTES(line_bytes) (7 + (line_bytes))
 #define SPRITBOBBIN_LABELLED_CAPTURE_BYTES(line_bytes, label_bytes) (10 + (line_bytes) + (label_bytes))
 
-/* The bits of a note. */
+/* The bits of a note. The first four are the votes of levels 12 and 14, and of the earlier vote too. */
 enum {
     SPRITBOBBIN_STUFFED_1 = 1, /* tributary 1 is stuffed in this frame */
     SPRITBOBBIN_STUFFED_2 = 2,
     SPRITBOBBIN_STUFFED_3 = 4,
     SPRITBOBBIN_STUFFED_4 = 8,
-    SPRITBOBBIN_REMOTE_ALARM = 16, /* the remote alarm digit is 1 */
-    SPRITBOBBIN_NATIONAL_1 = 32,   /* the first national digit is 1 */
+    SPRITBOBBIN_REMOTE_ALARM = 16, /* levels 2 to 4: the remote alarm digit is 1 */
+    SPRITBOBBIN_NATIONAL_1 = 32,   /* levels 2 to 4: the first national digit is 1 */
     SPRITBOBBIN_NATIONAL_2 = 64,   /* level 4 only */
     SPRITBOBBIN_NATIONAL_3 = 128   /* level 4 only */
 };
@@ -215,7 +256,7 @@ enum {
     SPRITBOBBIN_FAULTY_BYTE = 1,       /* the byte that refusal 9 names */
     SPRITBOBBIN_WORD_DIFFERS = 2,
     SPRITBOBBIN_REMOTE_ALARM_DIFFERS = 3,
-    SPRITBOBBIN_NATIONAL_DIFFERS = 4,
+    SPRITBOBBIN_NATIONAL_DIFFERS = 4,  /* at levels 12 and 14: all service digits */
     SPRITBOBBIN_ALL_DIFFER = 17,
     SPRITBOBBIN_LISTED = 18,
     SPRITBOBBIN_MOST_LISTED = 64
@@ -269,18 +310,21 @@ enum {
  * Reads the notes and the buffer and writes the whole line. F is line_bytes divided by the
  * frame's bytes. Where a note says stuffed, the tributary's justification digit is sent as 1 and
  * its next digit takes its next place; so with s notes that stuff it a tributary sends
- * F * n - s digits, the first so many of its quarter. Further digits are not looked at.
+ * F * n - s digits, the first so many of its quarter. At levels 12 and 14 it sends F * n digits,
+ * less the stuffed, plus those of negative places (above). Further digits are not looked at.
  *
  * answer: the four digit counts, the named frame. Returns 0, 1, 2, 3, 4 or 5.
  */
-uint64_t spritbobbin_multiplex(uint64_t level, uint8_t *line, size_t line_bytes, const uint8_t *notes, size_t notes_bytes,
+uint64_t spritbobbin_multiplex(uint64_t level, uint64_t earlier, uint8_t *line, size_t line_bytes,
+                               const uint8_t *notes, size_t notes_bytes,
                                const uint8_t *buffer, size_t buffer_bytes, uint64_t answer[5]);
 
 /*
  * Reads the notes of a line, from a known start: the line begins with a frame.
  *
- * Reads the line and writes all notes. Whether a tributary is stuffed is the majority of its
- * control digits in the same frame. Wrong alignment digits are counted and never refused.
+ * Reads the line and writes all notes. Whether a tributary is stuffed, or at levels 12 and 14 its
+ * vote, is the majority of its control digits in the same frame. Wrong alignment digits are counted
+ * and never refused.
  *
  * answer: the alignment digits that differ from the word over all frames, then for each tributary
  * its dissenting digits: how many of its control digits differ from the majority of their own
@@ -294,11 +338,13 @@ uint64_t spritbobbin_read_notes(uint64_t level, const uint8_t *line, size_t line
  * others, such as the same shifted by a frame. Looks at no control digit.
  *
  * Reads the line and the notes and writes the whole buffer: each tributary's digits, then zeros to
- * the end of its quarter. Where a note says stuffed, the justification digit is left out.
+ * the end of its quarter. Where a note says stuffed, the justification digit is left out; at levels
+ * 12 and 14 each note and the one before it say what is left out, the first note and earlier.
  *
  * answer: the four digit counts, the named frame. Returns 0, 1, 2, 3, 4 or 5, as multiplexing does.
  */
-uint64_t spritbobbin_extract(uint64_t level, const uint8_t *line, size_t line_bytes, const uint8_t *notes, size_t notes_bytes,
+uint64_t spritbobbin_extract(uint64_t level, uint64_t earlier, const uint8_t *line, size_t line_bytes,
+                             const uint8_t *notes, size_t notes_bytes,
                              uint8_t *buffer, size_t buffer_bytes, uint64_t answer[5]);
 
 /*
@@ -306,13 +352,15 @@ uint64_t spritbobbin_extract(uint64_t level, const uint8_t *line, size_t line_by
  * the one above. It takes the same arguments, and gives the same answers, slices and refusals on
  * every input, which is proved; it is slower. For approvals, and to hold one beside the other.
  */
-uint64_t spritbobbin_plain_multiplex(uint64_t level, uint8_t *line, size_t line_bytes, const uint8_t *notes, size_t notes_bytes,
+uint64_t spritbobbin_plain_multiplex(uint64_t level, uint64_t earlier, uint8_t *line, size_t line_bytes,
+                                     const uint8_t *notes, size_t notes_bytes,
                                      const uint8_t *buffer, size_t buffer_bytes, uint64_t answer[5]);
 
 uint64_t spritbobbin_plain_read_notes(uint64_t level, const uint8_t *line, size_t line_bytes, uint8_t *notes, size_t notes_bytes,
                                       uint64_t answer[5]);
 
-uint64_t spritbobbin_plain_extract(uint64_t level, const uint8_t *line, size_t line_bytes, const uint8_t *notes, size_t notes_bytes,
+uint64_t spritbobbin_plain_extract(uint64_t level, uint64_t earlier, const uint8_t *line, size_t line_bytes,
+                                   const uint8_t *notes, size_t notes_bytes,
                                    uint8_t *buffer, size_t buffer_bytes, uint64_t answer[5]);
 
 /*
@@ -335,8 +383,9 @@ uint64_t spritbobbin_receiver_fresh(uint64_t level, uint64_t state[9], uint8_t f
  *
  * Alarm indication, ones without frames from a far end that has lost its own input: all digits
  * since the fresh state are cut into stretches of as many digits as a frame has, whatever the
- * mode. It begins with two stretches in a row that have each at most four zeros (five at level
- * 4), and ends with two in a row that have each more. A framed signal, of ones too, is none.
+ * mode. It begins with two stretches in a row that have each at most four zeros (five at level 4,
+ * two at level 12), and ends with two in a row that have each more. A framed signal, of ones too, is
+ * none.
  *
  * A stream may be cut into pieces anywhere; a piece of no digits changes nothing. The state may be
  * looked at, copied and put back; the frame in hand belongs to it.
@@ -462,7 +511,9 @@ uint64_t spritbobbin_capture_read(const uint8_t *file, size_t file_bytes, uint64
 
 /*
  * Where two captures differ: how many digits in each kind of place, and where the first 64 are.
- * Kinds go by the layout of the level: no control digit decides what a justification place is.
+ * Kinds go by the layout of the level: no control digit decides what a justification place is. At
+ * levels 12 and 14 positive and negative places are justification places, and all service digits
+ * count as national, so that the remote alarm's sum is 0.
  *
  * A bad file is refused as by spritbobbin_capture_read, all of the first (9, 1, 2) before the
  * second, and the answer says which; then 1 if the levels are not the same, and 2 if the lines do

@@ -64,14 +64,15 @@ fn count(level: u64, one: &[u8], other: &[u8]) -> Differences {
     found
 }
 
-/// The number of the sum that a place counts in.
+/// The number of the sum that a place counts in. Service digits without a bit in the note count as
+/// national, negative places as justification.
 pub fn sum(place: Place) -> usize {
     match place {
         Place::Word(_) => 0,
         Place::RemoteAlarm => 1,
-        Place::National(_) => 2,
+        Place::National(_) | Place::Service => 2,
         Place::Control(j) => 3 + 3 * j,
-        Place::Justification(j) => 4 + 3 * j,
+        Place::Negative(j) | Place::Justification(j) => 4 + 3 * j,
         Place::Tributary(j) => 5 + 3 * j,
     }
 }

@@ -10,7 +10,12 @@ pub enum Place {
     Word(usize),
     RemoteAlarm,
     National(usize),
+    /// A service digit without a bit in the note.
+    Service,
     Control(usize),
+    /// A negative place.
+    Negative(usize),
+    /// A justification digit; where there are negative places, a positive one.
     Justification(usize),
     Tributary(usize),
 }
@@ -34,17 +39,57 @@ pub fn layout(row: &Row) -> Vec<Place> {
 
 fn head(row: &Row, set: usize) -> Vec<Place> {
     let mut places = Vec::new();
+    let service = |digits| (0..digits).map(|_| Place::Service);
     if set == 0 {
         places.extend((0..row.word_length()).map(Place::Word));
-        places.push(Place::RemoteAlarm);
+        places.extend((0..row.remote_alarm_digits).map(|_| Place::RemoteAlarm));
         places.extend((0..row.national_digits).map(Place::National));
-    } else {
-        places.extend((0..4).map(Place::Control));
+        places.extend(service(row.first_service_digits));
+        return places;
     }
-    if set == row.sets - 1 {
-        places.extend((0..4).map(Place::Justification));
+    places.extend((0..4).map(Place::Control));
+    if set < row.sets - 1 {
+        places.extend(service(row.middle_service_digits));
+        return places;
     }
+    if row.negative_places {
+        places.extend((0..4).map(Place::Negative));
+    }
+    places.extend((0..4).map(Place::Justification));
     places
+}
+
+/// What a frame does for one tributary.
+#[derive(Clone, Copy, Debug, PartialEq, Eq)]
+pub enum Action {
+    /// The justification place carries no digit.
+    Stuffed,
+    /// The justification place carries one.
+    Plain,
+    /// The negative place carries one too.
+    Negative,
+}
+
+/// The action of a frame with this note for tributary j, counted from 0; `before` has the
+/// preceding frame's votes, and counts only where there are negative places.
+pub fn action(row: &Row, before: u8, note: u8, j: usize) -> Action {
+    match (row.negative_places, note_digit(before, j), note_digit(note, j)) {
+        (false, _, 1) | (true, 1, 1) => Action::Stuffed,
+        (true, 0, 0) => Action::Negative,
+        _ => Action::Plain,
+    }
+}
+
+/// Whose digit a place carries in a frame with these votes, if it carries any.
+pub fn carried(row: &Row, before: u8, note: u8, place: Place) -> Option<usize> {
+    let acts = |j| action(row, before, note, j);
+    match place {
+        Place::Tributary(j) => Some(j),
+        Place::Justification(j) => Some(j).filter(|&j| acts(j) != Action::Stuffed),
+        Place::Negative(j) => Some(j).filter(|&j| acts(j) == Action::Negative),
+        Place::Word(_) | Place::RemoteAlarm | Place::National(_) => None,
+        Place::Service | Place::Control(_) => None,
+    }
 }
 
 /// Bit `bit` of a note, as a digit.
@@ -52,18 +97,18 @@ fn note_digit(note: u8, bit: usize) -> u8 {
     note >> bit & 1
 }
 
-/// The digits of one frame, its note's decisions used in this same frame.
-pub fn fill(row: &Row, note: u8, waiting: &mut [Waiting]) -> Vec<u8> {
+/// The digits of one frame; `before` has the preceding frame's votes.
+pub fn fill(row: &Row, before: u8, note: u8, waiting: &mut [Waiting]) -> Vec<u8> {
     let word = row.word_digits();
-    let mut digit_at = |place| match place {
-        Place::Word(k) => word[k],
-        Place::RemoteAlarm => note_digit(note, 4),
-        Place::National(k) => note_digit(note, 5 + k),
-        Place::Control(j) => note_digit(note, j),
-        // A stuffing digit is sent as 1.
-        Place::Justification(j) if note_digit(note, j) == 1 => 1,
-        // Room for every frame's n digits was asked for, so the list never runs dry.
-        Place::Justification(j) | Place::Tributary(j) => waiting[j].pop_front().unwrap_or(0),
+    let mut digit_at = |place| match (carried(row, before, note, place), place) {
+        // Room for the most digits of every frame was asked for, so the list never runs dry.
+        (Some(j), _) => waiting[j].pop_front().unwrap_or(0),
+        (None, Place::Word(k)) => word[k],
+        (None, Place::RemoteAlarm) => note_digit(note, 4),
+        (None, Place::National(k)) => note_digit(note, 5 + k),
+        (None, Place::Control(j)) => note_digit(note, j),
+        // Service digits without a bit, stuffing digits and unused negative places are sent as 1.
+        (None, _) => 1,
     };
     layout(row).into_iter().map(&mut digit_at).collect()
 }
@@ -87,22 +132,20 @@ pub fn read(row: &Row, digits: &[u8]) -> Read {
             Place::RemoteAlarm => note |= digit << 4,
             Place::National(k) => note |= digit << (5 + k),
             Place::Justification(j) => note |= u8::from(stuffed(&group(j))) << j,
-            Place::Word(_) | Place::Control(_) | Place::Tributary(_) => {}
+            _ => {}
         }
     }
     let dissent = [0, 1, 2, 3].map(|j| dissent(&group(j)));
     Read { note, alignment: wrong_digits(row, digits), dissent }
 }
 
-/// The four tributaries' digits in one frame, by a note. Only its decisions are looked at,
-/// and no control digit is.
-pub fn take(row: &Row, note: u8, digits: &[u8]) -> [Vec<u8>; 4] {
+/// The four tributaries' digits in one frame, by a note and the one before. Only their votes
+/// are looked at, and no control digit is.
+pub fn take(row: &Row, before: u8, note: u8, digits: &[u8]) -> [Vec<u8>; 4] {
     let mut tributaries = [0, 1, 2, 3].map(|_| Vec::new());
     for (place, &digit) in layout(row).into_iter().zip(digits) {
-        match place {
-            Place::Justification(j) if note_digit(note, j) == 1 => {}
-            Place::Justification(j) | Place::Tributary(j) => tributaries[j].push(digit),
-            Place::Word(_) | Place::RemoteAlarm | Place::National(_) | Place::Control(_) => {}
+        if let Some(j) = carried(row, before, note, place) {
+            tributaries[j].push(digit);
         }
     }
     tributaries

@@ -16,7 +16,7 @@ pub struct HandedOver {
 }
 
 /// All frames that the stream hands over, how many words it tests, and the state that it
-/// leaves. A level that is not 2, 3 or 4 takes no digits.
+/// leaves. A level that there is not takes no digits.
 pub fn whole(level: u64, stream: &[u8]) -> (Vec<HandedOver>, usize, State) {
     let (_, mut state) = fresh(level);
     let (mut frames, mut words) = (Vec::new(), 0);

@@ -1,5 +1,6 @@
-//! A second implementation of the three multiplex levels with positive justification,
-//! written from the specification alone, to compare the product with.
+//! A second implementation of the three multiplex levels with positive justification and of
+//! the two with positive, zero and negative, written from the specification alone, to compare
+//! the product with.
 //!
 //! It works on lists of digits, one digit to an element: a frame is first laid out as a
 //! list of named places and then filled place by place. It is meant to be plainly right,

@@ -8,7 +8,7 @@ use crate::level::{row, Row, MOST_FRAMES};
 #[derive(Clone, Debug, Default, PartialEq, Eq)]
 pub struct Counted {
     pub refusal: u64,
-    /// The first frame whose note is wrong, under 5 only.
+    /// The first frame whose note is wrong, or 0 for a wrong earlier vote, under 5 only.
     pub frame: u64,
     pub counts: [u64; 4],
 }
@@ -49,7 +49,7 @@ pub fn length_refusal(level: u64, line_bytes: u64, notes_bytes: u64, buffer_byte
     };
     // Wider numbers: eight times a quarter need not fit in 64 bits.
     let room = u128::from(buffer_bytes / 4) * 8;
-    let needed = u128::from(notes_bytes) * row.tributary_digits as u128;
+    let needed = u128::from(notes_bytes) * row.most_digits() as u128;
     if buffer_bytes % 4 != 0 || room < needed {
         return 4;
     }
@@ -57,33 +57,59 @@ pub fn length_refusal(level: u64, line_bytes: u64, notes_bytes: u64, buffer_byte
 }
 
 /// The refusals 1 to 5 of a call that goes by notes, or the level's row.
-fn judge<'a>(level: u64, line: &[u8], notes: &[u8], buffer: &[u8]) -> Result<&'a Row, Counted> {
+fn judge<'a>(
+    level: u64,
+    earlier: u64,
+    line: &[u8],
+    notes: &[u8],
+    buffer: &[u8],
+) -> Result<&'a Row, Counted> {
     let lengths = [line.len(), notes.len(), buffer.len()].map(|n| n as u64);
     let refusal = length_refusal(level, lengths[0], lengths[1], lengths[2]);
     let row = match row(level).filter(|_| refusal == 0) {
         Some(row) => row,
         None => return Err(Counted { refusal, ..Counted::default() }),
     };
-    match first_wrong_note(row, notes) {
+    let wrong = if wrong_earlier(row, earlier) { Some(0) } else { first_wrong_note(row, notes) };
+    match wrong {
         Some(frame) => Err(Counted { refusal: 5, frame: frame as u64, counts: [0; 4] }),
         None => Ok(row),
     }
 }
 
-/// Writes the line of the notes and of the four quarters' first digits.
-pub fn multiplex(level: u64, line: &mut [u8], notes: &[u8], buffer: &[u8]) -> Counted {
-    let row = match judge(level, line, notes, buffer) {
+/// Whether the vote before frame 0 has more than four bits, where it is looked at.
+fn wrong_earlier(row: &Row, earlier: u64) -> bool {
+    row.negative_places && earlier > 15
+}
+
+/// The notes, each after the one before it, the first after the earlier vote.
+fn with_before(earlier: u64, notes: &[u8]) -> impl Iterator<Item = (u8, u8)> + '_ {
+    // An earlier vote that does not fit a byte is one that is not looked at.
+    let before = std::iter::once(earlier as u8).chain(notes.iter().copied());
+    before.zip(notes.iter().copied())
+}
+
+/// Writes the line of the notes and of the four quarters' first digits. `earlier` is the vote
+/// before frame 0.
+pub fn multiplex(
+    level: u64,
+    earlier: u64,
+    line: &mut [u8],
+    notes: &[u8],
+    buffer: &[u8],
+) -> Counted {
+    let row = match judge(level, earlier, line, notes, buffer) {
         Ok(row) => row,
         Err(refused) => return refused,
     };
-    // At most F·n digits of a quarter are looked at, however long it is.
-    let most = notes.len() * row.tributary_digits;
+    // At most so many digits of a quarter are looked at, however long it is.
+    let most = notes.len() * row.most_digits();
     let quarter = buffer.len() / 4;
     let mut waiting: Vec<Waiting> =
         (0..4).map(|j| unpack(&buffer[j * quarter..(j + 1) * quarter], most).into()).collect();
     let mut digits = Vec::new();
-    for &note in notes {
-        digits.extend(frame::fill(row, note, &mut waiting));
+    for (before, note) in with_before(earlier, notes) {
+        digits.extend(frame::fill(row, before, note, &mut waiting));
     }
     line.copy_from_slice(&pack(&digits));
     let counts = [0, 1, 2, 3].map(|j| (most - waiting[j].len()) as u64);
@@ -105,15 +131,17 @@ pub fn read_notes(level: u64, line: &[u8], notes: &mut [u8]) -> Noted {
     answer
 }
 
-/// Extracts the four tributaries by the notes; the rest of each quarter is zero.
-pub fn extract(level: u64, line: &[u8], notes: &[u8], buffer: &mut [u8]) -> Counted {
-    let row = match judge(level, line, notes, buffer) {
+/// Extracts the four tributaries by the notes and the vote before frame 0; the rest of each
+/// quarter is zero.
+pub fn extract(level: u64, earlier: u64, line: &[u8], notes: &[u8], buffer: &mut [u8]) -> Counted {
+    let row = match judge(level, earlier, line, notes, buffer) {
         Ok(row) => row,
         Err(refused) => return refused,
     };
     let mut tributaries: [Vec<u8>; 4] = Default::default();
-    for (&note, bytes) in notes.iter().zip(line.chunks(row.frame_bytes())) {
-        let taken = frame::take(row, note, &unpack(bytes, row.frame_digits));
+    let votes = with_before(earlier, notes);
+    for ((before, note), bytes) in votes.zip(line.chunks(row.frame_bytes())) {
+        let taken = frame::take(row, before, note, &unpack(bytes, row.frame_digits));
         (0..4).for_each(|j| tributaries[j].extend(&taken[j]));
     }
     let quarter = buffer.len() / 4;
@@ -127,8 +155,7 @@ pub fn extract(level: u64, line: &[u8], notes: &[u8], buffer: &mut [u8]) -> Coun
     answer
 }
 
-/// The first frame whose note has a bit for a national digit that the level lacks.
+/// The first frame whose note has a bit for a service digit that the level lacks.
 fn first_wrong_note(row: &Row, notes: &[u8]) -> Option<usize> {
-    let service_bits = 4 + 1 + row.national_digits;
-    notes.iter().position(|&note| u32::from(note) >= 1 << service_bits)
+    notes.iter().position(|&note| u32::from(note) >= 1 << row.note_bits())
 }

@@ -4,16 +4,21 @@
 pub struct Random(u64);
 
 /// Numbers that a cut to fewer bits, a wrong sign or a wrapped sum would mistake for others.
-pub const HOSTILE: [u64; 14] = [
+pub const HOSTILE: [u64; 19] = [
     0,
     1,
     5,
     7,
+    13,
+    16,
     255,
     258,
+    256 + 12,
     (1 << 16) + 3,
+    (1 << 16) + 14,
     (1 << 32) + 2,
     (1 << 32) + 4,
+    (1 << 32) + 12,
     (1 << 61) + 2,
     1 << 63,
     (1 << 63) + 3,

@@ -6,7 +6,8 @@ use reference::level::row;
 use reference::random::Random;
 use reference::{feed, fresh, State};
 
-const LEVELS: [(u64, usize, usize); 3] = [(2, 848, 4), (3, 1536, 4), (4, 2928, 5)];
+const LEVELS: [(u64, usize, usize); 5] =
+    [(2, 848, 4), (3, 1536, 4), (4, 2928, 5), (12, 1056, 2), (14, 2176, 4)];
 
 /// A stretch of ones with so many zeros, the last digit among them.
 fn stretch(digits: usize, zeros: usize) -> Vec<u8> {
@@ -106,7 +107,7 @@ fn framed_ones_are_no_alarm() {
 fn the_search_agrees() {
     let mut random = Random::new(4);
     for round in 0..30 {
-        let (level, digits, limit) = LEVELS[round % 3];
+        let (level, digits, limit) = LEVELS[round % 5];
         let zeros = (0..12).map(|_| random.index(2 * limit + 2));
         let stream: Vec<u8> = zeros.flat_map(|zeros| stretch(digits, zeros)).collect();
         let (_, state) = after(&fresh(level).1, &[stream.clone()]);

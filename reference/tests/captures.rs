@@ -27,7 +27,7 @@ fn refused(file: &[u8]) -> (u64, u64) {
 
 fn case_1() -> Vec<u8> {
     let mut line = vec![0; 106];
-    assert_eq!(multiplex(2, &mut line, &[0], &[0; 104]).refusal, 0);
+    assert_eq!(multiplex(2, 0, &mut line, &[0], &[0; 104]).refusal, 0);
     line
 }
 
@@ -44,7 +44,7 @@ fn the_example() {
 
 #[test]
 fn what_was_written_is_read() {
-    for (level, frame) in [(2, 106), (3, 192), (4, 366)] {
+    for (level, frame) in [(2, 106), (3, 192), (4, 366), (12, 132), (14, 272)] {
         for frames in [0, 1, 64] {
             let line = vec![0x5A; frame * frames];
             for label in [None, Some(0), Some(1), Some(32)] {
@@ -64,6 +64,9 @@ fn the_writers_refusals_in_their_order() {
     let long = [0; 33];
     assert_eq!(written(5, &[0; 105], Some(&long), 0), Err(1));
     assert_eq!(written(258, &[], None, 7), Err(1));
+    for level in [11, 13, 15, 256 + 12] {
+        assert_eq!(written(level, &[], None, 7), Err(1));
+    }
     assert_eq!(written(2, &[0; 105], Some(&long), 0), Err(2));
     assert_eq!(written(2, &[0; 65 * 106], None, 10_000), Err(2));
     assert_eq!(written(2, &[0; 106], Some(&long), 0), Err(9));
@@ -100,6 +103,8 @@ fn the_level_and_the_line_are_judged_after_the_fields() {
     assert_eq!(refused(&[1, 0, 1, 9, 2, 0, 0, 0]), (9, 7));
     assert_eq!(refused(&[1, 0, 1, 9, 2, 0, 1, 0]), (1, 0));
     assert_eq!(refused(&[1, 0, 1, 2, 2, 0, 1, 0]), (2, 0));
+    assert_eq!(refused(&[1, 0, 1, 13, 2, 0, 1, 0]), (1, 0));
+    assert_eq!(refused(&[1, 0, 1, 14, 2, 0, 1, 0]), (2, 0));
     let long = [&[1, 0, 1, 2, 2, 0xFF, 0xFF][..], &[0; 65_535]].concat();
     assert_eq!(refused(&long), (2, 0));
     assert_eq!(refused(&long[..long.len() - 1]), (9, 4));

@@ -32,16 +32,41 @@ fn each_sum() {
     }
 }
 
-/// All digits of a frame: the word, the service digits, and of each tributary its control group, one
-/// justification digit and n - 1 others.
+/// A place of each kind at level 12, by section 4 of document 000: groups of 264, service digits at
+/// 5 to 8 of groups II and III (so 268 on and 532 on, counted from 0), in group IV from 792 on four
+/// control digits, four negative places, four positive ones and then tributary digits.
+#[test]
+fn each_sum_at_level_12() {
+    let of = |sum| move |place| (sum, place);
+    let word = (0..8).map(of(0));
+    let service = (268..272).chain(532..536).map(of(2));
+    let four = |first: usize, sum: usize| (0..4).map(move |j| (sum + 3 * j, first + j));
+    let control = four(264, 3).chain(four(528, 3)).chain(four(792, 3));
+    let justification = four(796, 4).chain(four(800, 4));
+    let ordinary = four(8, 5).chain(four(272, 5)).chain(four(804, 5)).chain(four(1052, 5));
+    for (sum, place) in word.chain(service).chain(control).chain(justification).chain(ordinary) {
+        let (sums, found) = turned(12, 2 * 132, &[1056 + place]);
+        let mut expected = [0; 15];
+        expected[sum] = 1;
+        assert_eq!((sums, found), (expected, vec![(1, place)]), "place {place}");
+    }
+}
+
+/// All digits of a frame: the word, the service digits, and of each tributary its control group, its
+/// justification places and n - 1 others. Levels 12 and 14 have two justification places, and of the
+/// service digits no remote alarm.
 #[test]
 fn a_whole_frame() {
-    for (level, bytes, word, national, group, n) in
-        [(2, 106, 10, 1, 3, 206), (3, 192, 10, 1, 3, 378), (4, 366, 12, 3, 5, 723)]
-    {
+    for (level, bytes, word, alarm, national, group, places, n) in [
+        (2, 106, 10, 1, 1, 3, 1, 206),
+        (3, 192, 10, 1, 1, 3, 1, 378),
+        (4, 366, 12, 1, 3, 5, 1, 723),
+        (12, 132, 8, 0, 8, 3, 2, 256),
+        (14, 272, 10, 0, 2, 3, 2, 537),
+    ] {
+        let mut expected = vec![word, alarm, national];
+        expected.extend([group, places, n - 1].repeat(4));
         let (sums, places) = turned(level, bytes, &(0..8 * bytes).collect::<Vec<_>>());
-        let mut expected = vec![word, 1, national];
-        expected.extend([group, 1, n - 1].repeat(4));
         assert_eq!(sums.to_vec(), expected);
         assert_eq!(sums.iter().sum::<u64>(), 8 * bytes as u64);
         assert_eq!(places, (0..8 * bytes).map(|place| (0, place)).collect::<Vec<_>>());

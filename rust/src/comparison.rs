@@ -10,7 +10,7 @@ use crate::{read_capture, Level, Refusal};
 pub const MOST_LISTED: usize = 64;
 
 /// The differing digits of one tributary, by the kind of place. Kinds go by the layout of the level:
-/// a justification place is one whether it carries a digit or is stuffed.
+/// a justification place is one whether it carries a digit or is stuffed, and so is a negative place.
 #[derive(Clone, Copy, Debug, Default, PartialEq, Eq, Hash)]
 pub struct OfTributary {
     /// Control digits.
@@ -35,9 +35,9 @@ pub struct LinePlace {
 pub struct Differences {
     /// Digits of the alignment words.
     pub word: usize,
-    /// Remote alarm digits.
+    /// Remote alarm digits, which only levels 2 to 4 have.
     pub remote_alarm: usize,
-    /// National digits.
+    /// National digits; at levels 12 and 14 all service digits.
     pub national: usize,
     /// Those of tributaries 1 to 4.
     pub tributaries: [OfTributary; 4],

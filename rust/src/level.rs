@@ -1,4 +1,4 @@
-//! The three levels and the sizes that a caller needs.
+//! The five levels and the sizes that a caller needs.
 
 use std::fmt;
 
@@ -29,6 +29,10 @@ pub enum Level {
     Three,
     /// 139264 kbit/s (G.751).
     Four,
+    /// 8448 kbit/s with positive/zero/negative justification.
+    Twelve,
+    /// 139264 kbit/s with positive/zero/negative justification.
+    Fourteen,
 }
 
 /// What differs between the levels.
@@ -36,26 +40,32 @@ struct Row {
     number: u64,
     kilobits: u32,
     frame_digits: usize,
+    word_digits: usize,
     tributary_digits: usize,
+    room_digits: usize,
+    note_bits: u8,
 }
 
 #[rustfmt::skip]
-const TABLE: [Row; 3] = [
-    Row { number: 2, kilobits:   8_448, frame_digits:   848, tributary_digits: 206 },
-    Row { number: 3, kilobits:  34_368, frame_digits: 1_536, tributary_digits: 378 },
-    Row { number: 4, kilobits: 139_264, frame_digits: 2_928, tributary_digits: 723 },
+const TABLE: [Row; 5] = [
+    Row { number:  2, kilobits:   8_448, frame_digits:   848, word_digits: 10, tributary_digits: 206, room_digits: 206, note_bits: 0x3F },
+    Row { number:  3, kilobits:  34_368, frame_digits: 1_536, word_digits: 10, tributary_digits: 378, room_digits: 378, note_bits: 0x3F },
+    Row { number:  4, kilobits: 139_264, frame_digits: 2_928, word_digits: 12, tributary_digits: 723, room_digits: 723, note_bits: 0xFF },
+    Row { number: 12, kilobits:   8_448, frame_digits: 1_056, word_digits:  8, tributary_digits: 256, room_digits: 257, note_bits: 0x0F },
+    Row { number: 14, kilobits: 139_264, frame_digits: 2_176, word_digits: 10, tributary_digits: 537, room_digits: 538, note_bits: 0x0F },
 ];
 
 impl Level {
-    /// Every level, the slowest first.
-    pub const ALL: [Level; 3] = [Level::Two, Level::Three, Level::Four];
+    /// Every level, in the order of their numbers.
+    pub const ALL: [Level; 5] =
+        [Level::Two, Level::Three, Level::Four, Level::Twelve, Level::Fourteen];
 
     fn row(self) -> &'static Row {
         // The table's rows stand in the order of the cases.
         &TABLE[self as usize]
     }
 
-    /// The level's number: 2, 3 or 4.
+    /// The level's number: 2, 3, 4, 12 or 14.
     pub fn number(self) -> u64 {
         self.row().number
     }
@@ -75,18 +85,49 @@ impl Level {
         self.frame_digits() / 8
     }
 
-    /// The digits of each tributary in a frame where it is not stuffed.
+    /// The digits of the alignment word.
+    pub fn word_digits(self) -> usize {
+        self.row().word_digits
+    }
+
+    /// The digits of each tributary in a frame where it is not stuffed and no negative place carries
+    /// a digit of it.
     pub fn tributary_digits(self) -> usize {
         self.row().tributary_digits
+    }
+
+    /// The most digits of a tributary in a frame, for which a quarter must have room.
+    ///
+    /// ```
+    /// use spritbobbin::Level;
+    ///
+    /// assert_eq!((Level::Two.tributary_digits(), Level::Two.room_digits()), (206, 206));
+    /// assert_eq!((Level::Twelve.tributary_digits(), Level::Twelve.room_digits()), (256, 257));
+    /// ```
+    pub fn room_digits(self) -> usize {
+        self.row().room_digits
+    }
+
+    /// The bits that a note of this level may have set.
+    pub fn note_bits(self) -> u8 {
+        self.row().note_bits
+    }
+
+    /// Whether a frame acts on the vote of the frame before it too, so that multiplexing and
+    /// extraction look at the earlier vote: levels 12 and 14.
+    pub fn looks_at_earlier(self) -> bool {
+        // A frame can have a digit more where there are negative places, and these go by two votes.
+        self.room_digits() > self.tributary_digits()
     }
 
     /// The fewest bytes of a buffer's quarter for so many frames, stuffed or not.
     ///
     /// ```
     /// assert_eq!(spritbobbin::Level::Two.quarter_bytes(1), 26);
+    /// assert_eq!(spritbobbin::Level::Twelve.quarter_bytes(1), 33);
     /// ```
     pub fn quarter_bytes(self, frames: usize) -> usize {
-        let digits = frames.saturating_mul(self.tributary_digits());
+        let digits = frames.saturating_mul(self.room_digits());
         digits / 8 + usize::from(digits % 8 != 0)
     }
 

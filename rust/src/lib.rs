@@ -1,5 +1,6 @@
-//! Frames of 8448, 34368 and 139264 kbit/s (G.742, G.751): built, taken apart, and found in a
-//! stream of digits.
+//! Frames of 8448, 34368 and 139264 kbit/s (G.742, G.751), and the older frames of 8448 and 139264
+//! kbit/s with positive/zero/negative justification: built, taken apart, and found in a stream of
+//! digits.
 //!
 //! This crate is a thin, safe face of a library whose every answer is proved. It adds Rust's
 //! habits (slices, `Result`, iterators) and decides nothing itself.
@@ -24,14 +25,25 @@
 //!
 //! Each frame has a note, one byte:
 //!
-//! | bit | value | 1 means |
-//! |---|---|---|
-//! | 0 to 3 | 1, 2, 4, 8 | tributary 1 to 4 is stuffed in this frame |
-//! | 4 | 16 | the remote alarm digit is 1 |
-//! | 5 | 32 | the first national digit is 1 |
-//! | 6, 7 | 64, 128 | the second, third national digit is 1 (level 4 only) |
+//! | bit | value | 1 means | levels |
+//! |---|---|---|---|
+//! | 0 to 3 | 1, 2, 4, 8 | tributary 1 to 4 is stuffed in this frame | 2 to 4 |
+//! | 0 to 3 | 1, 2, 4, 8 | the vote of tributary 1 to 4 is 1 | 12, 14 |
+//! | 4 | 16 | the remote alarm digit is 1 | 2 to 4 |
+//! | 5 | 32 | the first national digit is 1 | 2 to 4 |
+//! | 6, 7 | 64, 128 | the second, third national digit is 1 | 4 |
 //!
 //! A stuffed tributary sends one digit fewer in that frame.
+//!
+//! # Levels 12 and 14
+//!
+//! With positive/zero/negative justification a frame acts on its own vote and on that of the frame
+//! before it. Both 1: the tributary is stuffed. Both 0: its negative place carries a digit too, and
+//! it sends one more. Otherwise neither.
+//!
+//! The vote before the first frame of a line is given as `earlier`, a number from 0 to 15, to
+//! [`multiplex`] and [`extract`]; levels 2 to 4 do not look at it. Where a run of frames goes on in
+//! the next line, [`vote_after`] is that line's earlier vote.
 //!
 //! # Example
 //!
@@ -44,13 +56,13 @@
 //! let buffer = vec![0b1010_1010; level.buffer_bytes(notes.len())];
 //! let mut line = vec![0; notes.len() * level.frame_bytes()];
 //!
-//! let sent = multiplex(level, &mut line, &notes, &buffer)?;
+//! let sent = multiplex(level, 0, &mut line, &notes, &buffer)?;
 //! assert_eq!(sent.digits, [3 * 206 - 1, 3 * 206, 3 * 206, 3 * 206]);
 //!
 //! let (mut notes_back, mut buffer_back) = ([0; 3], vec![0; buffer.len()]);
 //! read_notes(level, &line, &mut notes_back)?;
 //! assert_eq!(notes_back, notes);
-//! let extracted = extract(level, &line, &notes_back, &mut buffer_back)?;
+//! let extracted = extract(level, 0, &line, &notes_back, &mut buffer_back)?;
 //! assert_eq!(extracted.digits, sent.digits);
 //!
 //! // A receiver hands over the frame that begins with the third good word in a row.
@@ -71,8 +83,8 @@ mod level;
 mod line;
 mod multiframe;
 mod multiplexing;
-mod rack;
 pub mod plain;
+mod rack;
 mod raw;
 mod receiver;
 mod refusal;
@@ -86,7 +98,7 @@ pub use finder::{Finder, FinderMode, FinderState, FinderTaken, Turn, Turns};
 pub use level::{Level, MOST_BYTES, MOST_FRAMES};
 pub use line::{digits, line_digit, Digits};
 pub use multiframe::{Multiframe, MULTIFRAME_BYTES};
-pub use multiplexing::{extract, multiplex, read_notes, Extracted, Noted, Sent};
+pub use multiplexing::{extract, multiplex, read_notes, vote_after, Extracted, Noted, Sent};
 pub use rack::{Rack, MOST_LINES};
 pub use receiver::{Frame, Frames, Mode, Receiver, State, Taken};
 pub use refusal::Refusal;

@@ -3,6 +3,9 @@
 use crate::raw::{self, count};
 use crate::{Level, Refusal};
 
+/// The largest earlier vote: a bit to each tributary.
+const MOST_EARLIER: u8 = 15;
+
 /// What multiplexing sent.
 #[derive(Clone, Copy, Debug, PartialEq, Eq, Hash)]
 pub struct Sent {
@@ -31,12 +34,13 @@ pub struct Extracted {
 /// Builds the frames of a line: writes the whole line from the notes and the buffer's quarters.
 ///
 /// There are as many frames as the line has room for. Digits of a quarter past those sent are not
-/// looked at.
+/// looked at. `earlier` is the vote before the first frame, 0 to 15, bit j - 1 for tributary j;
+/// levels 2 to 4 do not look at it.
 ///
 /// # Errors
 ///
 /// In this order: [`Refusal::Line`], [`Refusal::Notes`], [`Refusal::Buffer`],
-/// [`Refusal::NoteBits`]. The line is then as it was.
+/// [`Refusal::Earlier`], [`Refusal::NoteBits`]. The line is then as it was.
 ///
 /// # Examples
 ///
@@ -45,26 +49,72 @@ pub struct Extracted {
 ///
 /// # fn main() -> Result<(), spritbobbin::Refusal> {
 /// let mut line = [0xFF; 106];
-/// let sent = multiplex(Level::Two, &mut line, &[0], &[0; 104])?;
+/// let sent = multiplex(Level::Two, 0, &mut line, &[0], &[0; 104])?;
 /// assert_eq!(sent.digits, [206; 4]);
 /// assert_eq!(line[0], 0xF4); // the word 1111010000 begins
 /// assert!(line[1..].iter().all(|byte| *byte == 0));
 /// # Ok(())
 /// # }
 /// ```
+///
+/// At levels 12 and 14 the vote of each frame and of the one before it:
+///
+/// ```
+/// use spritbobbin::{multiplex, Level};
+///
+/// # fn main() -> Result<(), spritbobbin::Refusal> {
+/// let mut line = [0; 132];
+/// // Tributary 1 votes 1 twice and is stuffed; 2 and 3 change their votes; 4 votes 0 twice.
+/// let sent = multiplex(Level::Twelve, 0b0011, &mut line, &[0b0101], &[0; 132])?;
+/// assert_eq!(sent.digits, [255, 256, 256, 257]);
+/// assert_eq!(line[0], 0xE6); // the word 11100110
+/// # Ok(())
+/// # }
+/// ```
 pub fn multiplex(
     level: Level,
+    earlier: u8,
     line: &mut [u8],
     notes: &[u8],
     buffer: &[u8],
 ) -> Result<Sent, Refusal> {
-    multiplex_by(raw::spritbobbin_multiplex, level, line, notes, buffer)
+    multiplex_by(raw::spritbobbin_multiplex, level, earlier, line, notes, buffer)
+}
+
+/// The vote before the next line of a run, at levels 12 and 14: that of the last frame, or the
+/// earlier one where the line had none.
+///
+/// # Examples
+///
+/// Three frames sent in two lines are the three frames sent in one:
+///
+/// ```
+/// use spritbobbin::{multiplex, vote_after, Level};
+///
+/// # fn main() -> Result<(), spritbobbin::Refusal> {
+/// let (level, earlier, notes, buffer) = (Level::Fourteen, 0, [0x0F, 0x0F, 0x0F], [0; 4 * 202]);
+/// let mut whole = [0; 3 * 272];
+/// let sent = multiplex(level, earlier, &mut whole, &notes, &buffer)?;
+/// assert_eq!(sent.digits, [537 + 536 + 536; 4]);
+///
+/// let (mut one, mut two) = ([0; 272], [0; 2 * 272]);
+/// multiplex(level, earlier, &mut one, &notes[..1], &buffer)?;
+/// let earlier = vote_after(earlier, &notes[..1]);
+/// let sent = multiplex(level, earlier, &mut two, &notes[1..], &buffer)?;
+/// assert_eq!(sent.digits, [536 + 536; 4]); // without it the second frame would send 537
+/// assert_eq!([&one[..], &two[..]].concat(), whole);
+/// # Ok(())
+/// # }
+/// ```
+pub fn vote_after(earlier: u8, notes: &[u8]) -> u8 {
+    notes.last().map_or(earlier, |note| note & 0x0F)
 }
 
 /// The same, by one of the two engines.
 pub(crate) fn multiplex_by(
     by: raw::Multiplex,
     level: Level,
+    earlier: u8,
     line: &mut [u8],
     notes: &[u8],
     buffer: &[u8],
@@ -75,6 +125,7 @@ pub(crate) fn multiplex_by(
     let number = unsafe {
         by(
             level.number(),
+            u64::from(earlier),
             line.as_mut_ptr(),
             line.len(),
             notes.as_ptr(),
@@ -85,7 +136,7 @@ pub(crate) fn multiplex_by(
         )
     };
     let [a, b, c, d, frame] = answer.map(count);
-    let lent = Lent { level, line: line.len(), notes: notes.len(), buffer: buffer.len() };
+    let lent = Lent { level, earlier, line: line.len(), notes: notes.len(), buffer: buffer.len() };
     match number {
         0 => Ok(Sent { digits: [a, b, c, d] }),
         _ => Err(lent.refusal(number, frame)),
@@ -95,8 +146,8 @@ pub(crate) fn multiplex_by(
 /// Reads the notes of a line, a byte for each frame.
 ///
 /// The line must begin with a frame; a [`Receiver`](crate::Receiver) finds where frames begin.
-/// Whether a tributary is stuffed is the majority of its control digits in the same frame. Wrong
-/// alignment digits are counted and never refused.
+/// Whether a tributary is stuffed, or at levels 12 and 14 its vote, is the majority of its control
+/// digits in the same frame. Wrong alignment digits are counted and never refused.
 ///
 /// # Errors
 ///
@@ -133,7 +184,7 @@ pub(crate) fn read_notes_by(
         by(level.number(), line.as_ptr(), line.len(), notes.as_mut_ptr(), notes.len(), &mut answer)
     };
     let [alignment, dissent @ ..] = answer.map(count);
-    let lent = Lent { level, line: line.len(), notes: notes.len(), buffer: 0 };
+    let lent = Lent { level, earlier: 0, line: line.len(), notes: notes.len(), buffer: 0 };
     match number {
         0 => Ok(Noted { alignment, dissent }),
         _ => Err(lent.refusal(number, 0)),
@@ -142,12 +193,12 @@ pub(crate) fn read_notes_by(
 
 /// Extracts the tributaries of a line by the notes that are given: those that
 /// [`read_notes`] read, or others. Writes the whole buffer, each tributary's digits and then zeros
-/// to the end of its quarter. No control digit is looked at.
+/// to the end of its quarter. No control digit is looked at. `earlier` is as in [`multiplex`].
 ///
 /// # Errors
 ///
 /// In this order: [`Refusal::Line`], [`Refusal::Notes`], [`Refusal::Buffer`],
-/// [`Refusal::NoteBits`]. The buffer is then as it was.
+/// [`Refusal::Earlier`], [`Refusal::NoteBits`]. The buffer is then as it was.
 ///
 /// # Examples
 ///
@@ -157,24 +208,26 @@ pub(crate) fn read_notes_by(
 /// # fn main() -> Result<(), spritbobbin::Refusal> {
 /// let mut buffer = [0; 104];
 /// // Tributary 1 is stuffed, whatever the line's control digits say.
-/// let extracted = extract(Level::Two, &[0xFF; 106], &[0x01], &mut buffer)?;
+/// let extracted = extract(Level::Two, 0, &[0xFF; 106], &[0x01], &mut buffer)?;
 /// assert_eq!(extracted.digits, [205, 206, 206, 206]);
 /// # Ok(())
 /// # }
 /// ```
 pub fn extract(
     level: Level,
+    earlier: u8,
     line: &[u8],
     notes: &[u8],
     buffer: &mut [u8],
 ) -> Result<Extracted, Refusal> {
-    extract_by(raw::spritbobbin_extract, level, line, notes, buffer)
+    extract_by(raw::spritbobbin_extract, level, earlier, line, notes, buffer)
 }
 
 /// The same, by one of the two engines.
 pub(crate) fn extract_by(
     by: raw::Extract,
     level: Level,
+    earlier: u8,
     line: &[u8],
     notes: &[u8],
     buffer: &mut [u8],
@@ -184,6 +237,7 @@ pub(crate) fn extract_by(
     let number = unsafe {
         by(
             level.number(),
+            u64::from(earlier),
             line.as_ptr(),
             line.len(),
             notes.as_ptr(),
@@ -194,16 +248,17 @@ pub(crate) fn extract_by(
         )
     };
     let [a, b, c, d, frame] = answer.map(count);
-    let lent = Lent { level, line: line.len(), notes: notes.len(), buffer: buffer.len() };
+    let lent = Lent { level, earlier, line: line.len(), notes: notes.len(), buffer: buffer.len() };
     match number {
         0 => Ok(Extracted { digits: [a, b, c, d] }),
         _ => Err(lent.refusal(number, frame)),
     }
 }
 
-/// What a call was lent, in bytes, so that its refusal can say what is wrong with it.
+/// What a call was given, slices in bytes, so that its refusal can say what is wrong with it.
 struct Lent {
     level: Level,
+    earlier: u8,
     line: usize,
     notes: usize,
     buffer: usize,
@@ -211,13 +266,17 @@ struct Lent {
 
 impl Lent {
     fn refusal(self, number: u64, frame: usize) -> Refusal {
-        let Lent { level, line, notes, buffer } = self;
+        let Lent { level, earlier, line, notes, buffer } = self;
         let frames = line / level.frame_bytes();
         match number {
             1 => Refusal::Level { number: level.number() },
             2 => Refusal::Line { level, bytes: line },
             3 => Refusal::Notes { bytes: notes, frames },
             4 => Refusal::Buffer { level, bytes: buffer, frames },
+            // The earlier vote is judged before the notes.
+            5 if level.looks_at_earlier() && earlier > MOST_EARLIER => {
+                Refusal::Earlier { level, earlier }
+            }
             5 => Refusal::NoteBits { level, frame },
             _ => Refusal::Unknown { number },
         }

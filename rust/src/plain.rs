@@ -21,19 +21,20 @@ use crate::{raw, Extracted, Level, Noted, Refusal, Sent};
 ///
 /// # fn main() -> Result<(), spritbobbin::Refusal> {
 /// let (mut quick, mut slow) = ([0; 366], [0; 366]);
-/// let sent = multiplex(Level::Four, &mut quick, &[0xFF], &[0x5A; 364])?;
-/// assert_eq!(plain::multiplex(Level::Four, &mut slow, &[0xFF], &[0x5A; 364])?, sent);
+/// let sent = multiplex(Level::Four, 0, &mut quick, &[0xFF], &[0x5A; 364])?;
+/// assert_eq!(plain::multiplex(Level::Four, 0, &mut slow, &[0xFF], &[0x5A; 364])?, sent);
 /// assert_eq!(quick, slow);
 /// # Ok(())
 /// # }
 /// ```
 pub fn multiplex(
     level: Level,
+    earlier: u8,
     line: &mut [u8],
     notes: &[u8],
     buffer: &[u8],
 ) -> Result<Sent, Refusal> {
-    multiplex_by(raw::spritbobbin_plain_multiplex, level, line, notes, buffer)
+    multiplex_by(raw::spritbobbin_plain_multiplex, level, earlier, line, notes, buffer)
 }
 
 /// Reads the notes of a line, as [`read_notes`](crate::read_notes) does.
@@ -71,16 +72,17 @@ pub fn read_notes(level: Level, line: &[u8], notes: &mut [u8]) -> Result<Noted, 
 ///
 /// # fn main() -> Result<(), spritbobbin::Refusal> {
 /// let mut buffer = [0; 104];
-/// let extracted = plain::extract(Level::Two, &[0xFF; 106], &[0x01], &mut buffer)?;
+/// let extracted = plain::extract(Level::Two, 0, &[0xFF; 106], &[0x01], &mut buffer)?;
 /// assert_eq!(extracted.digits, [205, 206, 206, 206]);
 /// # Ok(())
 /// # }
 /// ```
 pub fn extract(
     level: Level,
+    earlier: u8,
     line: &[u8],
     notes: &[u8],
     buffer: &mut [u8],
 ) -> Result<Extracted, Refusal> {
-    extract_by(raw::spritbobbin_plain_extract, level, line, notes, buffer)
+    extract_by(raw::spritbobbin_plain_extract, level, earlier, line, notes, buffer)
 }

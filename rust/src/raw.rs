@@ -26,6 +26,7 @@ impl Default for Record {
 /// Building frames by one of the two engines.
 pub type Multiplex = unsafe extern "C" fn(
     u64,
+    u64,
     *mut u8,
     usize,
     *const u8,
@@ -42,6 +43,7 @@ pub type ReadNotes =
 /// Extraction by one of the two engines.
 pub type Extract = unsafe extern "C" fn(
     u64,
+    u64,
     *const u8,
     usize,
     *const u8,
@@ -55,6 +57,7 @@ extern "C" {
     /// Answer: four digit counts, named frame.
     pub fn spritbobbin_multiplex(
         level: u64,
+        earlier: u64,
         line: *mut u8,
         line_bytes: usize,
         notes: *const u8,
@@ -77,6 +80,7 @@ extern "C" {
     /// Answer: four digit counts, named frame.
     pub fn spritbobbin_extract(
         level: u64,
+        earlier: u64,
         line: *const u8,
         line_bytes: usize,
         notes: *const u8,
@@ -89,6 +93,7 @@ extern "C" {
     /// Answer: four digit counts, named frame.
     pub fn spritbobbin_plain_multiplex(
         level: u64,
+        earlier: u64,
         line: *mut u8,
         line_bytes: usize,
         notes: *const u8,
@@ -111,6 +116,7 @@ extern "C" {
     /// Answer: four digit counts, named frame.
     pub fn spritbobbin_plain_extract(
         level: u64,
+        earlier: u64,
         line: *const u8,
         line_bytes: usize,
         notes: *const u8,

@@ -55,7 +55,7 @@ pub enum Mode {
 /// A receiver's state in numbers, to be looked at, or saved and resumed from.
 #[derive(Clone, Debug, PartialEq, Eq)]
 pub struct State {
-    /// 2, 3 or 4.
+    /// 2, 3, 4, 12 or 14.
     pub level: u64,
     /// The last digits, as many as the word has, as a number: the newest digit is worth 1.
     pub window: u64,

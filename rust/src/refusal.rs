@@ -15,7 +15,7 @@ use crate::rack::MOST_LINES;
 /// use spritbobbin::{multiplex, Level};
 ///
 /// let mut line = [0; 3 * 106];
-/// let refusal = multiplex(Level::Two, &mut line, &[0, 0, 0x40], &[0; 312]).unwrap_err();
+/// let refusal = multiplex(Level::Two, 0, &mut line, &[0, 0, 0x40], &[0; 312]).unwrap_err();
 /// assert_eq!(refusal.number(), 5);
 /// assert_eq!(
 ///     refusal.to_string(),
@@ -59,7 +59,14 @@ pub enum Refusal {
         /// The frames of the line.
         frames: usize,
     },
-    /// A note has a national digit that its level has not.
+    /// The earlier vote is over 15.
+    Earlier {
+        /// The level asked for.
+        level: Level,
+        /// The vote given.
+        earlier: u8,
+    },
+    /// A note has a bit that notes of its level have not.
     NoteBits {
         /// The level asked for.
         level: Level,
@@ -126,7 +133,7 @@ impl Refusal {
             Refusal::Line { .. } | Refusal::Slice { .. } | Refusal::Rack { .. } => 2,
             Refusal::Notes { .. } => 3,
             Refusal::Buffer { .. } | Refusal::File { .. } => 4,
-            Refusal::NoteBits { .. } => 5,
+            Refusal::Earlier { .. } | Refusal::NoteBits { .. } => 5,
             Refusal::State => 6,
             Refusal::Digits { .. } => 7,
             Refusal::RackLine { .. } => 8,
@@ -155,11 +162,12 @@ impl fmt::Display for Refusal {
                 counted(frames, "frame")
             ),
             Refusal::Buffer { level, bytes, frames } => wrong_buffer(out, level, bytes, frames),
-            Refusal::NoteBits { level, frame } => write!(
+            Refusal::Earlier { level, earlier } => write!(
                 out,
-                "the note of frame {frame} (counted from 0) has bit 6 or 7 set: clear both, \
-                 since {level} has only one national digit, bit 5"
+                "the earlier vote is {earlier}: give 0 to 15, a bit to each tributary, \
+                 since frame 0 of {level} acts on it too"
             ),
+            Refusal::NoteBits { level, frame } => wrong_note(out, level, frame),
             Refusal::State => write!(
                 out,
                 "the receiver state is not valid: resume from one that a receiver gave, \
@@ -207,8 +215,22 @@ impl fmt::Display for Refusal {
 }
 
 fn wrong_level(out: &mut fmt::Formatter<'_>, number: u64) -> fmt::Result {
-    let [a, b, c] = Level::ALL.map(|it| format!("{} ({} kbit/s)", it.number(), it.kilobits()));
-    write!(out, "there is no level {number}: use {a}, {b} or {c}")
+    let [a, b, c, d, e] =
+        Level::ALL.map(|it| format!("{} ({} kbit/s)", it.number(), it.kilobits()));
+    write!(
+        out,
+        "there is no level {number}: use {a}, {b}, {c}, or with positive/zero/negative \
+         justification {d} or {e}"
+    )
+}
+
+fn wrong_note(out: &mut fmt::Formatter<'_>, level: Level, frame: usize) -> fmt::Result {
+    write!(out, "the note of frame {frame} (counted from 0) has ")?;
+    if level.looks_at_earlier() {
+        write!(out, "one of bits 4 to 7 set: clear them, since a note of {level} has only votes")
+    } else {
+        write!(out, "bit 6 or 7 set: clear both, since {level} has only one national digit, bit 5")
+    }
 }
 
 fn wrong_line(out: &mut fmt::Formatter<'_>, level: Level, bytes: usize) -> fmt::Result {

@@ -37,6 +37,19 @@ fn each_kind() {
     assert_eq!(found.first[6], LinePlace { frame: 1, place: 2445 });
 }
 
+/// Positive and negative places are justification places, and every service place counts as national.
+#[test]
+fn each_kind_at_levels_12_and_14() {
+    let found = turned(Level::Twelve, 1, &[7, 8, 264, 268, 535, 796, 803, 807, 1055]);
+    assert_eq!((found.word, found.remote_alarm, found.national), (1, 0, 2));
+    let of = found.tributaries.map(|of| [of.control, of.justification, of.ordinary]);
+    assert_eq!(of, [[1, 1, 1], [0, 0, 0], [0, 0, 0], [0, 1, 2]]);
+    let found = turned(Level::Fourteen, 1, &[9, 10, 11, 12, 544, 548, 1635, 1637, 1643, 2175]);
+    assert_eq!((found.word, found.remote_alarm, found.national), (1, 0, 2));
+    let of = found.tributaries.map(|of| [of.control, of.justification, of.ordinary]);
+    assert_eq!(of, [[1, 0, 2], [0, 1, 0], [0, 0, 0], [1, 1, 1]]);
+}
+
 #[test]
 fn the_first_64() {
     let places: Vec<usize> = (0..65).map(|k| 100 + 7 * k).collect();

@@ -4,13 +4,18 @@ use spritbobbin::{Level, Mode, Rack, Receiver, Refusal, State, MOST_LINES};
 
 fn stream(level: Level, frames: usize) -> Vec<u8> {
     let mut frame = vec![0; level.frame_bytes()];
-    frame[..2].copy_from_slice(if level == Level::Four { &[0xFA, 0x0F] } else { &[0xF4, 0x0F] });
+    let word = match level.word_digits() {
+        8 => [0xE6, 0x0F],
+        12 => [0xFA, 0x0F],
+        _ => [0xF4, 0x0F],
+    };
+    frame[..2].copy_from_slice(&word);
     frame.repeat(frames)
 }
 
 #[test]
 fn each_line_answers_as_a_receiver_alone() -> Result<(), Refusal> {
-    let levels: Vec<Level> = (0..MOST_LINES).map(|line| Level::ALL[line % 3]).collect();
+    let levels: Vec<Level> = (0..MOST_LINES).map(|line| Level::ALL[line % 5]).collect();
     let mut rack = Rack::new(&levels)?;
     let mut alone: Vec<Receiver> = levels.iter().map(|level| Receiver::new(*level)).collect();
     for round in 0..7 {

@@ -4,14 +4,20 @@ use spritbobbin::{extract, multiplex, read_notes, Level, Receiver, Refusal, Stat
 
 /// The refusals of multiplexing and of extraction, which are the same, that are lent so many bytes and
 /// these notes; and that reading notes is refused for the line and the number of notes alone.
-fn refusals(level: Level, line: usize, notes: &[u8], buffer: usize) -> [Option<Refusal>; 2] {
+fn refusals_after(
+    earlier: u8,
+    level: Level,
+    line: usize,
+    notes: &[u8],
+    buffer: usize,
+) -> [Option<Refusal>; 2] {
     let (mut frames, quarters) = (vec![0xA5; line], vec![0xA5; buffer]);
-    let sent = multiplex(level, &mut frames, notes, &quarters).err();
+    let sent = multiplex(level, earlier, &mut frames, notes, &quarters).err();
     if sent.is_some() {
         assert_eq!(frames, vec![0xA5; line], "a refused call wrote the line");
     }
     let mut quarters_out = quarters.clone();
-    let taken = extract(level, &frames, notes, &mut quarters_out).err();
+    let taken = extract(level, earlier, &frames, notes, &mut quarters_out).err();
     if taken.is_some() {
         assert_eq!(quarters_out, quarters, "a refused call wrote");
     }
@@ -22,6 +28,10 @@ fn refusals(level: Level, line: usize, notes: &[u8], buffer: usize) -> [Option<R
         assert_eq!(notes_out, notes, "a refused call wrote");
     }
     [sent, taken]
+}
+
+fn refusals(level: Level, line: usize, notes: &[u8], buffer: usize) -> [Option<Refusal>; 2] {
+    refusals_after(0, level, line, notes, buffer)
 }
 
 fn numbers(level: Level, line: usize, notes: &[u8], buffer: usize) -> [u64; 2] {
@@ -55,6 +65,10 @@ fn room_is_asked_for_whole_frames_even_where_stuffed() {
     // Eight stuffed frames need 1640 digits, 205 bytes; 1648 are asked for.
     assert_eq!(numbers(Level::Two, 8 * 106, &[0x0F; 8], 4 * 205), [4; 2]);
     assert_eq!(numbers(Level::Two, 8 * 106, &[0x0F; 8], 4 * 206), [0; 2]);
+    // A stuffed frame of level 12 needs 255 digits, 32 bytes; 257 are asked for.
+    let stuffed =
+        |room| refusals_after(15, Level::Twelve, 132, &[0x0F], room).map(|it| it.is_some());
+    assert_eq!((stuffed(4 * 32), stuffed(4 * 33)), ([true; 2], [false; 2]));
 }
 
 #[test]
@@ -78,13 +92,48 @@ fn bits_6_and_7_belong_to_level_4() {
 }
 
 #[test]
+fn bits_4_to_7_belong_to_levels_2_to_4() {
+    for level in [Level::Twelve, Level::Fourteen] {
+        for bit in [0x10, 0x20, 0x40, 0x80] {
+            let notes = [0x0F, 0x00, bit, bit];
+            let both = refusals(level, 4 * level.frame_bytes(), &notes, level.buffer_bytes(4));
+            assert_eq!(both, [Some(Refusal::NoteBits { level, frame: 2 }); 2]);
+        }
+    }
+}
+
+#[test]
+fn the_earlier_vote() {
+    for level in [Level::Twelve, Level::Fourteen] {
+        let (frame, room) = (level.frame_bytes(), level.buffer_bytes(2));
+        let number = |earlier, line, notes: &[u8], room| {
+            let both = refusals_after(earlier, level, line, notes, room);
+            both.map(|refusal| refusal.map_or(0, |it| it.number()))
+        };
+        assert_eq!(number(15, 2 * frame, &[0, 0x0F], room), [0; 2]);
+        for earlier in [16, 17, 0x80, 0xFF] {
+            // It is judged last but for the notes' bits, and in a line without frames too.
+            let over = [Some(Refusal::Earlier { level, earlier }); 2];
+            assert_eq!(refusals_after(earlier, level, 2 * frame, &[0, 0x10], room), over);
+            assert_eq!(refusals_after(earlier, level, 0, &[], 0), over);
+            assert_eq!(number(earlier, 2 * frame, &[0, 0], room - 4), [4; 2]);
+            assert_eq!(number(earlier, 2 * frame, &[0], room), [3; 2]);
+            assert_eq!(number(earlier, 2 * frame - 1, &[0, 0], room), [2; 2]);
+        }
+        let second = Some(Refusal::NoteBits { level, frame: 1 });
+        assert_eq!(refusals_after(15, level, 2 * frame, &[0, 0x10], room), [second; 2]);
+    }
+}
+
+#[test]
 fn each_says_what_is_wrong_and_what_to_do() {
     let printed = |level, line, notes: &[u8], buffer| {
         refusals(level, line, notes, buffer)[0].unwrap().to_string()
     };
     assert_eq!(
         Level::try_from(7).unwrap_err().to_string(),
-        "there is no level 7: use 2 (8448 kbit/s), 3 (34368 kbit/s) or 4 (139264 kbit/s)"
+        "there is no level 7: use 2 (8448 kbit/s), 3 (34368 kbit/s), 4 (139264 kbit/s), \
+         or with positive/zero/negative justification 12 (8448 kbit/s) or 14 (139264 kbit/s)"
     );
     assert_eq!(
         printed(Level::Two, 105, &[0], 104),
@@ -113,6 +162,16 @@ fn each_says_what_is_wrong_and_what_to_do() {
         "the note of frame 0 (counted from 0) has bit 6 or 7 set: clear both, \
          since level 3 has only one national digit, bit 5"
     );
+    assert_eq!(
+        printed(Level::Twelve, 132, &[0x10], 132),
+        "the note of frame 0 (counted from 0) has one of bits 4 to 7 set: clear them, \
+         since a note of level 12 has only votes"
+    );
+    assert_eq!(
+        refusals_after(16, Level::Fourteen, 272, &[0], 272)[0].unwrap().to_string(),
+        "the earlier vote is 16: give 0 to 15, a bit to each tributary, \
+         since frame 0 of level 14 acts on it too"
+    );
 }
 
 #[test]
@@ -137,7 +196,7 @@ fn pieces() {
 }
 
 fn aligned(level: Level) -> State {
-    let seen = if level == Level::Four { 12 } else { 10 };
+    let seen = level.word_digits() as u64;
     State { seen, mode: 6, place: 5, ..Receiver::new(level).state() }
 }
 

@@ -6,9 +6,10 @@ use spritbobbin::{multiplex, FrameStream, Level, Mode, Receiver};
 
 /// A line of so many frames, with tributaries that do not imitate the word.
 fn line(level: Level, frames: usize) -> Vec<u8> {
-    let notes: Vec<u8> = (0..frames).map(|frame| (frame * 7 % 64) as u8).collect();
+    let notes: Vec<u8> =
+        (0..frames).map(|frame| (frame * 7 % 64) as u8 & level.note_bits()).collect();
     let mut line = vec![0; frames * level.frame_bytes()];
-    multiplex(level, &mut line, &notes, &vec![0b0101_1011; level.buffer_bytes(frames)]).unwrap();
+    multiplex(level, 0, &mut line, &notes, &vec![0b0101_1011; level.buffer_bytes(frames)]).unwrap();
     line
 }
 
@@ -119,6 +120,20 @@ fn alarm_indication() {
         assert!(receiver.has_alarm());
         receiver.feed(&frame).for_each(drop);
         assert!(!receiver.has_alarm());
+    }
+}
+
+/// The most zeros of two stretches in a row that raise the alarm.
+#[test]
+fn few_zeros() {
+    for (level, few) in Level::ALL.into_iter().zip([4, 4, 5, 2, 4]) {
+        for zeros in [few, few + 1] {
+            let mut stretch = vec![0xFF; level.frame_bytes()];
+            stretch[50] = !((1 << zeros) - 1);
+            let mut receiver = Receiver::new(level);
+            receiver.feed(&stretch.repeat(2)).for_each(drop);
+            assert_eq!(receiver.has_alarm(), zeros == few, "{level}, {zeros} zeros");
+        }
     }
 }
 

@@ -1,7 +1,7 @@
 /*
  * Calls every function of the library through its header, from C: worked cases 1, 9, 10 and 11
- * of the specification, each refusal, the digits of a line, captures, comparisons, multiframes, frames of 2048 kbit/s
- * and a rack of lines. Prints "face: ok", or what failed.
+ * of the specification, frames of levels 12 and 14 worked by hand, each refusal, the digits of a line, captures,
+ * comparisons, multiframes, frames of 2048 kbit/s and a rack of lines. Prints "face: ok", or what failed.
  *
  * All bytes that are lent come from malloc in their exact number, so that valgrind sees a read or
  * a write of the library one byte beside them.
@@ -61,7 +61,7 @@ static void both_ways(uint64_t level, size_t frame_bytes, size_t frames, size_t 
     uint64_t answer[5], read = sent > 3 ? 0 : sent;
 
     memset(answer, 0xA5, sizeof answer);
-    check(spritbobbin_multiplex(level, line, line_bytes, notes, notes_bytes, buffer, buffer_bytes, answer) == sent,
+    check(spritbobbin_multiplex(level, 0, line, line_bytes, notes, notes_bytes, buffer, buffer_bytes, answer) == sent,
           "the refusal of multiplexing");
     check(answer[SPRITBOBBIN_NAMED_FRAME] == 0, "multiplexing names frame 0 or none");
     if (sent) {
@@ -76,7 +76,7 @@ static void both_ways(uint64_t level, size_t frame_bytes, size_t frames, size_t 
     if (buffer)
         memset(buffer, 0x5A, buffer_bytes);
     memset(answer, 0xA5, sizeof answer);
-    check(spritbobbin_extract(level, line, line_bytes, notes, notes_bytes, buffer, buffer_bytes, answer) == sent,
+    check(spritbobbin_extract(level, 0, line, line_bytes, notes, notes_bytes, buffer, buffer_bytes, answer) == sent,
           "the refusal of extraction");
     if (sent) {
         check(all(buffer, buffer_bytes, 0x5A), "a refused extraction writes nothing");
@@ -105,7 +105,7 @@ static void counts_dissent(void)
     uint8_t *line = lend(line_bytes, 0), *notes = lend(2, 0), *buffer = lend(buffer_bytes, 0);
     uint64_t answer[5], *dissent = answer + SPRITBOBBIN_DISSENT;
 
-    check(spritbobbin_multiplex(4, line, line_bytes, notes, 2, buffer, buffer_bytes, answer) == 0, "sent");
+    check(spritbobbin_multiplex(4, 0, line, line_bytes, notes, 2, buffer, buffer_bytes, answer) == 0, "sent");
     line[set_bytes] ^= 0x40;
     line[3 * set_bytes] ^= 0x40;
     line[SPRITBOBBIN_FRAME_BYTES_4 + 5 * set_bytes] ^= 0x50;
@@ -124,37 +124,101 @@ static void names_the_frame(void)
     uint64_t answer[5];
 
     notes[2] = notes[3] = SPRITBOBBIN_NATIONAL_2;
-    check(spritbobbin_multiplex(3, line, 768, notes, 4, buffer, 756, answer) == SPRITBOBBIN_REFUSED_NOTE_BITS, "refusal 5");
+    check(spritbobbin_multiplex(3, 0, line, 768, notes, 4, buffer, 756, answer) == SPRITBOBBIN_REFUSED_NOTE_BITS, "refusal 5");
     check(all_zero(answer, 4) && answer[SPRITBOBBIN_NAMED_FRAME] == 2, "refusal 5 names frame 2");
-    check(spritbobbin_extract(3, line, 768, notes, 4, buffer, 756, answer) == SPRITBOBBIN_REFUSED_NOTE_BITS, "extraction's too");
+    check(spritbobbin_extract(3, 0, line, 768, notes, 4, buffer, 756, answer) == SPRITBOBBIN_REFUSED_NOTE_BITS, "extraction's too");
     check(all_zero(answer, 4) && answer[SPRITBOBBIN_NAMED_FRAME] == 2, "and names frame 2");
     free(line);
     free(notes);
     free(buffer);
 }
 
-/* Two frames of level 4 with notes of their own and a buffer of 0x5A and 0xC3, sent, read and extracted by both engines, and
+/* Two frames of level 12 or 14 from a buffer of zeros, the vote before them 5 and theirs 6 and C: in frame 0 tributary 3 is stuffed and 4
+   has a digit more, in frame 1 tributary 3 is stuffed again and 1 has a digit more. Both engines send them; what is read and extracted is
+   what was sent. */
+static void votes(uint64_t level, size_t frame_bytes, size_t digits, const uint8_t *heads, const uint8_t (*tails)[4])
+{
+    size_t line_bytes = 2 * frame_bytes, group = frame_bytes / 4, buffer_bytes = 4 * SPRITBOBBIN_QUARTER_BYTES(2, digits + 1), f, i;
+    uint8_t *line = lend(line_bytes, 0xA5), *plain = lend(line_bytes, 0x5A), *notes = lend(2, 6), *buffer = lend(buffer_bytes, 0);
+    uint64_t sent[5], plainly[5], took[5];
+
+    notes[1] = 0x0C;
+    check(spritbobbin_multiplex(level, 5, line, line_bytes, notes, 2, buffer, buffer_bytes, sent) == 0, "votes are sent");
+    check(sent[0] == 2 * digits + 1 && sent[1] == 2 * digits && sent[2] == 2 * digits - 2 && sent[3] == 2 * digits + 1, "their digits");
+    check(spritbobbin_plain_multiplex(level, 5, plain, line_bytes, notes, 2, buffer, buffer_bytes, plainly) == 0, "by the plain engine too");
+    check(!memcmp(sent, plainly, sizeof sent) && !memcmp(line, plain, line_bytes), "and the same");
+    for (f = 0; f < 2; f++) {
+        uint8_t *frame = line + f * frame_bytes;
+
+        check(frame[0] == heads[0] && frame[1] == heads[1], "the word");
+        check(frame[group] == tails[f][0] && frame[2 * group] == tails[f][1], "control and service digits");
+        check(frame[3 * group] == tails[f][2] && frame[3 * group + 1] == tails[f][3], "the third control digits, negative and positive places");
+        for (i = 2; i < frame_bytes; i++)
+            check(frame[i] == 0 || i % group == 0 || i == 3 * group + 1, "tributary digits");
+    }
+    memset(notes, 0xA5, 2);
+    check(spritbobbin_read_notes(level, line, line_bytes, notes, 2, took) == 0 && all_zero(took, 5), "votes are read");
+    check(notes[0] == 0x06 && notes[1] == 0x0C, "as they were sent, and no service digit");
+    memset(buffer, 0x5A, buffer_bytes);
+    check(spritbobbin_extract(level, 5, line, line_bytes, notes, 2, buffer, buffer_bytes, took) == 0, "extracted");
+    check(!memcmp(sent, took, sizeof sent) && all(buffer, buffer_bytes, 0), "what went in comes out");
+    memset(buffer, 0x5A, buffer_bytes);
+    check(spritbobbin_plain_extract(level, 5, line, line_bytes, notes, 2, buffer, buffer_bytes, took) == 0, "extracted by the plain engine");
+    check(!memcmp(sent, took, sizeof sent) && all(buffer, buffer_bytes, 0), "the same comes out");
+    check(spritbobbin_extract(level, 6, line, line_bytes, notes, 2, buffer, buffer_bytes, took) == 0 && took[0] == sent[0] + 1, "by another earlier vote");
+    free(line);
+    free(plain);
+    free(notes);
+    free(buffer);
+}
+
+/* The earlier vote: over 15 it is refused after the lengths and before the notes, naming frame 0; levels 2 to 4 do not look at it. */
+static void earlier_vote(void)
+{
+    uint8_t *line = lend(264, 0xA5), *notes = lend(2, 0), *buffer = lend(260, 0), *one = lend(106, 0), *room = lend(104, 0);
+    uint64_t answer[5];
+
+    notes[1] = SPRITBOBBIN_REMOTE_ALARM;
+    memset(answer, 0xA5, sizeof answer);
+    check(spritbobbin_multiplex(12, 16, line, 264, notes, 2, buffer, 260, answer) == SPRITBOBBIN_REFUSED_NOTE_BITS && all_zero(answer, 5), "earlier 16 names frame 0");
+    check(spritbobbin_multiplex(12, SPRITBOBBIN_MOST_EARLIER, line, 264, notes, 2, buffer, 260, answer) == SPRITBOBBIN_REFUSED_NOTE_BITS, "a note's bit 4");
+    check(answer[SPRITBOBBIN_NAMED_FRAME] == 1 && all_zero(answer, 4) && all(line, 264, 0xA5), "names frame 1, and nothing is written");
+    check(spritbobbin_extract(12, UINT64_C(1) << 32, line, 264, notes, 2, buffer, 260, answer) == SPRITBOBBIN_REFUSED_NOTE_BITS && all_zero(answer, 5), "extraction's too");
+    check(spritbobbin_plain_extract(12, 16, line, 264, notes, 2, buffer, 260, answer) == SPRITBOBBIN_REFUSED_NOTE_BITS && all_zero(answer, 5), "the plain engine's too");
+    check(spritbobbin_multiplex(12, 16, line, 264, notes, 2, buffer, 256, answer) == SPRITBOBBIN_REFUSED_BUFFER, "4 before it: 514 digits are 65 bytes");
+    check(spritbobbin_multiplex(12, 16, line, 264, notes, 1, buffer, 260, answer) == SPRITBOBBIN_REFUSED_NOTES, "3 before it");
+    check(spritbobbin_multiplex(14, 16, NULL, 0, NULL, 0, NULL, 0, answer) == SPRITBOBBIN_REFUSED_NOTE_BITS, "in a line without frames too");
+    check(spritbobbin_multiplex(14, 15, NULL, 0, NULL, 0, NULL, 0, answer) == SPRITBOBBIN_ACCEPTED, "which is accepted else");
+    check(spritbobbin_multiplex(2, UINT64_MAX, one, 106, notes, 1, room, 104, answer) == SPRITBOBBIN_ACCEPTED && answer[0] == 206, "level 2 does not look at it");
+    free(line);
+    free(notes);
+    free(buffer);
+    free(one);
+    free(room);
+}
+
+/* Two frames with notes of their own and a buffer of 0x5A and 0xC3, sent, read and extracted by both engines, and
    a call that both refuse: all numbers and all bytes are the same. */
-static void two_engines(uint64_t level, size_t buffer_bytes)
+static void two_engines(uint64_t level, uint8_t first, uint8_t second, size_t line_bytes, size_t buffer_bytes)
 {
     static uint8_t line[2][732], notes[2][2], buffer[2][4 * 181];
     uint64_t answer[2][3][5], refusal[2][3];
 
     memset(line, 0xA5, sizeof line);
     for (unsigned e = 0; e < 2; e++) {
-        notes[e][0] = 0xE5;
-        notes[e][1] = 0x1A;
+        notes[e][0] = first;
+        notes[e][1] = second;
         for (size_t i = 0; i < sizeof buffer[e]; i++)
             buffer[e][i] = i % 3 ? 0x5A : 0xC3;
     }
-    refusal[0][0] = spritbobbin_multiplex(level, line[0], 732, notes[0], 2, buffer[0], buffer_bytes, answer[0][0]);
-    refusal[1][0] = spritbobbin_plain_multiplex(level, line[1], 732, notes[1], 2, buffer[1], buffer_bytes, answer[1][0]);
-    check(memcmp(line[0], line[1], 732) == 0, "both engines leave the same line");
-    refusal[0][1] = spritbobbin_read_notes(level, line[0], 732, notes[0], 2, answer[0][1]);
-    refusal[1][1] = spritbobbin_plain_read_notes(level, line[1], 732, notes[1], 2, answer[1][1]);
+    refusal[0][0] = spritbobbin_multiplex(level, 9, line[0], line_bytes, notes[0], 2, buffer[0], buffer_bytes, answer[0][0]);
+    refusal[1][0] = spritbobbin_plain_multiplex(level, 9, line[1], line_bytes, notes[1], 2, buffer[1], buffer_bytes, answer[1][0]);
+    check(memcmp(line[0], line[1], sizeof line[0]) == 0, "both engines leave the same line");
+    refusal[0][1] = spritbobbin_read_notes(level, line[0], line_bytes, notes[0], 2, answer[0][1]);
+    refusal[1][1] = spritbobbin_plain_read_notes(level, line[1], line_bytes, notes[1], 2, answer[1][1]);
     check(memcmp(notes[0], notes[1], 2) == 0, "both engines read the same notes");
-    refusal[0][2] = spritbobbin_extract(level, line[0], 732, notes[0], 2, buffer[0], buffer_bytes, answer[0][2]);
-    refusal[1][2] = spritbobbin_plain_extract(level, line[1], 732, notes[1], 2, buffer[1], buffer_bytes, answer[1][2]);
+    refusal[0][2] = spritbobbin_extract(level, 9, line[0], line_bytes, notes[0], 2, buffer[0], buffer_bytes, answer[0][2]);
+    refusal[1][2] = spritbobbin_plain_extract(level, 9, line[1], line_bytes, notes[1], 2, buffer[1], buffer_bytes, answer[1][2]);
     check(memcmp(buffer[0], buffer[1], sizeof buffer[0]) == 0, "both engines leave the same buffer");
     check(memcmp(answer[0], answer[1], sizeof answer[0]) == 0, "both engines answer the same");
     check(memcmp(refusal[0], refusal[1], sizeof refusal[0]) == 0, "both engines refuse the same");
@@ -200,6 +264,7 @@ static void receiver(void)
 {
     size_t length = 4 * SPRITBOBBIN_FRAME_BYTES_2, i;
     uint8_t *stream = lend(length, 0), *frame = lend(366, 0xA5), *long_one = lend(SPRITBOBBIN_MOST_BYTES + 1, 0);
+    const uint8_t word_12[1] = {0xE6};
     uint64_t state[9], answer[4];
 
     for (i = 0; i < length; i += SPRITBOBBIN_FRAME_BYTES_2)
@@ -224,6 +289,9 @@ static void receiver(void)
     refused_piece(state, frame, stream, length, 0, 1, SPRITBOBBIN_REFUSED_STATE);
     alarm(state, frame);
 
+    check(spritbobbin_receiver_fresh(12, state, frame) == SPRITBOBBIN_ACCEPTED && state[0] == 12, "a receiver of level 12");
+    check(spritbobbin_receiver_feed(state, frame, word_12, 1, 0, 8, answer) == 0 && answer[SPRITBOBBIN_WORDS] == 1, "its word is tested");
+    check(state[SPRITBOBBIN_STATE_MODE] == SPRITBOBBIN_ONE_FOUND && frame[0] == 0xE6, "and found");
     check(spritbobbin_receiver_fresh(5, state, frame) == SPRITBOBBIN_REFUSED_LEVEL, "no receiver of level 5");
     check(all_zero(state, 9) && all(frame, 366, 0), "a refused receiver is all zero");
     free(stream);
@@ -348,6 +416,8 @@ static void captures(void)
     capture(2, 0, 0, 10, 0); /* a label of no bytes is not none */
     capture(3, 64 * 192, 32, 12400, 0);
     capture(4, 64 * 366, 1, 23435, 0);
+    capture(12, 64 * 132, SIZE_MAX, 8455, 0);
+    capture(14, 64 * 272, 32, 17450, 0);
     capture(2, 106, SIZE_MAX, 112, SPRITBOBBIN_REFUSED_BUFFER);
     capture(2, 106, 33, 0, SPRITBOBBIN_REFUSED_FIELD);
     capture(2, 105, 33, 0, SPRITBOBBIN_REFUSED_LINE);
@@ -514,6 +584,11 @@ static void rack(void)
 
 int main(void)
 {
+    /* The first two bytes of a frame; then for each of two frames those with control digits, and the one with the positive places. */
+    static const uint8_t heads[2][2] = {{0xE6, 0x00}, {0xF4, 0x30}};
+    static const uint8_t tails[2][2][4] = {{{0x6F, 0x6F, 0x6E, 0x20}, {0x3F, 0x3F, 0x37, 0x20}},
+                                           {{0x60, 0x60, 0x6E, 0x20}, {0x30, 0x30, 0x37, 0x20}}};
+
     both_ways(2, 106, 1, 1, 0, 104, 0);      /* case 1; case 9: a quarter of 26 bytes */
     both_ways(2, 106, 64, 64, 0, 6592, 0);   /* case 9: 64 frames */
     both_ways(2, 106, 65, 65, 0, 6696, 2);   /* case 9: 65 frames */
@@ -529,9 +604,15 @@ int main(void)
     both_ways(4, 366, 0, 0, 0, 3, 4);
     counts_dissent();
     names_the_frame();
-    two_engines(4, 724);
-    two_engines(4, 720);  /* refusal 4 */
-    two_engines(7, 724);  /* refusal 1 */
+    votes(12, SPRITBOBBIN_FRAME_BYTES_12, SPRITBOBBIN_TRIBUTARY_DIGITS_12, heads[0], tails[0]);
+    votes(14, SPRITBOBBIN_FRAME_BYTES_14, SPRITBOBBIN_TRIBUTARY_DIGITS_14, heads[1], tails[1]);
+    earlier_vote();
+    two_engines(4, 0xE5, 0x1A, 732, 724);
+    two_engines(4, 0xE5, 0x1A, 732, 720);  /* refusal 4 */
+    two_engines(7, 0xE5, 0x1A, 732, 724);  /* refusal 1 */
+    two_engines(12, 0x05, 0x0C, 264, 260);
+    two_engines(14, 0x05, 0x0C, 544, 540);
+    two_engines(14, 0x05, 0x1C, 544, 540); /* refusal 5 */
     receiver();
     finder();
     line_digits();

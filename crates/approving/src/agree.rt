@@ -4,6 +4,7 @@ use crate::pair;
 use console::files;
 use console::help;
 use console::say;
+use passages::passage;
 use recordings::sizes;
 use table::Row;
 ghost use Prim.Native.Nat.{_*_, _≤_};
@@ -25,14 +26,21 @@ const EXTRACT: u8 = 3;
 
 const MULTIPLEX: u8 = 4;
 
-// How far it is: the frames and the bytes of tributaries compared so far, and what ended it.
+// How far it is: the frames and the bytes of tributaries compared so far, the vote of the last of them, and what ended it.
 pub struct Compared {
     pub frames: usize,
     pub tributaries: usize,
+    pub earlier: u64,
     pub ended: u8,
 }
 
-pub fn run(row: Row, level: u64)
+// What ended a run, and the vote of its last frame.
+struct Ran {
+    ended: u8,
+    last: u64,
+}
+
+pub fn run(row: Row, level: u64, earlier: u64)
     requires { ⌜ Shared row ⌝ }
 {
     let line = files::open(LINE);
@@ -44,16 +52,17 @@ pub fn run(row: Row, level: u64)
         return;
     }
     let frames = line.bytes / row.bytes;
-    let c = all(row, level, line.fd, frames);
+    let c = all(row, level, earlier, line.fd, frames);
     end(level, frames, line.bytes, c);
 }
 
-fn all(row: Row, level: u64, fd: i32, frames: usize) -> Compared
+fn all(row: Row, level: u64, earlier: u64, fd: i32, frames: usize) -> Compared
     requires { ⌜ Shared row × (frames ≤ longest) ⌝ }
 {
     let mut c = Compared {
         frames: 0,
         tributaries: 0,
+        earlier,
         ended: NONE,
     };
     let mut k: usize = 0;
@@ -74,18 +83,19 @@ fn one(row: Row, level: u64, fd: i32, k: usize, f: usize, c: Compared) -> Compar
     let n = sizes::frame_bytes(row, f);
     let b = 4 * sizes::quarter_bytes(row, f);
     let at = sizes::frame_bytes(row, 64 * k);
-    let ended = compare(level, fd, at, f, b, &mut line[..n]);
-    added(f, b, ended, c)
+    let ran = compare(level, c.earlier, fd, at, f, b, &mut line[..n]);
+    added(f, b, ran, c)
 }
 
 // The passage after a run of f frames, whose tributaries have b bytes; a run that was ended is not counted.
-fn added(f: usize, b: usize, ended: u8, c: Compared) -> Compared {
-    if ended != NONE {
-        return ended_by(ended, c);
+fn added(f: usize, b: usize, ran: Ran, c: Compared) -> Compared {
+    if ran.ended != NONE {
+        return ended_by(ran.ended, c);
     }
     Compared {
         frames: sizes::plus(c.frames, f),
         tributaries: sizes::plus(c.tributaries, b),
+        earlier: ran.last,
         ended: NONE,
     }
 }
@@ -97,59 +107,96 @@ fn ended_by(ended: u8, c: Compared) -> Compared {
 }
 
 // Reads this part of the line, which stands in its file at this place, and compares the three calls on it, one after the other.
-fn compare(level: u64, fd: i32, at: usize, f: usize, b: usize, line: &mut [u8]) -> u8
+fn compare(level: u64, earlier: u64, fd: i32, at: usize, f: usize, b: usize, line: &mut [u8]) -> Ran
     requires { ⌜ (f ≤ 64) × (b ≤ 65536) × (length (now line) ≤ 65536) ⌝ }
 {
     if !files::read_at(fd, line, at) {
-        return UNREAD;
+        return Ran {
+            ended: UNREAD,
+            last: earlier,
+        };
     }
-    noted(level, line, f, b)
+    noted(level, earlier, line, f, b)
 }
 
 // The notes of these f frames.
-fn noted(level: u64, line: &[u8], f: usize, b: usize) -> u8
+fn noted(level: u64, earlier: u64, line: &[u8], f: usize, b: usize) -> Ran
     requires { ⌜ (f ≤ 64) × (b ≤ 65536) × (length (now line) ≤ 65536) ⌝ }
 {
     let mut quick = [0u8; 64];
     let mut plain = [0u8; 64];
-    noted_in(level, line, b, &mut quick[..f], &mut plain[..f])
+    noted_in(level, earlier, line, b, &mut quick[..f], &mut plain[..f])
 }
 
 // It goes on with what the quick engine left, which is then what both left.
-fn noted_in(level: u64, line: &[u8], b: usize, quick: &mut [u8], plain: &mut [u8]) -> u8
+fn noted_in(
+    level: u64,
+    earlier: u64,
+    line: &[u8],
+    b: usize,
+    quick: &mut [u8],
+    plain: &mut [u8],
+) -> Ran
     requires { ⌜ (b ≤ 65536) × (length (now line) ≤ 65536) ⌝ }
 {
     if !pair::read_notes(level, line, quick, plain) {
-        return NOTES;
+        return Ran {
+            ended: NOTES,
+            last: earlier,
+        };
     }
-    extracted(level, line, quick, b)
+    Ran {
+        ended: extracted(level, earlier, line, quick, b),
+        last: passage::last_vote(quick, earlier),
+    }
 }
 
 // The frames taken apart by these notes.
-fn extracted(level: u64, line: &[u8], notes: &[u8], b: usize) -> u8
+fn extracted(level: u64, earlier: u64, line: &[u8], notes: &[u8], b: usize) -> u8
     requires { ⌜ (b ≤ 65536) × (length (now line) ≤ 65536) ⌝ }
 {
     let mut quick = io::large_buffer();
     let mut plain = io::large_buffer();
-    extracted_in(level, line, notes, &mut quick[..b], &mut plain[..b])
+    extracted_in(
+        level,
+        earlier,
+        line,
+        notes,
+        &mut quick[..b],
+        &mut plain[..b],
+    )
 }
 
-fn extracted_in(level: u64, line: &[u8], notes: &[u8], quick: &mut [u8], plain: &mut [u8]) -> u8
+fn extracted_in(
+    level: u64,
+    earlier: u64,
+    line: &[u8],
+    notes: &[u8],
+    quick: &mut [u8],
+    plain: &mut [u8],
+) -> u8
     requires { ⌜ length (now line) ≤ 65536 ⌝ }
 {
-    if !pair::extract(level, line, notes, quick, plain) {
+    if !pair::extract(level, earlier, line, notes, quick, plain) {
         return EXTRACT;
     }
-    multiplexed(level, line.len(), notes, quick)
+    multiplexed(level, earlier, line.len(), notes, quick)
 }
 
 // The line of n bytes, made again.
-fn multiplexed(level: u64, n: usize, notes: &[u8], buffer: &[u8]) -> u8
+fn multiplexed(level: u64, earlier: u64, n: usize, notes: &[u8], buffer: &[u8]) -> u8
     requires { ⌜ n ≤ 65536 ⌝ }
 {
     let mut quick = io::large_buffer();
     let mut plain = io::large_buffer();
-    if !pair::multiplex(level, &mut quick[..n], &mut plain[..n], notes, buffer) {
+    if !pair::multiplex(
+        level,
+        earlier,
+        &mut quick[..n],
+        &mut plain[..n],
+        notes,
+        buffer,
+    ) {
         return MULTIPLEX;
     }
     NONE

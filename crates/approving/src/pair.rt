@@ -12,22 +12,30 @@ pub fn read_notes(level: u64, line: &[u8], quick: &mut [u8], plain: &mut [u8]) -
 }
 
 // Takes the line apart by these notes.
-pub fn extract(level: u64, line: &[u8], notes: &[u8], quick: &mut [u8], plain: &mut [u8]) -> bool {
-    let q = extraction::extract(level, line, notes, quick);
-    let p = plain::extract(level, line, notes, plain);
+pub fn extract(
+    level: u64,
+    earlier: u64,
+    line: &[u8],
+    notes: &[u8],
+    quick: &mut [u8],
+    plain: &mut [u8],
+) -> bool {
+    let q = extraction::extract(level, earlier, line, notes, quick);
+    let p = plain::extract(level, earlier, line, notes, plain);
     check::same(quick, plain) && same_counted(q, p)
 }
 
 // Makes a line of these notes and of the digits of this buffer.
 pub fn multiplex(
     level: u64,
+    earlier: u64,
     quick: &mut [u8],
     plain: &mut [u8],
     notes: &[u8],
     buffer: &[u8],
 ) -> bool {
-    let q = multiplex::multiplex(level, quick, notes, buffer);
-    let p = plain::multiplex(level, plain, notes, buffer);
+    let q = multiplex::multiplex(level, earlier, quick, notes, buffer);
+    let p = plain::multiplex(level, earlier, plain, notes, buffer);
     check::same(quick, plain) && same_counted(q, p)
 }
 

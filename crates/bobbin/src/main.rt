@@ -4,12 +4,14 @@ use approving::agree;
 use comparing::compared;
 use console::help;
 use console::words;
+use console::words::LevelAsked;
 use console::words::NO_NOTE;
 use demonstration::demo;
 use finding::find;
 use hunting::hunt;
 use keeping::keep;
 use keeping::opened;
+use levels::judging;
 use multiframe_picture::picture;
 use multiframes::apart;
 use multiframes::build;
@@ -288,10 +290,10 @@ fn multiframe(last: usize) {
 
 fn shown(last: usize) {
     if last == opened::LINE {
-        opened::run(opened::WRITTEN);
+        opened::run(opened::WRITTEN, 0);
         return;
     }
-    opened::run(opened::SHOWN);
+    opened::run(opened::SHOWN, 0);
 }
 
 // The picture's file is known by its name.
@@ -312,53 +314,70 @@ fn held(last: usize) {
 fn levelled(which: u8, last: usize) {
     let mut word = io::buffer();
     let n = os::arg(LEVEL, &mut word);
-    let level = words::level(&word[..n]);
-    let found = table::level_of(level);
+    let asked = words::asked(&word[..n]);
+    let found = table::level_of(asked.level);
     match found {
-        Level::Of(row) => started(which, last, row, level),
+        Level::Of(row) => voted(which, last, row, asked),
         Level::NoSuchLevel => no_level(which, last, &word[..n]),
     }
+}
+
+// Where the level looks at the vote before the first frame, it is a vote.
+fn voted(which: u8, last: usize, row: Row, asked: LevelAsked)
+    requires { ⌜ Shared row ⌝ }
+{
+    if judging::bad_earlier(row, asked.earlier) {
+        no_vote();
+        return;
+    }
+    started(which, last, row, asked.level, asked.earlier);
+}
+
+fn no_vote() {
+    let mut word = io::buffer();
+    let n = os::arg(LEVEL, &mut word);
+    help::no_vote(&word[..n]);
 }
 
 // Where take has a capture its first word is no level, and that is as it should be.
 fn no_level(which: u8, last: usize, word: &[u8]) {
     if which == TAKE && last == opened::TRIBUTARIES {
-        opened::run(opened::TAKEN);
+        opened::run(opened::TAKEN, 0);
         return;
     }
     help::no_level(word);
 }
 
-fn started(which: u8, last: usize, row: Row, level: u64)
+fn started(which: u8, last: usize, row: Row, level: u64, earlier: u64)
     requires { ⌜ Shared row ⌝ }
 {
     match which {
-        FRAME => frame_shown(row, level, last),
-        SEND => send::run(row, level, false),
-        TAKE => take_line(row, level, last),
-        FIND => find::run(row, level, last == find::PREFIX),
-        NOTES => notes::run(row, level, last == notes::NOTES),
-        EXTRACT => extract::run(row, level),
-        PLAIN_SEND => send::run(row, level, true),
-        PLAIN_TAKE => take::run(row, level, true),
-        AGREE => agree::run(row, level),
+        FRAME => frame_shown(row, level, earlier, last),
+        SEND => send::run(row, level, earlier, false),
+        TAKE => take_line(row, level, earlier, last),
+        FIND => find::run(row, level, earlier, last == find::PREFIX),
+        NOTES => notes::run(row, level, earlier, last == notes::NOTES),
+        EXTRACT => extract::run(row, level, earlier),
+        PLAIN_SEND => send::run(row, level, earlier, true),
+        PLAIN_TAKE => take::run(row, level, earlier, true),
+        AGREE => agree::run(row, level, earlier),
         _ => keep::run(row, level, last == keep::LABEL),
     }
 }
 
 // A level and two files are no capture and two files, but a file is missing.
-fn take_line(row: Row, level: u64, last: usize)
+fn take_line(row: Row, level: u64, earlier: u64, last: usize)
     requires { ⌜ Shared row ⌝ }
 {
     if last == opened::TRIBUTARIES {
         wrong_words(TAKE);
         return;
     }
-    take::run(row, level, false);
+    take::run(row, level, earlier, false);
 }
 
 // frame LEVEL [NOTE] [FILE.svg]: the last word is a file where it ends in .svg, and a word before it is a note.
-fn frame_shown(row: Row, level: u64, last: usize)
+fn frame_shown(row: Row, level: u64, earlier: u64, last: usize)
     requires { ⌜ Shared row ⌝ }
 {
     let mut word = io::buffer();
@@ -374,6 +393,7 @@ fn frame_shown(row: Row, level: u64, last: usize)
     let one = Noted {
         given: noted < NO_NOTE,
         note: (noted % 256) as u8,
+        earlier,
     };
     frame::run(row, level, one, drawn, last);
 }

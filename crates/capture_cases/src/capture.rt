@@ -425,7 +425,7 @@ pub fn example() {
     let mut line = [0u8; 106];
     let notes = [0u8; 1];
     let buffer = [0u8; 104];
-    multiplex::multiplex(2, &mut line, &notes, &buffer);
+    multiplex::multiplex(2, 0, &mut line, &notes, &buffer);
     let mut file = [0u8; 113];
     let mut answer = [0u64; 2];
     let none = [0u8; 1];

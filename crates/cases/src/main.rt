@@ -1,6 +1,8 @@
 // Runs worked cases 9, 10 and 11 of document 01, the example of request 1, a multiframe and frames of 2048 kbit/s that are found and lost,
 // stretches of the alarm, and more of the kind: each refusal at its border, and each pair of faults that tells the order. What it must write
 // was worked out by the separate program of reference/, which shares nothing with the crates.
+mod votes;
+
 use capture_cases::capture;
 use levels::judging::Counted;
 use multiframe_cases::hunt;
@@ -335,6 +337,7 @@ fn main() {
         send(SENDINGS[k]);
         k += 1;
     }
+    votes::vote_all();
     receive_all();
     stream::feed_all();
     alarm::stretch_all();
@@ -386,7 +389,7 @@ fn send_on(c: Sending, line: &mut [u8], notes: &mut [u8], buffer: &mut [u8]) {
     inputs::fill(line, 165);
     inputs::notes_from(notes, c.note, c.from);
     inputs::count_up(buffer);
-    let r = multiplex::multiplex(c.level, line, notes, buffer);
+    let r = multiplex::multiplex(c.level, 0, line, notes, buffer);
     say::text(b"multiplex");
     sent(c, r, inputs::sum(line));
     extract_on(c, line, notes, buffer);
@@ -394,7 +397,7 @@ fn send_on(c: Sending, line: &mut [u8], notes: &mut [u8], buffer: &mut [u8]) {
 
 fn extract_on(c: Sending, line: &[u8], notes: &[u8], buffer: &mut [u8]) {
     inputs::fill(buffer, 165);
-    let r = extraction::extract(c.level, line, notes, buffer);
+    let r = extraction::extract(c.level, 0, line, notes, buffer);
     say::text(b"extract");
     sent(c, r, inputs::sum(buffer));
 }
@@ -409,7 +412,7 @@ fn sent(c: Sending, r: Counted, sum: u64) {
     counted(r, sum);
 }
 
-fn counted(r: Counted, sum: u64) {
+pub fn counted(r: Counted, sum: u64) {
     say::counted(b": refusal ", r.refusal);
     say::labelled(b" frame ", r.frame);
     let counts = r.counts;
@@ -447,7 +450,7 @@ fn receive_on(c: Receiving, line: &mut [u8], notes: &mut [u8], buffer: &mut [u8]
 
 fn extract_by(c: Receiving, line: &[u8], notes: &[u8], buffer: &mut [u8]) {
     inputs::fill(buffer, 165);
-    let r = extraction::extract(c.level, line, notes, buffer);
+    let r = extraction::extract(c.level, 0, line, notes, buffer);
     extracted(c, r, inputs::sum(buffer));
 }
 

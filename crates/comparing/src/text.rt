@@ -85,15 +85,24 @@ fn name(row: Row, p: usize)
         picture::WORD => say::text(b"alignment word"),
         picture::CONTROL => say::text(b"control"),
         picture::JUSTIFICATION => say::text(b"justification"),
+        picture::NEGATIVE => say::text(b"justification"),
         picture::TRIBUTARY => say::text(b"ordinary"),
         picture::REMOTE_ALARM => say::text(b"remote alarm"),
         _ => say::text(b"national"),
     }
-    if kind == picture::WORD {
-        return;
-    }
-    if kind <= picture::TRIBUTARY {
+    if is_owned(kind) {
         say::text(b", tributary ");
         say::number(places::tributary_at(FramePlace(p)) % 4 + 1);
+    }
+}
+
+// Whether a place of this kind is a tributary's own.
+fn is_owned(kind: u8) -> bool {
+    match kind {
+        picture::CONTROL => true,
+        picture::JUSTIFICATION => true,
+        picture::NEGATIVE => true,
+        picture::TRIBUTARY => true,
+        _ => false,
     }
 }

@@ -87,9 +87,9 @@ fn head(page: Page, level: u64, frames: usize, all: usize, cell: Cell) -> Page {
 // Colours that readers who confuse some still tell apart.
 fn style(page: Page, high: usize) -> Page {
     page.put(
-            b"<style>.k0{color:#000}.k4{color:#d55e00}.k5,.k6,.k7{color:#e69f00}.k1{color:#cc3399}",
+            b"<style>.k0{color:#000}.k4{color:#d55e00}.k5,.k6,.k7,.k8{color:#e69f00}.k1{color:#cc3399}",
         )
-        .put(b".k2{color:#009e73}.k3{color:#0072b2}path{stroke:currentColor;stroke-width:")
+        .put(b".k2,.k9{color:#009e73}.k3{color:#0072b2}path{stroke:currentColor;stroke-width:")
         .number(high)
         .put(b"}rect{fill:currentColor}.p{fill:#555;font-size:10px}.e{text-anchor:end}</style>\n")
         .put(b"<rect width=\"100%\" height=\"100%\" style=\"fill:#fff\"/>\n")

@@ -9,7 +9,7 @@ pub fn forms() {
     );
     form(
         b"frame LEVEL [NOTE] [FILE.svg]        ",
-        b"the frame of level 2, 3 or 4; NOTE as 3F: what it holds",
+        b"the frame of a level; NOTE as 3F: what it holds",
     );
     form(
         b"send LEVEL NOTES TRIBUTARIES LINE    ",
@@ -101,7 +101,7 @@ pub fn wrong_call(what: &[u8]) {
 pub fn no_level(word: &[u8]) {
     say::text(b"refused 1: no level ");
     say::text(word);
-    say::text(b"; LEVEL is 2, 3 or 4.\n");
+    say::text(b"; LEVEL is 2, 3, 4, 12 or 14, and 12:5 is level 12 after the vote 5.\n");
 }
 
 pub fn no_whole_frames(k: usize, bytes: usize, level: u64, frame: usize) {
@@ -143,10 +143,28 @@ fn has_bytes(k: usize, bytes: usize) {
     say::text(b" bytes");
 }
 
-pub fn note_bits(k: usize, frame: usize) {
+// The vote before the first frame is over 15, where the level looks at it.
+pub fn no_vote(word: &[u8]) {
+    say::text(b"refused 5: ");
+    say::text(word);
+    say::text(
+        b" says a vote over F for the frame before the first; it has a bit for each tributary, as 12:5.\n",
+    );
+}
+
+pub fn note_bits(k: usize, level: u64, frame: usize) {
     say::text(b"refused 5: ");
     files::say_word(k);
     say::text(b": the note of frame ");
     say::number(frame);
-    say::text(b" has bit 6 or 7 set; only level 4 has these national digits.\n");
+    wrong_bits(level);
+}
+
+// What is wrong with a note, by the level that it is for.
+pub fn wrong_bits(level: u64) {
+    if level < 12 {
+        say::text(b" has bit 6 or 7 set; only level 4 has these national digits.\n");
+        return;
+    }
+    say::text(b" has a bit over 3 set; a note of level 12 or 14 has votes alone.\n");
 }

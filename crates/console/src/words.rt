@@ -1,7 +1,10 @@
 // The words of a call: the numbers that they are, the rate of a level, whether one names a picture, and whether two are the same.
 
-// The level that a word of one character is, or 0.
+// The level that a word is, or 0.
 pub fn level(word: &[u8]) -> u64 {
+    if word.len() == 2 {
+        return two_figures(word[0], word[1]);
+    }
     if word.len() != 1 {
         return 0;
     }
@@ -13,12 +16,73 @@ pub fn level(word: &[u8]) -> u64 {
     }
 }
 
+fn two_figures(first: u8, second: u8) -> u64 {
+    if first != b'1' {
+        return 0;
+    }
+    match second {
+        b'2' => 12,
+        b'4' => 14,
+        _ => 0,
+    }
+}
+
+// What LEVEL asks for: a level, or 0, and after a colon the vote of the frame before the first, as 12:5; 0 where none is said.
+pub struct LevelAsked {
+    pub level: u64,
+    pub earlier: u64,
+}
+
+pub fn asked(word: &[u8]) -> LevelAsked {
+    let n = word.len();
+    if 2 < n {
+        if word[1] == b':' {
+            return asked_after(&word[0..1], &word[2..n]);
+        }
+        if word[2] == b':' {
+            return asked_after(&word[0..2], &word[3..n]);
+        }
+    }
+    LevelAsked {
+        level: level(word),
+        earlier: 0,
+    }
+}
+
+fn asked_after(first: &[u8], second: &[u8]) -> LevelAsked {
+    let vote = vote(second);
+    if NO_NOTE <= vote {
+        return LevelAsked {
+            level: 0,
+            earlier: 0,
+        };
+    }
+    LevelAsked {
+        level: level(first),
+        earlier: vote as u64,
+    }
+}
+
+// The vote that a word of one or two hexadecimal digits is, or NO_NOTE.
+fn vote(word: &[u8]) -> u16 {
+    if word.len() != 1 {
+        return note(word);
+    }
+    let d = hex(word[0]);
+    if 15 < d {
+        return NO_NOTE;
+    }
+    d
+}
+
 // The rate of a level in kbit/s, or 0. No call reads it, so that it is no number of the level's row.
 pub fn rate(level: u64) -> u64 {
     match level {
         2 => 8448,
         3 => 34368,
         4 => 139264,
+        12 => 8448,
+        14 => 139264,
         _ => 0,
     }
 }

@@ -20,9 +20,9 @@ pub fn run() {
     workbench::delay(&mut late, &NOTES, BEFORE);
     let mut right_line = [0u8; 848];
     let mut late_line = [0u8; 848];
-    let right = multiplex::multiplex(2, &mut right_line, &NOTES, &sent);
+    let right = multiplex::multiplex(2, 0, &mut right_line, &NOTES, &sent);
     let mut said = [0u8; 848];
-    let slow = workbench::late_line(2, &mut late_line, &mut said, &NOTES, &late, &sent);
+    let slow = workbench::late_line(2, 0, &mut late_line, &mut said, &NOTES, &late, &sent);
     say::rated(2);
     say::text(b": eight frames, the same four tributaries sent by two multiplexers.\n");
     decisions();
@@ -86,7 +86,7 @@ fn show(line: &[u8; 848], sent: &[u8; 824], counts: [usize; 4]) {
     let mut notes = [0u8; 8];
     let mut back = [0u8; 824];
     reading::read_notes(2, line, &mut notes);
-    let r = extraction::extract(2, line, &notes, &mut back);
+    let r = extraction::extract(2, 0, line, &notes, &mut back);
     let came = r.counts;
     say::text(b"  tributary   digits sent   come back   first wrong digit   wrong digits\n");
     table(sent, &back, counts, came);

@@ -32,19 +32,20 @@ use Rattle.engines.proofs.Judging.{sound, answer-same, left-same}
 
 -- ---- multiplexing
 
-pub same-multiplexing : (level : ℕ) (line notes buffer : List ℕ) (a : Counted) (l : List ℕ) (b : Answered) (m : List ℕ)
-    → multiplex.Met level line notes buffer a l → plain.MultiplexMet level line notes buffer b m → SameCounted a b × (l ≡ m)
-same-multiplexing level line notes buffer a l b m x y = rw (x .0, x .1, y .answered, y .written) (go (levelOf level) refl)
+pub same-multiplexing : (level earlier : ℕ) (line notes buffer : List ℕ) (a : Counted) (l : List ℕ) (b : Answered) (m : List ℕ)
+    → multiplex.Met level earlier line notes buffer a l → plain.MultiplexMet level earlier line notes buffer b m → SameCounted a b × (l ≡ m)
+same-multiplexing level earlier line notes buffer a l b m x y = rw (x .0, x .1, y .answered, y .written) (go (levelOf level) refl)
   where
     go : (found : Level) → levelOf level ≡ found
-        → SameCounted (onLevel found (λ (row : Row). judging.answerOn row (length line) notes (length buffer)) (judging.refusedWith (judging.fault 1 0)))
-        (plain.onLevel found (λ (row : Row). plain.answerBy row (length line) notes (plain.verdictOn row (length line) notes (length buffer)))
+        → SameCounted (onLevel found (λ (row : Row). judging.answerOn row earlier (length line) notes (length buffer)) (judging.refusedWith (judging.fault 1 0)))
+        (plain.onLevel found (λ (row : Row). plain.answerBy row earlier (length line) notes (plain.verdictOn row earlier (length line) notes (length buffer)))
         (record { refusal = 1; frame = 0; counts = plain.none }))
-        × (onLevel found (λ (row : Row). multiplex.lineOn row line notes buffer) line
-        ≡ plain.onLevel found (λ (row : Row). plain.sentLine row line notes buffer (plain.verdictOn row (length line) notes (length buffer))) line)
+        × (onLevel found (λ (row : Row). multiplex.lineOn row earlier line notes buffer) line
+        ≡ plain.onLevel found (λ (row : Row). plain.sentLine row earlier line notes buffer (plain.verdictOn row earlier (length line) notes (length buffer))) line)
     go (Of row) e =
         let sh = shared-row level row e in
-        (answer-same row sh (length line) notes (length buffer), left-same row sh (length line) notes (length buffer) _ line _ (λ _. line-same row sh notes buffer (length line)))
+        let sent = line-same row sh earlier notes buffer (length line) in
+        (answer-same row sh earlier (length line) notes (length buffer), left-same row sh earlier (length line) notes (length buffer) _ line _ (λ _. sent))
     go NoSuchLevel e = (record { refusal = refl; frame = refl; counts = refl }, refl)
 
 -- ---- reading the notes
@@ -87,23 +88,23 @@ same-reading level line notes a l b m x y = rw (x .0, x .1, y .answered, y .writ
 
 -- ---- extraction
 
-pub same-extraction : (level : ℕ) (line notes buffer : List ℕ) (a : Counted) (l : List ℕ) (b : Answered) (m : List ℕ)
-    → extraction.ExtractMet level line notes buffer a l → plain.ExtractMet level line notes buffer b m → SameCounted a b × (l ≡ m)
-same-extraction level line notes buffer a l b m x y = rw (x .0, x .1, y .answered, y .written) (go (levelOf level) refl)
+pub same-extraction : (level earlier : ℕ) (line notes buffer : List ℕ) (a : Counted) (l : List ℕ) (b : Answered) (m : List ℕ)
+    → extraction.ExtractMet level earlier line notes buffer a l → plain.ExtractMet level earlier line notes buffer b m → SameCounted a b × (l ≡ m)
+same-extraction level earlier line notes buffer a l b m x y = rw (x .0, x .1, y .answered, y .written) (go (levelOf level) refl)
   where
     go : (found : Level) → levelOf level ≡ found
-        → SameCounted (onLevel found (λ (row : Row). judging.answerOn row (length line) notes (length buffer)) (judging.refusedWith (judging.fault 1 0)))
-        (plain.onLevel found (λ (row : Row). plain.answerBy row (length line) notes (plain.verdictOn row (length line) notes (length buffer)))
+        → SameCounted (onLevel found (λ (row : Row). judging.answerOn row earlier (length line) notes (length buffer)) (judging.refusedWith (judging.fault 1 0)))
+        (plain.onLevel found (λ (row : Row). plain.answerBy row earlier (length line) notes (plain.verdictOn row earlier (length line) notes (length buffer)))
         (record { refusal = 1; frame = 0; counts = plain.none }))
-        × (onLevel found (λ (row : Row). extraction.bufferOn row line notes buffer) buffer
-        ≡ plain.onLevel found (λ (row : Row). plain.takenBuffer row line notes buffer (plain.verdictOn row (length line) notes (length buffer))) buffer)
+        × (onLevel found (λ (row : Row). extraction.bufferOn row earlier line notes buffer) buffer
+        ≡ plain.onLevel found (λ (row : Row). plain.takenBuffer row earlier line notes buffer (plain.verdictOn row earlier (length line) notes (length buffer))) buffer)
     go (Of row) e =
         let sh = shared-row level row e in
         let q = length buffer / 4 in (
-          answer-same row sh (length line) notes (length buffer),
-          left-same row sh (length line) notes (length buffer) _ buffer _
+          answer-same row sh earlier (length line) notes (length buffer),
+          left-same row sh earlier (length line) notes (length buffer) _ buffer _
               (λ z.
-              let ok = sound row sh (length line) notes (length buffer) z in
-              quarters-same row sh notes line q (ok .0) (ok .2) ∙ ap (λ (n : ℕ). plain.packed n (plain.handedAt row notes line (8 * q))) (sym (ok .1))),
+              let ok = sound row sh earlier (length line) notes (length buffer) z in
+              quarters-same row sh earlier notes line q (ok .0) (ok .2) ∙ ap (λ (n : ℕ). plain.packed n (plain.handedAt row earlier notes line (8 * q))) (sym (ok .1))),
         )
     go NoSuchLevel e = (record { refusal = refl; frame = refl; counts = refl }, refl)

@@ -6,3 +6,4 @@ pub mod Notes
 pub mod Quarters
 pub mod Judging
 pub mod Engines
+pub mod Worked

@@ -8,16 +8,17 @@ use Prim.Native.Nat.{ℕ, zero, suc, _+_, _*_, _-_, _/_, _%_, _≤_, _<_, min}
 use native.Mathlib.Omega.{arith}
 use native.Mathlib.Nat.{add-zero, zero-add, suc-mul, one-mul, mul-le-mul-right}
 use native.Mathlib.Decide.{decLt, ℕ-discrete}
-use lib.Dec.{eqb, ltb, leb}
+use lib.Dec.{eqb, ltb}
 use lib.Arith.{digits-mod}
 use lib.ListN.{length, getD}
 use lib.Seq.{ext-getD}
-use borrow.Author.Tests.{lt-ltb, le-ltb, le-leb, eq-eqb, ne-eqb}
+use borrow.Author.Tests.{lt-ltb, le-ltb, eq-eqb, ne-eqb}
 use Rattle.digits.specs.Digits.{digitsOf, tab}
 use Rattle.digits.specs.Sums.{sumTo}
 use Rattle.digits.proofs.Laws.{digits-binary, tab-of}
 use Rattle.table.specs.declared.Row.{Row}
 use Rattle.levels.specs.Table.{Shared}
+use Rattle.levels.specs.Places.{notedOf}
 use Rattle.levels.specs.Vote.{votesFor, voteBy, voteOf, groupOf}
 use Rattle.levels.specs.Word.{wordDigit, wrongDigits}
 use Rattle.levels.proofs.Choice.{cond-by}
@@ -26,12 +27,13 @@ use Rattle.levels.proofs.Majority.{votes-append, votes-all, votes-le}
 use Rattle.levels.proofs.Sentences.{set-start}
 use Rattle.reading.specs.Notes as quick
 use Rattle.plain.specs.declared.frame.Place.{Place}
-use Rattle.plain.specs.declared.frame.Place.the-variants.{Alignment, Service, Control, Justification, Tributary}
-use Rattle.plain.specs.Engine.{digitAt, sumOver, placeIn, received, wrongBy, wrongTo, votesBy, votesTo, majority, dissentIn, nationalIn, noteIn, notesTo, alignmentTo, dissentTo, dissentsTo}
+use Rattle.plain.specs.declared.frame.Place.the-variants.{Alignment, Service, Fixed, Control, Negative, Positive, Tributary}
+use Rattle.plain.specs.Engine.{digitAt, sumOver, placeIn, received, wrongBy, wrongTo, votesBy, votesTo, majority, dissentIn, alarmIn, nationalIn, noteIn, notesTo, alignmentTo, dissentTo, dissentsTo}
 use Rattle.plain.specs.Walk.{isControl}
 use Rattle.plain.proofs.Votes.{control-votes}
 use Rattle.plain.proofs.Noting.{notes-length, note-at}
 use Rattle.engines.proofs.Bytes.{digit-same}
+use Rattle.engines.proofs.Places.{past}
 
 -- ---- sums
 
@@ -98,10 +100,12 @@ module _ (row : Row) (sh : Shared row) (line : List ℕ) (f : ℕ) where
   past-word q d h =
       let none : Place → Type 0 = λ (pl : Place). wrongBy row q d pl ≡ 0 in
       rw (le-ltb q (row .len) h)
+      (cond-by none (ltb q (row .len + row .alarms + row .nationals)) refl
       (cond-by none (ltb q (row .first)) refl
       (cond-by none (ltb q (row .set)) refl
-      (cond-by none (ltb (q % row .set) (row .middle)) refl
-      (cond-by none (ltb (q + row .set) (row .digits)) refl (cond-by none (ltb (q % row .set) (row .last)) refl refl)))))
+      (cond-by none (ltb (q % row .set) 4) refl
+      (cond-by none (ltb (q + row .set) (row .digits)) (cond-by none (ltb (q % row .set) (row .middle)) refl refl)
+      (cond-by none (ltb (q % row .set + 4) (row .last)) refl (cond-by none (ltb (q % row .set) (row .last)) refl refl)))))))
 
   in-word : (q d : ℕ) → q < row .len → wrongBy row q d (placeIn row q) ≡ cond (eqb d (wordDigit row q)) 0 1
   unfolding placeIn
@@ -132,21 +136,22 @@ module _ (row : Row) (sh : Shared row) (line : List ℕ) (f : ℕ) where
     unfolding placeIn
     none-first q h =
         let none : Place → Type 0 = λ (pl : Place). votesBy j v q (received row line f q) pl ≡ 0 in
-        rw (lt-ltb q (row .set) h) (cond-by none (ltb q (row .len)) refl (cond-by none (ltb q (row .first)) refl refl))
+        rw (lt-ltb q (row .set) h)
+        (cond-by none (ltb q (row .len)) refl (cond-by none (ltb q (row .len + row .alarms + row .nationals)) refl (cond-by none (ltb q (row .first)) refl refl)))
 
     -- place r of a later set votes where it is the tributary's control digit
     in-later : (s r : ℕ) → r < row .set → vote (suc s * row .set + r)
         ≡ cond (eqb r j) (cond (eqb (getD ds (f * row .digits + (suc s * row .set + j)) 0) v) 1 0) 0
-    unfolding placeIn
     in-later s r h =
-        rw (control-votes j v q (received row line f q) (placeIn row q), le-ltb q (row .len) past-len, le-ltb q (row .first) past-first, le-ltb q (row .set) later, digits-mod (suc s) h)
+        rw (control-votes j v q (received row line f q) (placeIn row q), past row sh q later, digits-mod (suc s) h)
         (elim (decLt r 4) [
           | yes a ↦
               let whose : q % 4 ≡ r = omega (arith, set-start row sh (suc s)) in
-              rw (lt-ltb r (row .middle) (omega (arith, sh .middle-four)), whose) own
+              rw (lt-ltb r 4 a, whose) own
           | no a ↦
-              rw (le-ltb r (row .middle) (omega (arith, sh .middle-four)), ne-eqb r j (λ e. omega arith))
-              (cond-by none (ltb (q + row .set) (row .digits)) refl (cond-by none (ltb r (row .last)) refl refl))
+              rw (le-ltb r 4 (omega arith), ne-eqb r j (λ e. omega arith))
+              (cond-by none (ltb (q + row .set) (row .digits)) (cond-by none (ltb r (row .middle)) refl refl)
+              (cond-by none (ltb (r + 4) (row .last)) refl (cond-by none (ltb r (row .last)) refl refl)))
         ])
       where
         q : ℕ
@@ -154,12 +159,6 @@ module _ (row : Row) (sh : Shared row) (line : List ℕ) (f : ℕ) where
 
         later : row .set ≤ q
         later = omega (arith, suc-mul s (row .set))
-
-        past-first : row .first ≤ q
-        past-first = omega (arith, later, sh .room)
-
-        past-len : row .len ≤ q
-        past-len = omega (arith, past-first, heads)
 
         none : Place → Type 0
         none pl = cond {A = ℕ} (isControl pl) (cond (eqb (q % 4) j) (cond (eqb (received row line f q) v) 1 0) 0) 0 ≡ 0
@@ -224,15 +223,21 @@ module _ (row : Row) (sh : Shared row) (line : List ℕ) (f : ℕ) where
   national-same : (k : ℕ) → nationalIn row line f k ≡ quick.serviceAt row ds f (suc k)
   unfolding quick.serviceAt
   national-same k =
-      let at : row .national + k ≡ row .alarm + suc k = omega (arith, sh .national-next) in
       elim (decLt k (row .nationals)) [
-        | yes l ↦ rw (lt-ltb k (row .nationals) l, at) (digit-same line (f * row .digits + (row .alarm + suc k)))
-        | no l ↦ rw (le-ltb k (row .nationals) (omega arith))
+        | yes l ↦
+            let one : row .alarms ≡ 1 = omega (arith, l, sh .few-alarm, sh .few-national) in
+            let at : row .national + k ≡ row .alarm + suc k = omega (arith, one, sh .national-next) in
+            rw (lt-ltb k (row .nationals) l, lt-ltb (suc k) (notedOf row) (omega (arith, l, one)), at) (digit-same line (f * row .digits + (row .alarm + suc k)))
+        | no l ↦ rw (le-ltb k (row .nationals) (omega arith), le-ltb (suc k) (notedOf row) (omega (arith, sh .few-alarm)))
       ]
 
-  alarm-same : received row line f (row .alarm) ≡ quick.serviceAt row ds f 0
+  alarm-same : alarmIn row line f ≡ quick.serviceAt row ds f 0
   unfolding quick.serviceAt
-  alarm-same = rw (le-leb 0 (row .nationals) (omega arith), add-zero (row .alarm)) (digit-same line (f * row .digits + row .alarm))
+  alarm-same =
+      elim (decLt 0 (row .alarms)) [
+        | yes l ↦ rw (lt-ltb 0 (row .alarms) l, lt-ltb 0 (notedOf row) (omega (arith, l)), add-zero (row .alarm)) (digit-same line (f * row .digits + row .alarm))
+        | no l ↦ rw (le-ltb 0 (row .alarms) (omega arith), le-ltb 0 (notedOf row) (omega (arith, sh .few-national)))
+      ]
 
   pub note-same : noteIn row line f ≡ quick.noteOf row ds f
   unfolding noteIn quick.noteOf

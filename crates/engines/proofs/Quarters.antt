@@ -13,9 +13,8 @@ use Rattle.digits.specs.Digits.{digitsOf, bytesOf, Binary}
 use Rattle.digits.proofs.Laws.{digits-of-bytes, bytes-are-bytes, bytes-length, map-append, map-binary, zeros-binary, zeros-at, binary-append, digits-binary}
 use Rattle.table.specs.declared.Row.{Row}
 use Rattle.levels.specs.Table.{Shared}
-use Rattle.levels.specs.Order.{decisions, carries, before, placesOf, countOf}
+use Rattle.levels.specs.Order.{actions, carries, placesOf}
 use Rattle.levels.proofs.Counts.{count-of, count-room}
-use Rattle.levels.proofs.Inverse.{places-length}
 use Rattle.extraction.specs.Quarters as quick
 use Rattle.extraction.proofs.Taking as taking
 use Rattle.plain.specs.Engine.{digitAt, packed, carriesFor, takenTo, handedAt}
@@ -59,40 +58,41 @@ padded xs n i =
           ∙ sym (List·getD-eq-default xs 0 (omega arith))
     ]
 
-module _ (row : Row) (sh : Shared row) (notes line : List ℕ) where
+module _ (row : Row) (sh : Shared row) (earlier : ℕ) (notes line : List ℕ) where
   abbrev theirs : ℕ → List ℕ
-  theirs j = quick.takenTo row notes (digitsOf line) j (2 * length line)
+  theirs j = quick.takenTo row earlier notes (digitsOf line) j (2 * length line)
 
   -- the same digits of a tributary
-  pub taken-columns : (j : ℕ) → j < 4 → (x : ℕ) → takenTo row notes line j (4 * x) ≡ quick.takenTo row notes (digitsOf line) j x
+  pub taken-columns : (j : ℕ) → j < 4 → (x : ℕ) → takenTo row earlier notes line j (4 * x) ≡ quick.takenTo row earlier notes (digitsOf line) j x
   unfolding takenTo quick.takenTo placesOf
   taken-columns j jh zero = refl
   taken-columns j jh (suc x) =
-      column row sh notes j jh (λ (a b : List ℕ). a ++ b) [] append-nil (λ (p : ℕ). digitAt line p ∷ []) (takenTo row notes line j) (plain.taken-more row notes line j) x
-      ∙ rw (taken-columns j jh x, digit-same line (4 * x + j)) (sym (grown (carries row (decisions notes j) (4 * x + j)) (4 * x + j)))
+      let more = plain.taken-more row earlier notes line j in
+      column row sh earlier notes j jh (λ (a b : List ℕ). a ++ b) [] append-nil (λ (p : ℕ). digitAt line p ∷ []) (takenTo row earlier notes line j) more x
+      ∙ rw (taken-columns j jh x, digit-same line (4 * x + j)) (sym (grown (carries row (actions row earlier notes j) (4 * x + j)) (4 * x + j)))
     where
       digit : ℕ → ℕ
       digit p = getD (digitsOf line) p 0
 
       grown : (t : Bool) (p : ℕ)
-          → map digit (placesOf row (decisions notes j) j x ++ cond t (p ∷ []) []) ≡ map digit (placesOf row (decisions notes j) j x) ++ cond t (digit p ∷ []) []
-      grown true p = map-append digit (placesOf row (decisions notes j) j x) (p ∷ [])
-      grown false p = map-append digit (placesOf row (decisions notes j) j x) []
+          → map digit (placesOf row (actions row earlier notes j) j x ++ cond t (p ∷ []) []) ≡ map digit (placesOf row (actions row earlier notes j) j x) ++ cond t (digit p ∷ []) []
+      grown true p = map-append digit (placesOf row (actions row earlier notes j) j x) (p ∷ [])
+      grown false p = map-append digit (placesOf row (actions row earlier notes j) j x) []
 
-  taken-same : (j : ℕ) → j < 4 → takenTo row notes line j (8 * length line) ≡ theirs j
+  taken-same : (j : ℕ) → j < 4 → takenTo row earlier notes line j (8 * length line) ≡ theirs j
   taken-same j h =
       let e : 8 * length line ≡ 4 * (2 * length line) = omega arith in
-      ap (takenTo row notes line j) e ∙ taken-columns j h (2 * length line)
+      ap (takenTo row earlier notes line j) e ∙ taken-columns j h (2 * length line)
 
   module _ (q : ℕ) (whole : length line ≡ length notes * row .bytes) (room : length notes * row .room ≤ 8 * q) where
     -- the digits of a quarter fit it
     fits : (j : ℕ) → j < 4 → length (theirs j) ≤ 8 * q
     fits j h =
-        let taken = taking.taken-length row notes (digitsOf line) j (2 * length line) in
-        let counted = count-of row sh j h (decisions notes j) (length notes) (length line) whole in
-        omega (arith, taken, counted, count-room row sh j h (decisions notes j) (length notes), room)
+        let taken = taking.taken-length row earlier notes (digitsOf line) j (2 * length line) in
+        let counted = count-of row sh j h (actions row earlier notes j) (length notes) (length line) whole in
+        omega (arith, taken, counted, count-room row sh j h (actions row earlier notes j) (length notes), room)
 
-    quarter-same : (j : ℕ) → j < 4 → quick.quarterFrom row notes line q j ≡ packed q (λ (i : ℕ). handedAt row notes line (8 * q) (8 * (j * q) + i))
+    quarter-same : (j : ℕ) → j < 4 → quick.quarterFrom row earlier notes line q j ≡ packed q (λ (i : ℕ). handedAt row earlier notes line (8 * q) (8 * (j * q) + i))
     unfolding quick.quarterFrom quick.takenTo handedAt
     quarter-same j h =
         packed-is made digit (bytes-are-bytes q padding binary) (λ i hi. at i (omega (arith, hi, bytes-length q padding)))
@@ -105,12 +105,12 @@ module _ (row : Row) (sh : Shared row) (notes line : List ℕ) where
         made = bytesOf q padding
 
         digit : ℕ → ℕ
-        digit i = getD (takenTo row notes line ((8 * (j * q) + i) / (8 * q)) (8 * length line)) ((8 * (j * q) + i) % (8 * q)) 0
+        digit i = getD (takenTo row earlier notes line ((8 * (j * q) + i) / (8 * q)) (8 * length line)) ((8 * (j * q) + i) % (8 * q)) 0
 
         binary : Binary padding
         binary =
             binary-append (theirs j) (replicate (8 * q - length (theirs j)) 0)
-            (map-binary (λ (p : ℕ). getD (digitsOf line) p 0) (placesOf row (decisions notes j) j (2 * length line)) (λ p. digits-binary line p))
+            (map-binary (λ (p : ℕ). getD (digitsOf line) p 0) (placesOf row (actions row earlier notes j) j (2 * length line)) (λ p. digits-binary line p))
             (zeros-binary (8 * q - length (theirs j)))
 
         size : length padding ≡ 8 * q
@@ -126,12 +126,12 @@ module _ (row : Row) (sh : Shared row) (notes line : List ℕ) where
             ∙ padded (theirs j) (8 * q - length (theirs j)) i
             ∙ rw (place, digits-div j hi, digits-mod j hi, taken-same j h)
 
-    pub quarters-same : quick.quartersFrom row notes line q ≡ packed (4 * q) (handedAt row notes line (8 * q))
+    pub quarters-same : quick.quartersFrom row earlier notes line q ≡ packed (4 * q) (handedAt row earlier notes line (8 * q))
     unfolding quick.quartersFrom
     quarters-same = sym (ap (λ (n : ℕ). packed n handed) four ∙ packed-cut q (q + (q + q)) handed ∙ ap₂ _++_ (part 0 handed (omega arith) (λ p. ap handed (first p))) second)
       where
         handed : ℕ → ℕ
-        handed = handedAt row notes line (8 * q)
+        handed = handedAt row earlier notes line (8 * q)
 
         four : 4 * q ≡ q + (q + (q + q))
         four = omega arith
@@ -139,10 +139,10 @@ module _ (row : Row) (sh : Shared row) (notes line : List ℕ) where
         first : (p : ℕ) → p ≡ 8 * (0 * q) + p
         first p = omega (arith, zero-mul q)
 
-        part : (j : ℕ) (f : ℕ → ℕ) → j < 4 → ((p : ℕ) → f p ≡ handed (8 * (j * q) + p)) → packed q f ≡ quick.quarterFrom row notes line q j
+        part : (j : ℕ) (f : ℕ → ℕ) → j < 4 → ((p : ℕ) → f p ≡ handed (8 * (j * q) + p)) → packed q f ≡ quick.quarterFrom row earlier notes line q j
         part j f h e = packed-same q f (λ (i : ℕ). handed (8 * (j * q) + i)) (λ p _. e p) ∙ sym (quarter-same j h)
 
-        third : packed (q + q) (λ (p : ℕ). handed (8 * q + (8 * q + p))) ≡ quick.quarterFrom row notes line q 2 ++ quick.quarterFrom row notes line q 3
+        third : packed (q + q) (λ (p : ℕ). handed (8 * q + (8 * q + p))) ≡ quick.quarterFrom row earlier notes line q 2 ++ quick.quarterFrom row earlier notes line q 3
         third =
             packed-cut q q (λ (p : ℕ). handed (8 * q + (8 * q + p)))
             ∙ ap₂ _++_
@@ -150,7 +150,7 @@ module _ (row : Row) (sh : Shared row) (notes line : List ℕ) where
             (part 3 (λ (p : ℕ). handed (8 * q + (8 * q + (8 * q + p)))) (omega arith) (λ p. let e : 8 * q + (8 * q + (8 * q + p)) ≡ 8 * (3 * q) + p = omega arith in ap handed e))
 
         second : packed (q + (q + q)) (λ (p : ℕ). handed (8 * q + p))
-            ≡ quick.quarterFrom row notes line q 1 ++ (quick.quarterFrom row notes line q 2 ++ quick.quarterFrom row notes line q 3)
+            ≡ quick.quarterFrom row earlier notes line q 1 ++ (quick.quarterFrom row earlier notes line q 2 ++ quick.quarterFrom row earlier notes line q 3)
         second =
             packed-cut q (q + q) (λ (p : ℕ). handed (8 * q + p))
             ∙ ap₂ _++_ (part 1 (λ (p : ℕ). handed (8 * q + p)) (omega arith) (λ p. let e : 8 * q + p ≡ 8 * (1 * q) + p = omega arith in ap handed e)) third

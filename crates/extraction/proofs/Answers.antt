@@ -11,13 +11,13 @@ use Rattle.extraction.specs.Extract.{ExtractMet}
 use Rattle.extraction.proofs.extract.{signature, ended}
 use Rattle.extraction.proofs.extract.Reads.{Asked, Learnt}
 
-pub no-second-answer : (level : ℕ) (line notes buffer : List ℕ) (r s : Counted) (b c : List ℕ) → ExtractMet level line notes buffer r b → ExtractMet level line notes buffer s c
+pub no-second-answer : (level earlier : ℕ) (line notes buffer : List ℕ) (r s : Counted) (b c : List ℕ) → ExtractMet level earlier line notes buffer r b → ExtractMet level earlier line notes buffer s c
     → (r ≡ s) × (b ≡ c)
-no-second-answer level line notes buffer r s b c p q = (cc, cc)
+no-second-answer level earlier line notes buffer r s b c p q = (cc, cc)
 
 -- and what the call ensures is that statement
 pub extract-met : (κs : Lfts 3) (a : ArgsD signature κs) (r : ResD signature κs) (e : AtExit ended κs) → Learnt κs a r e
-    → ExtractMet (a .0) (now (a .1 .0)) (now (a .1 .1 .0)) (now (a .1 .1 .1 .0)) r (now (e .1 .1 .1 .0))
+    → ExtractMet (a .0) (a .1 .0) (now (a .1 .1 .0)) (now (a .1 .1 .1 .0)) (now (a .1 .1 .1 .1 .0)) r (now (e .1 .1 .1 .1 .0))
 extract-met κs a r e met = met
 
 -- and it asks nothing of its caller

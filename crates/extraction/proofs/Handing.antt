@@ -1,7 +1,6 @@
 -- The tributaries under way (`Handing`): that it holds at the start, that a set more keeps it, and what it says at the end of a frame and of the line.
 use mathlib.Core.Path.{_≡_, refl, sym, _∙_, ap}
-use mathlib.Core.Bool.{Bool}
-use mathlib.Core.List.{List, _++_}
+use mathlib.Core.List.{List, _∷_, _++_}
 use Prim.Native.Nat.{ℕ, _+_, _*_, _/_, _≤_, _<_}
 use native.Mathlib.Omega.{arith}
 use native.Mathlib.Nat.{add-mul, mul-le-mul-right, mul-left-comm}
@@ -14,16 +13,17 @@ use Rattle.digits.proofs.Lists.{of-four}
 use Rattle.words.specs.declared.Writer.{Writer}
 use Rattle.words.specs.Words.{Ready, outFrom}
 use Rattle.table.specs.declared.Row.{Row}
+use Rattle.levels.specs.declared.order.Action.{Action}
 use Rattle.levels.specs.Table.{Shared}
 use Rattle.levels.specs.Sizes.{Fits}
-use Rattle.levels.specs.Order.{before, decisions, placesOf}
+use Rattle.levels.specs.Order.{before, actions, placesOf}
 use Rattle.levels.proofs.Columns.{wide, columns, frame-start}
 use Rattle.levels.proofs.Sentences.{set-start}
 use Rattle.levels.proofs.Counts.{count-of, count-room}
 use Rattle.levels.proofs.Inverse.{before-rises}
 use Rattle.levels.proofs.Judged.{room-small, short-line}
 use Rattle.unweave.specs.declared.Writers.{Writers}
-use Rattle.unweave.specs.Lanes.{setDigits}
+use Rattle.unweave.specs.Lanes.{actsBy, setDigits}
 use Rattle.unweave.specs.Quarters.{partOf, writerOf, Roomy, Grown}
 use Rattle.unweave.proofs.Four.{part-lent, part-size}
 use Rattle.extraction.specs.Quarters.{takenTo}
@@ -66,15 +66,15 @@ module _ {row : Row} {line notes q : ℕ} (fits : Fits row line notes q) where
         omega (arith, set-end, set-start row sh s, add-mul s 1 (wide row), sh .set-fours, frame-start row sh 0 (omega arith) f)
 
   -- and its digits have room
-  pub most : (j : ℕ) → j < 4 → (decided : ℕ → Bool) (x : ℕ) → x ≤ 2 * line → before row decided j x ≤ notes * row .room
-  most j jh decided x h =
-      omega (arith, before-rises row decided j x (2 * line) h, count-of row sh j jh decided notes line (fits .whole), count-room row sh j jh decided notes)
+  pub most : (j : ℕ) → j < 4 → (acts : ℕ → Action) (x : ℕ) → x ≤ 2 * line → before row acts j x ≤ notes * row .room
+  most j jh acts x h =
+      omega (arith, before-rises row acts j x (2 * line) h, count-of row sh j jh acts notes line (fits .whole), count-room row sh j jh acts notes)
 
 -- nothing yet
-pub handing-none : {row : Row} (line notes : List ℕ) {q : ℕ} (buffer : List ℕ) → Fits row (length line) (length notes) q → length buffer ≡ 4 * q → (w : Writers)
-    → ((j : ℕ) → j < 4 → writerOf w j ≡ record { at = 0; held = 0; fill = 0 }) → Handing row line notes q 0 buffer w
+pub handing-none : {row : Row} (earlier : ℕ) (line notes : List ℕ) {q : ℕ} (buffer : List ℕ) → Fits row (length line) (length notes) q → length buffer ≡ 4 * q → (w : Writers)
+    → ((j : ℕ) → j < 4 → writerOf w j ≡ record { at = 0; held = 0; fill = 0 }) → Handing row earlier line notes q 0 buffer w
 unfolding outFrom takenTo placesOf written digitsOf
-handing-none line notes buffer fits size w new =
+handing-none earlier line notes buffer fits size w new =
     record {
       fits = fits;
       size = size;
@@ -82,48 +82,50 @@ handing-none line notes buffer fits size w new =
       out = λ j h. rw (new j h);
     }
 
-module _ {row : Row} {line notes : List ℕ} {q x : ℕ} {buffer : List ℕ} {w : Writers} (so-far : Handing row line notes q x buffer w) (j : ℕ) (jh : j < 4) where
+module _ {row : Row} {earlier : ℕ} {line notes : List ℕ} {q x : ℕ} {buffer : List ℕ} {w : Writers} (so-far : Handing row earlier line notes q x buffer w) (j : ℕ) (jh : j < 4) where
   pub part-length : length (partOf q buffer j) ≡ q
   part-length = ap length (sym (part-lent q j buffer jh (omega (arith, so-far .size)))) ∙ part-size q j buffer jh (omega (arith, so-far .size))
 
   -- how many digits of the tributary have come
-  pub come : 8 * writerOf w j .at + writerOf w j .fill ≡ before row (decisions notes j) j x
+  pub come : 8 * writerOf w j .at + writerOf w j .fill ≡ before row (actions row earlier notes j) j x
   come =
       sym (out-length (partOf q buffer j) (writerOf w j) (omega (arith, so-far .within j jh .room, part-length)))
       ∙ ap length (so-far .out j jh)
-      ∙ taken-length row notes (digitsOf line) j x
+      ∙ taken-length row earlier notes (digitsOf line) j x
 
   pub come-few : x ≤ 2 * length line → 8 * writerOf w j .at + writerOf w j .fill ≤ 65536
   come-few h =
-      omega (arith, come, most (so-far .fits) j jh (decisions notes j) x h, room-small row (so-far .fits .shared) (length notes) (so-far .fits .few))
+      omega (arith, come, most (so-far .fits) j jh (actions row earlier notes j) x h, room-small row (so-far .fits .shared) (length notes) (so-far .fits .few))
 
-module _ {row : Row} {line notes : List ℕ} {q : ℕ} (f s : ℕ) {buffer : List ℕ} {w : Writers}
-    (so-far : Handing row line notes q (f * columns row + s * wide row) buffer w) (hf : f < length notes) (hs : s < row .sets) {p note : ℕ}
-    (ep : p ≡ f * row .digits + s * row .set) (en : note ≡ getD notes f 0) where
+module _ {row : Row} {earlier : ℕ} {line notes : List ℕ} {q : ℕ} (f s : ℕ) {buffer : List ℕ} {w : Writers}
+    (so-far : Handing row earlier line notes q (f * columns row + s * wide row) buffer w) (hf : f < length notes) (hs : s < row .sets) {p preceding note : ℕ}
+    (ep : p ≡ f * row .digits + s * row .set) (eb : preceding ≡ getD (earlier ∷ notes) f 0) (en : note ≡ getD notes f 0) where
   abbrev ds : List ℕ
   ds = digitsOf line
 
-  -- what the set hands out, by the frame's own note
+  -- what the set hands out, by the frame's own note and the preceding one
   next : (j : ℕ) → j < 4
-      → takenTo row notes ds j (f * columns row + (s + 1) * wide row) ≡ takenTo row notes ds j (f * columns row + s * wide row) ++ setDigits row ds p s note j
-  next j jh = rw (ep, en) (taken-set row notes ds j (so-far .fits .shared) jh f s hs)
+      → takenTo row earlier notes ds j (f * columns row + (s + 1) * wide row) ≡ takenTo row earlier notes ds j (f * columns row + s * wide row) ++ setDigits row ds p s (actsBy row preceding note) j
+  next j jh = rw (ep, eb, en) (taken-set row earlier notes ds j (so-far .fits .shared) jh f s hs)
 
-  many : (j : ℕ) → j < 4 → before row (decisions notes j) j (f * columns row + s * wide row) + length (setDigits row ds p s note j) ≤ 8 * q
+  many : (j : ℕ) → j < 4 → before row (actions row earlier notes j) j (f * columns row + s * wide row) + length (setDigits row ds p s (actsBy row preceding note) j) ≤ 8 * q
   many j jh =
       let x = f * columns row + s * wide row in
       let y = f * columns row + (s + 1) * wide row in
-      let more = ap length (next j jh) ∙ length-append (takenTo row notes ds j x) (setDigits row ds p s note j) in
-      omega (arith, more, taken-length row notes ds j x, taken-length row notes ds j y, most (so-far .fits) j jh (decisions notes j) y (set-end (so-far .fits) f s hf hs), so-far .fits .room)
+      let more = ap length (next j jh) ∙ length-append (takenTo row earlier notes ds j x) (setDigits row ds p s (actsBy row preceding note) j) in
+      let fits = so-far .fits in
+      let last = most fits j jh (actions row earlier notes j) y (set-end fits f s hf hs) in
+      omega (arith, more, taken-length row earlier notes ds j x, taken-length row earlier notes ds j y, last, fits .room)
 
-  pub set-roomy : Roomy q (λ (j : ℕ). length (setDigits row ds p s note j)) w
+  pub set-roomy : Roomy q (λ (j : ℕ). length (setDigits row ds p s (actsBy row preceding note) j)) w
   set-roomy j jh = record { ready = so-far .within j jh .ready; room = omega (arith, come so-far j jh, many j jh) }
 
-  pub handing-set : {new : List ℕ} {r : Writers} → Grown q buffer new w r (setDigits row ds p s note) → length new ≡ length buffer
-      → Handing row line notes q (f * columns row + (s + 1) * wide row) new r
+  pub handing-set : {new : List ℕ} {r : Writers} → Grown q buffer new w r (setDigits row ds p s (actsBy row preceding note)) → length new ≡ length buffer
+      → Handing row earlier line notes q (f * columns row + (s + 1) * wide row) new r
   handing-set grown kept =
       record {
         fits = so-far .fits;
         size = kept ∙ so-far .size;
         within = λ j jh. record { ready = grown .moved j jh .ready; room = omega (arith, grown .moved j jh .place, come so-far j jh, many j jh) };
-        out = λ j jh. grown .out j jh ∙ ap (λ (l : List ℕ). l ++ setDigits row ds p s note j) (so-far .out j jh) ∙ sym (next j jh);
+        out = λ j jh. grown .out j jh ∙ ap (λ (l : List ℕ). l ++ setDigits row ds p s (actsBy row preceding note) j) (so-far .out j jh) ∙ sym (next j jh);
       }

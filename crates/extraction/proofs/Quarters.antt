@@ -14,7 +14,7 @@ use Rattle.digits.proofs.Laws.{bytes-length, tab-of}
 use Rattle.words.specs.declared.Writer.{Writer}
 use Rattle.words.specs.Words.{outFrom}
 use Rattle.table.specs.declared.Row.{Row}
-use Rattle.levels.specs.Order.{decisions, countOf, countsOf}
+use Rattle.levels.specs.Order.{actions, countOf, countsOf}
 use Rattle.levels.proofs.Counts.{count-of}
 use Rattle.unweave.specs.declared.Writers.{Writers}
 use Rattle.unweave.specs.Quarters.{partOf, writerOf}
@@ -90,19 +90,20 @@ four-parts q l size =
     λ a b e. rw (e, ← drop-drop q a l) (take-append-drop q (drop a l)) in
     rw (last, step (2 * q) (3 * q) (omega arith), step (1 * q) (2 * q) (omega arith), step (0 * q) (1 * q) (omega arith), zero-mul q)
 
-pub ended-all : {row : Row} {line notes : List ℕ} {q : ℕ} {w : Writers} {old counts buffer : List ℕ} → Handing row line notes q (2 * length line) old w → Ended q w old 4 counts buffer
-    → (counts ≡ countsOf row notes (length notes)) × (buffer ≡ quartersFrom row notes line q)
+pub ended-all : {row : Row} {earlier : ℕ} {line notes : List ℕ} {q : ℕ} {w : Writers} {old counts buffer : List ℕ} → Handing row earlier line notes q (2 * length line) old w
+    → Ended q w old 4 counts buffer
+    → (counts ≡ countsOf row earlier notes (length notes)) × (buffer ≡ quartersFrom row earlier notes line q)
 unfolding tab quarterFrom quartersFrom
-ended-all {row} {line} {notes} {q} {w} {old} {counts} {buffer} handed ended =
+ended-all {row} {earlier} {line} {notes} {q} {w} {old} {counts} {buffer} handed ended =
     let F = length notes in
     let sh = handed .fits .shared in
-    let count : (k : ℕ) → k < 4 → getD counts k 0 ≡ countOf row (decisions notes k) F =
-    λ k h. ended .counted k h ∙ come handed k h ∙ count-of row sh k h (decisions notes k) F (length line) (handed .fits .whole) in
-    let many : (k : ℕ) → k < 4 → countBy (writerOf w k) ≡ length (takenTo row notes (digitsOf line) k (2 * length line)) =
-    λ k h. come handed k h ∙ sym (taken-length row notes (digitsOf line) k (2 * length line)) in
-    let quarter : (k : ℕ) → k < 4 → partOf q buffer k ≡ quarterFrom row notes line q k =
+    let count : (k : ℕ) → k < 4 → getD counts k 0 ≡ countOf row (actions row earlier notes k) F =
+    λ k h. ended .counted k h ∙ come handed k h ∙ count-of row sh k h (actions row earlier notes k) F (length line) (handed .fits .whole) in
+    let many : (k : ℕ) → k < 4 → countBy (writerOf w k) ≡ length (takenTo row earlier notes (digitsOf line) k (2 * length line)) =
+    λ k h. come handed k h ∙ sym (taken-length row earlier notes (digitsOf line) k (2 * length line)) in
+    let quarter : (k : ℕ) → k < 4 → partOf q buffer k ≡ quarterFrom row earlier notes line q k =
     λ k h. ended .done k h ∙ rw (many k h, handed .out k h) in
     let parts = four-parts q buffer (ended .size ∙ handed .size) in (
-      tab-of counts 4 (λ (k : ℕ). countOf row (decisions notes k) F) (ended .four) count,
+      tab-of counts 4 (λ (k : ℕ). countOf row (actions row earlier notes k) F) (ended .four) count,
       sym parts ∙ rw (quarter 0 (omega arith), quarter 1 (omega arith), quarter 2 (omega arith), quarter 3 (omega arith)),
     )

@@ -1,5 +1,5 @@
 // The tributaries of a line, frame by frame and set by set, all four at once: each set hands its run to the four writers, and each frame acts on
-// its own note. A writer's end leaves its quarter whole.
+// its own note and the preceding one. A writer's end leaves its quarter whole.
 use levels::order;
 use table::Row;
 use unweave::Writers;
@@ -19,6 +19,7 @@ ghost use Rattle.extraction.specs.Handing.{Handing};
 fn extract_frame(
     table: &[u64; 256],
     row: Row,
+    earlier: u64,
     line: &[u8],
     notes: &[u8],
     f: usize,
@@ -29,16 +30,18 @@ fn extract_frame(
     requires { ⌜
         (now table ≡ tab 256 0 (lanesOf 2))
         × (f < length (now notes))
-        × Handing row (now line) (now notes) q (f * (row .digits / 4)) (now buffer) w0
+        × Handing row earlier (now line) (now notes) q (f * (row .digits / 4)) (now buffer) w0
         ⌝ }
-    ensures { λ r. ⌜ Handing row (now (line .entry)) (now (notes .entry)) q ((f + 1) * (row .digits / 4)) (now (buffer .exit)) r ⌝ }
+    ensures { λ r. ⌜ Handing row earlier (now (line .entry)) (now (notes .entry)) q ((f + 1) * (row .digits / 4)) (now (buffer .exit)) r ⌝ }
 {
     let note = order::note_of(notes, f);
+    let preceding = order::preceding_of(earlier, notes, f);
     let start = f * row.digits;
     let mut w = w0;
     let mut s: usize = 0;
     while s < row.sets {
-        w = unweave::receive_set(table, row, line, start + s * row.set, s, note, buffer, q, w);
+        let p = start + s * row.set;
+        w = unweave::receive_set(table, row, line, p, s, preceding, note, buffer, q, w);
         s += 1;
     }
     w
@@ -48,6 +51,7 @@ fn extract_frame(
 pub fn extract_frames(
     table: &[u64; 256],
     row: Row,
+    earlier: u64,
     line: &[u8],
     notes: &[u8],
     buffer: &mut [u8],
@@ -58,7 +62,7 @@ pub fn extract_frames(
         × Fits row (length (now line)) (length (now notes)) q
         × (length (now buffer) ≡ 4 * q)
         ⌝ }
-    ensures { λ r. ⌜ Handing row (now (line .entry)) (now (notes .entry)) q (2 * length (now (line .entry))) (now (buffer .exit)) r ⌝ }
+    ensures { λ r. ⌜ Handing row earlier (now (line .entry)) (now (notes .entry)) q (2 * length (now (line .entry))) (now (buffer .exit)) r ⌝ }
 {
     let first = Writer {
         at: 0,
@@ -73,7 +77,7 @@ pub fn extract_frames(
     };
     let mut f: usize = 0;
     while f < notes.len() {
-        w = extract_frame(table, row, line, notes, f, buffer, q, w);
+        w = extract_frame(table, row, earlier, line, notes, f, buffer, q, w);
         f += 1;
     }
     w

@@ -1,4 +1,5 @@
-// Extracting four tributaries from a line, by notes that are given: all four at once, each frame by its own note. Looks at no control digit.
+// Extracting four tributaries from a line, by notes that are given and the vote before them: all four at once, each frame by its own note and the
+// preceding one. Looks at no control digit.
 // specs/Extract.antt says what the call answers and leaves.
 pub mod frames;
 
@@ -19,16 +20,16 @@ ghost use Rattle.extraction.specs.Quarters.{quartersFrom};
 ghost use Rattle.extraction.specs.Extract.{bufferOn, ExtractMet};
 
 // The four extractions: the frames hand out their digits, then each quarter is ended.
-fn extract_all(row: Row, line: &[u8], notes: &[u8], buffer: &mut [u8]) -> [usize; 4]
+fn extract_all(row: Row, earlier: u64, line: &[u8], notes: &[u8], buffer: &mut [u8]) -> [usize; 4]
     requires { ⌜ Shared row × Accepted row (length (now line)) (length (now notes)) (length (now buffer)) ⌝ }
     ensures { λ r. ⌜
-        (r ≡ countsOf row (now (notes .entry)) (length (now (notes .entry))))
-        × (now (buffer .exit) ≡ quartersFrom row (now (notes .entry)) (now (line .entry)) (length (now (buffer .entry)) / 4))
+        (r ≡ countsOf row earlier (now (notes .entry)) (length (now (notes .entry))))
+        × (now (buffer .exit) ≡ quartersFrom row earlier (now (notes .entry)) (now (line .entry)) (length (now (buffer .entry)) / 4))
         ⌝ }
 {
     let q = buffer.len() / 4;
     let table = sorting::lane_table();
-    let w = frames::extract_frames(&table, row, line, notes, buffer, q);
+    let w = frames::extract_frames(&table, row, earlier, line, notes, buffer, q);
     let mut counts = [0usize; 4];
     let mut j: usize = 0;
     while j < 4 {
@@ -40,19 +41,19 @@ fn extract_all(row: Row, line: &[u8], notes: &[u8], buffer: &mut [u8]) -> [usize
     counts
 }
 
-// A level's row is known: the lengths and the notes are judged, and the tributaries are extracted.
-fn extract_on(row: Row, line: &[u8], notes: &[u8], buffer: &mut [u8]) -> Counted
+// A level's row is known: the lengths, the earlier vote and the notes are judged, and the tributaries are extracted.
+fn extract_on(row: Row, earlier: u64, line: &[u8], notes: &[u8], buffer: &mut [u8]) -> Counted
     requires { ⌜ Shared row ⌝ }
     ensures { λ r. ⌜
-        (r ≡ answerOn row (length (now (line .entry))) (now (notes .entry)) (length (now (buffer .entry))))
-        × (now (buffer .exit) ≡ bufferOn row (now (line .entry)) (now (notes .entry)) (now (buffer .entry)))
+        (r ≡ answerOn row earlier (length (now (line .entry))) (now (notes .entry)) (length (now (buffer .entry))))
+        × (now (buffer .exit) ≡ bufferOn row earlier (now (line .entry)) (now (notes .entry)) (now (buffer .entry)))
         ⌝ }
 {
-    let found = judging::fault_of(row, line.len(), notes, buffer.len());
+    let found = judging::fault_of(row, earlier, line.len(), notes, buffer.len());
     if found.refusal != 0 {
         return judging::refused(found);
     }
-    let counts = extract_all(row, line, notes, buffer);
+    let counts = extract_all(row, earlier, line, notes, buffer);
     Counted {
         refusal: 0,
         frame: 0,
@@ -60,13 +61,14 @@ fn extract_on(row: Row, line: &[u8], notes: &[u8], buffer: &mut [u8]) -> Counted
     }
 }
 
-// Extracts the tributaries of the line into the quarters of the buffer, by the notes. Any level number, any lengths: see specs/Extract.antt.
-pub fn extract(level: u64, line: &[u8], notes: &[u8], buffer: &mut [u8]) -> Counted
-    ensures { λ r. ⌜ ExtractMet level (now (line .entry)) (now (notes .entry)) (now (buffer .entry)) r (now (buffer .exit)) ⌝ }
+// Extracts the tributaries of the line into the quarters of the buffer, by the notes and the vote before them. Any level number, any vote, any
+// lengths: see specs/Extract.antt.
+pub fn extract(level: u64, earlier: u64, line: &[u8], notes: &[u8], buffer: &mut [u8]) -> Counted
+    ensures { λ r. ⌜ ExtractMet level earlier (now (line .entry)) (now (notes .entry)) (now (buffer .entry)) r (now (buffer .exit)) ⌝ }
 {
     let found = table::level_of(level);
     match found {
-        Level::Of(row) => extract_on(row, line, notes, buffer),
+        Level::Of(row) => extract_on(row, earlier, line, notes, buffer),
         Level::NoSuchLevel => judging::refused(Fault {
             refusal: 1,
             frame: 0,

@@ -37,7 +37,7 @@ pub struct Finding {
     pub passage: Passage,
 }
 
-pub fn run(row: Row, level: u64, writes: bool)
+pub fn run(row: Row, level: u64, earlier: u64, writes: bool)
     requires { ⌜ Shared row ⌝ }
 {
     let stream = files::open(STREAM);
@@ -67,12 +67,12 @@ pub fn run(row: Row, level: u64, writes: bool)
     };
     end(
         row,
-        chunks(row, level, stream.bytes, start(level, open)),
+        chunks(row, level, stream.bytes, start(row, level, earlier, open)),
         writes,
     );
 }
 
-fn start(level: u64, open: OpenFiles) -> Finding {
+fn start(row: Row, level: u64, earlier: u64, open: OpenFiles) -> Finding {
     let made = receiver::fresh(level);
     let state = made.state;
     Finding {
@@ -81,7 +81,7 @@ fn start(level: u64, open: OpenFiles) -> Finding {
         words: 0,
         found: false,
         held: 0,
-        passage: passage::start(open),
+        passage: passage::start(row, earlier, open),
     }
 }
 
@@ -268,7 +268,14 @@ fn flush(row: Row, level: u64, line: &[u8], t: Finding) -> Finding
     let mut buffer = io::large_buffer();
     let before = t.passage;
     let mut u = t;
-    u.passage = apart::run(level, &line[..n], &mut notes[..f], &mut buffer[..b], before);
+    u.passage = apart::run(
+        row,
+        level,
+        &line[..n],
+        &mut notes[..f],
+        &mut buffer[..b],
+        before,
+    );
     u.held = 0;
     u
 }

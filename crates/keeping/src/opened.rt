@@ -27,18 +27,18 @@ pub const WRITTEN: u8 = 1;
 pub const TAKEN: u8 = 2;
 
 // Under a refusal the reader gives level 0, which is no level.
-pub fn run(which: u8) {
+pub fn run(which: u8, earlier: u64) {
     let mut room = capture::room();
     let c = capture::open(CAPTURE, &mut room);
     let r = c.reading;
     let found = table::level_of(r.level);
     match found {
-        Level::Of(row) => read_on(which, row, c, &room),
+        Level::Of(row) => read_on(which, earlier, row, c, &room),
         Level::NoSuchLevel => refusals::say(CAPTURE, c, &room),
     }
 }
 
-fn read_on(which: u8, row: Row, c: Opened, room: &[u8])
+fn read_on(which: u8, earlier: u64, row: Row, c: Opened, room: &[u8])
     requires { ⌜ Shared row ⌝ }
 {
     let r = c.reading;
@@ -55,5 +55,5 @@ fn read_on(which: u8, row: Row, c: Opened, room: &[u8])
         notes: NOTES,
         tributaries: TRIBUTARIES,
     };
-    take::run_from(row, r.level, false, from);
+    take::run_from(row, r.level, earlier, false, from);
 }

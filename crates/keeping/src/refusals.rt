@@ -68,7 +68,7 @@ fn frames(level: u64, row: Row) {
 
 fn no_level(k: usize, room: &[u8]) {
     start(1, k, LEVEL);
-    say::text(b"level 2, 3 or 4; found ");
+    say::text(b"level 2, 3, 4, 12 or 14; found ");
     say::number(byte_at(room, LEVEL));
     say::text(b".\n");
 }

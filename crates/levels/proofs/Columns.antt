@@ -11,14 +11,17 @@ use lib.Dec.{eqb, leb}
 use borrow.Author.Tests.{le-leb, lt-leb, eq-eqb, ne-eqb}
 use Rattle.table.specs.declared.Row.{Row}
 use Rattle.levels.specs.declared.places.At.{At}
+use Rattle.levels.specs.declared.places.Sign.the-variants.{Negative, Positive}
 use Rattle.levels.specs.declared.places.Kind.the-variants.{Justification}
+use Rattle.levels.specs.declared.order.Action.{Action}
+use Rattle.levels.specs.declared.order.Action.the-variants.{Stuffed, PositiveCarries, BothCarry}
 use Rattle.levels.specs.Table.{Shared}
 use Rattle.levels.specs.Places.{kindOf, posOf}
 use Rattle.levels.specs.Order.{carried, carries}
 use Rattle.levels.proofs.Choice.{cond-by}
 use Rattle.levels.proofs.Positions.{pos-of-sum}
 use Rattle.levels.proofs.Sentences.{set-start}
-use Rattle.levels.proofs.Ways.{kind-word, kind-service, kind-first, kind-control, kind-justification, kind-after, kind-between}
+use Rattle.levels.proofs.Ways.{kind-word, kind-service, kind-first, kind-control, kind-negative, kind-positive, kind-after, kind-fixed, kind-between}
 
 -- the columns of a set, and of a frame
 abbrev pub wide : Row → ℕ
@@ -27,49 +30,54 @@ wide row = row .set / 4
 abbrev pub columns : Row → ℕ
 columns row = row .digits / 4
 
--- how many places the head of the last set takes, where st is the frame's decision: a justification place that carries lies past the head
-abbrev pub lastHead : Row → Bool → ℕ
-lastHead row st = cond st (row .last) (row .last - 4)
+-- how many places the head of the last set takes, in a frame that acts so: a justification place that carries lies past the head
+abbrev pub lastHead : Row → Action → ℕ
+lastHead row Stuffed = row .last
+lastHead row PositiveCarries = row .last - 4
+lastHead row BothCarry = 4
 
--- how many places the head of set s takes, and how many columns
-unfoldable pub headOf : Row → ℕ → Bool → ℕ
-headOf row s st = cond (eqb s 0) (row .first) (cond (eqb s (row .sets - 1)) (lastHead row st) (row .middle))
+-- how many places the head of set s takes, in a frame that acts so, and how many columns
+unfoldable pub headOf : Row → ℕ → Action → ℕ
+headOf row s act = cond (eqb s 0) (row .first) (cond (eqb s (row .sets - 1)) (lastHead row act) (row .middle))
 
-abbrev pub headColumns : Row → ℕ → Bool → ℕ
-headColumns row s st = headOf row s st / 4
+abbrev pub headColumns : Row → ℕ → Action → ℕ
+headColumns row s act = headOf row s act / 4
 
 module _ (row : Row) (sh : Shared row) where
   -- the heads, set by set
-  pub head-first : (st : Bool) → headOf row 0 st ≡ row .first
+  pub head-first : (act : Action) → headOf row 0 act ≡ row .first
   unfolding headOf
-  head-first st = refl
+  head-first act = refl
 
-  pub head-last : (s : ℕ) (st : Bool) → s + 1 ≡ row .sets → headOf row s st ≡ lastHead row st
+  pub head-last : (s : ℕ) (act : Action) → s + 1 ≡ row .sets → headOf row s act ≡ lastHead row act
   unfolding headOf
-  head-last s st end = rw (ne-eqb s 0 (λ e. omega (arith, sh .later-set)), eq-eqb s (row .sets - 1) (omega arith))
+  head-last s act end = rw (ne-eqb s 0 (λ e. omega (arith, sh .later-set)), eq-eqb s (row .sets - 1) (omega arith))
 
-  pub head-between : (s : ℕ) (st : Bool) → 0 < s → s + 1 ≢ row .sets → headOf row s st ≡ row .middle
+  pub head-between : (s : ℕ) (act : Action) → 0 < s → s + 1 ≢ row .sets → headOf row s act ≡ row .middle
   unfolding headOf
-  head-between s st later other =
-      rw (ne-eqb s 0 (λ e. omega arith), ne-eqb s (row .sets - 1) (λ e. other (omega (arith, sh .later-set))))
+  head-between s act later other = rw (ne-eqb s 0 (λ e. omega arith), ne-eqb s (row .sets - 1) (λ e. other (omega (arith, sh .later-set))))
 
   -- a head is whole columns
-  pub head-fours : (s : ℕ) (st : Bool) → headOf row s st % 4 ≡ 0
+  pub last-head-fours : (act : Action) → lastHead row act % 4 ≡ 0
+  last-head-fours Stuffed = sh .last-fours
+  last-head-fours PositiveCarries = omega (arith, sh .last-fours, sh .last-least)
+  last-head-fours BothCarry = refl
+
+  pub head-fours : (s : ℕ) (act : Action) → headOf row s act % 4 ≡ 0
   unfolding headOf
-  head-fours s st =
-      let fours : ℕ → Type 0 = λ (n : ℕ). n % 4 ≡ 0 in
-      cond-by fours (eqb s 0) (sh .first-fours)
-      (cond-by fours (eqb s (row .sets - 1)) (cond-by fours st (sh .last-fours) (omega (arith, sh .last-fours))) (sh .middle-fours))
+  head-fours s act =
+      cond-by (λ (n : ℕ). n % 4 ≡ 0) (eqb s 0) (sh .first-fours)
+      (cond-by (λ (n : ℕ). n % 4 ≡ 0) (eqb s (row .sets - 1)) (last-head-fours act) (sh .middle-fours))
 
   -- no place of the first set's head carries a digit, and each place past it does
-  first-carries : (r : ℕ) (st : Bool) → carried (kindOf row 0 r) st ≡ leb (row .first) r
-  first-carries r st =
+  first-carries : (r : ℕ) (act : Action) → carried (kindOf row 0 r) act ≡ leb (row .first) r
+  first-carries r act =
       elim (decLt r (row .first)) [
         | yes h ↦ none h ∙ sym (lt-leb (row .first) r h)
         | no h ↦ rw (kind-first row sh r (omega arith)) (sym (le-leb (row .first) r (omega arith)))
       ]
     where
-      none : r < row .first → carried (kindOf row 0 r) st ≡ false
+      none : r < row .first → carried (kindOf row 0 r) act ≡ false
       none h =
           elim (decLt r (row .len)) [
             | yes a ↦ rw (kind-word row sh r a)
@@ -79,46 +87,65 @@ module _ (row : Row) (sh : Shared row) where
           ]
 
   -- so of a set between
-  between-carries : (s r : ℕ) (st : Bool) → 0 < s → s + 1 ≢ row .sets → carried (kindOf row s r) st ≡ leb (row .middle) r
-  between-carries s r st later other =
+  between-carries : (s r : ℕ) (act : Action) → 0 < s → s + 1 ≢ row .sets → carried (kindOf row s r) act ≡ leb (row .middle) r
+  between-carries s r act later other =
       elim (decLt r (row .middle)) [
-        | yes h ↦ rw (kind-control row sh s later r (omega (arith, sh .middle-four))) (sym (lt-leb (row .middle) r h))
+        | yes h ↦ none h ∙ sym (lt-leb (row .middle) r h)
         | no h ↦ rw (kind-between row sh s later other r (omega arith)) (sym (le-leb (row .middle) r (omega arith)))
       ]
+    where
+      none : r < row .middle → carried (kindOf row s r) act ≡ false
+      none h =
+          elim (decLt r 4) [
+            | yes a ↦ rw (kind-control row sh s later r a)
+            | no a ↦ rw (kind-fixed row sh s later other r (omega arith) h)
+          ]
 
-  -- and of the last: the decision says whether the justification places lie in the head
-  last-carries : (s r : ℕ) (st : Bool) → 0 < s → s + 1 ≡ row .sets → carried (kindOf row s r) st ≡ leb (lastHead row st) r
-  last-carries s r st later end =
-      elim (decLt r (row .last - 4)) [
-        | yes a ↦ rw (kind-control row sh s later r (omega (arith, sh .last-eight))) (sym (lt-leb (lastHead row st) r (least st a)))
+  -- and of the last: what the frame does says how many of the justification places carry, and those that carry are the later ones
+  last-carries : (s r : ℕ) (act : Action) → 0 < s → s + 1 ≡ row .sets → carried (kindOf row s r) act ≡ leb (lastHead row act) r
+  last-carries s r act later end =
+      elim (decLt r 4) [
+        | yes a ↦ rw (kind-control row sh s later r a) (sym (lt-leb (lastHead row act) r (most act a)))
         | no a ↦
-            elim (decLt r (row .last)) [
-              | yes b ↦ rw (kind-justification row sh s later end r (omega arith) b) (justification st (omega arith) b)
-              | no b ↦ rw (kind-after row sh s later end r (omega arith)) (sym (le-leb (lastHead row st) r (most st (omega arith))))
+            elim (decLt r (row .last - 4)) [
+              | yes b ↦ rw (kind-negative row sh s later end r (omega arith) b) (negative act (omega arith) b)
+              | no b ↦
+                  elim (decLt r (row .last)) [
+                    | yes c ↦ rw (kind-positive row sh s later end r (omega arith) c) (positive act (omega arith) c)
+                    | no c ↦ rw (kind-after row sh s later end r (omega arith)) (sym (le-leb (lastHead row act) r (past act (omega arith))))
+                  ]
             ]
       ]
     where
-      least : (st : Bool) → r < row .last - 4 → r < lastHead row st
-      least true h = omega arith
-      least false h = h
+      most : (act : Action) → r < 4 → r < lastHead row act
+      most Stuffed h = omega (arith, sh .last-least)
+      most PositiveCarries h = omega (arith, sh .last-least)
+      most BothCarry h = h
 
-      justification : (st : Bool) → row .last - 4 ≤ r → r < row .last → carried Justification st ≡ leb (lastHead row st) r
-      justification true lo hi = sym (lt-leb (row .last) r hi)
-      justification false lo hi = sym (le-leb (row .last - 4) r lo)
+      negative : (act : Action) → 4 ≤ r → r < row .last - 4 → carried (Justification Negative) act ≡ leb (lastHead row act) r
+      negative Stuffed lo hi = sym (lt-leb (row .last) r (omega arith))
+      negative PositiveCarries lo hi = sym (lt-leb (row .last - 4) r hi)
+      negative BothCarry lo hi = sym (le-leb 4 r lo)
 
-      most : (st : Bool) → row .last ≤ r → lastHead row st ≤ r
-      most true h = h
-      most false h = omega arith
+      positive : (act : Action) → row .last - 4 ≤ r → r < row .last → carried (Justification Positive) act ≡ leb (lastHead row act) r
+      positive Stuffed lo hi = sym (lt-leb (row .last) r hi)
+      positive PositiveCarries lo hi = sym (le-leb (row .last - 4) r lo)
+      positive BothCarry lo hi = sym (le-leb 4 r (omega (arith, sh .last-least)))
 
-  -- a place carries a digit exactly if it lies past its set's head
-  pub place-carries : (s r : ℕ) (st : Bool) → carried (kindOf row s r) st ≡ leb (headOf row s st) r
-  place-carries s r st =
+      past : (act : Action) → row .last ≤ r → lastHead row act ≤ r
+      past Stuffed h = h
+      past PositiveCarries h = omega arith
+      past BothCarry h = omega (arith, sh .last-least)
+
+  -- a place carries a digit exactly if it does not stand in its set's head
+  pub place-carries : (s r : ℕ) (act : Action) → carried (kindOf row s r) act ≡ leb (headOf row s act) r
+  place-carries s r act =
       elim (ℕ-discrete s 0) [
-        | yes e ↦ rw (e, head-first st) (first-carries r st)
+        | yes e ↦ rw (e, head-first act) (first-carries r act)
         | no n ↦
             elim (ℕ-discrete (s + 1) (row .sets)) [
-              | yes end ↦ rw (head-last s st end) (last-carries s r st (omega arith) end)
-              | no other ↦ rw (head-between s st (omega arith) other) (between-carries s r st (omega arith) other)
+              | yes end ↦ rw (head-last s act end) (last-carries s r act (omega arith) end)
+              | no other ↦ rw (head-between s act (omega arith) other) (between-carries s r act (omega arith) other)
             ]
       ]
 
@@ -134,8 +161,8 @@ module _ (row : Row) (sh : Shared row) (j : ℕ) (jh : j < 4) where
   column-pos f s c hs hc =
       pos-of-sum row sh (4 * (f * columns row + (s * wide row + c)) + j) f s (4 * c + j) (omega (arith, frame-start f, set-start row sh s)) hs (omega (arith, sh .set-fours))
 
-  pub column-carries : (s c : ℕ) (st : Bool) → carried (kindOf row s (4 * c + j)) st ≡ leb (headColumns row s st) c
-  column-carries s c st = place-carries row sh s (4 * c + j) st ∙ whole-columns (headOf row s st) (head-fours row sh s st)
+  pub column-carries : (s c : ℕ) (act : Action) → carried (kindOf row s (4 * c + j)) act ≡ leb (headColumns row s act) c
+  column-carries s c act = place-carries row sh s (4 * c + j) act ∙ whole-columns (headOf row s act) (head-fours row sh s act)
     where
       whole-columns : (h : ℕ) → h % 4 ≡ 0 → leb h (4 * c + j) ≡ leb (h / 4) c
       whole-columns h e =
@@ -145,7 +172,7 @@ module _ (row : Row) (sh : Shared row) (j : ℕ) (jh : j < 4) where
           ]
 
   -- the same of a column of a line
-  pub line-carries : (decided : ℕ → Bool) (f s c : ℕ) → s < row .sets → c < wide row
-      → carries row decided (4 * (f * columns row + (s * wide row + c)) + j) ≡ leb (headColumns row s (decided f)) c
+  pub line-carries : (acts : ℕ → Action) (f s c : ℕ) → s < row .sets → c < wide row
+      → carries row acts (4 * (f * columns row + (s * wide row + c)) + j) ≡ leb (headColumns row s (acts f)) c
   unfolding carries
-  line-carries decided f s c hs hc = rw (column-pos f s c hs hc) (column-carries s c (decided f))
+  line-carries acts f s c hs hc = rw (column-pos f s c hs hc) (column-carries s c (acts f))

@@ -8,17 +8,18 @@ use native.Mathlib.Decide.{decLt, decLe, ℕ-discrete}
 use lib.ListN.{length, getD, length-append, List·getD-append}
 use lib.Seq.{getD-at}
 use Rattle.table.specs.declared.Row.{Row}
+use Rattle.levels.specs.declared.order.Action.{Action}
 use Rattle.levels.specs.Order.{carries, before, placesOf}
 
-module _ (row : Row) (decided : ℕ → Bool) (j : ℕ) where
+module _ (row : Row) (acts : ℕ → Action) (j : ℕ) where
   abbrev at : ℕ → Bool
-  at x = carries row decided (4 * x + j)
+  at x = carries row acts (4 * x + j)
 
   abbrev count : ℕ → ℕ
-  count x = before row decided j x
+  count x = before row acts j x
 
   abbrev places : ℕ → List ℕ
-  places x = placesOf row decided j x
+  places x = placesOf row acts j x
 
   pub places-length : (x : ℕ) → length (places x) ≡ count x
   unfolding placesOf before

@@ -13,7 +13,7 @@ use Rattle.levels.specs.Table.{Shared}
 use Rattle.levels.specs.Sizes.{framesOf, badLine, badNotes, badBuffer, framesRefusal, sizeRefusal, Framed, Accepted, Fits}
 
 pub room-small : (row : Row) → Shared row → (f : ℕ) → f ≤ 64 → f * row .room ≤ 47360
-room-small row sh f h = omega (arith, mul-le-mul {n₁ = f} {m₁ = row .room} {n₂ = 64} {m₂ = 740} h (omega (arith, sh .counted, sh .room-most, sh .short)))
+room-small row sh f h = omega (arith, mul-le-mul {n₁ = f} {m₁ = row .room} {n₂ = 64} {m₂ = 740} h (omega (arith, sh .counted, sh .most, sh .last-most, sh .short)))
 
 -- where neither of two faults is there
 neither : (a b : Bool) → not a || b ≡ false → (a ≡ true) × (b ≡ false)

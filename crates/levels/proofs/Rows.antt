@@ -9,7 +9,7 @@ use Rattle.digits.specs.Digits.{written, zerosIn}
 use Rattle.table.specs.declared.Row.{Row}
 use Rattle.table.specs.declared.Level.{Level}
 use Rattle.table.specs.declared.Level.the-variants.{Of, NoSuchLevel}
-use Rattle.table.specs.Table.{levelOf, row2, row3, row4}
+use Rattle.table.specs.Table.{levelOf, row2, row3, row4, row12, row14}
 use Rattle.levels.specs.Table.{Shared}
 use Rattle.levels.proofs.Choice.{cond-by}
 
@@ -25,6 +25,14 @@ pub shared4 : Shared row4
 unfolding zerosIn written
 shared4 = omega arith
 
+pub shared12 : Shared row12
+unfolding zerosIn written
+shared12 = omega arith
+
+pub shared14 : Shared row14
+unfolding zerosIn written
+shared14 = omega arith
+
 -- a level's row, where there is one, has the shared facts
 abbrev Known : Level → Type 0
 Known (Of row) = Shared row
@@ -32,7 +40,10 @@ Known NoSuchLevel = Unit {0}
 
 known : (level : ℕ) → Known (levelOf level)
 unfolding levelOf
-known level = cond-by Known (eqb level 2) shared2 (cond-by Known (eqb level 3) shared3 (cond-by Known (eqb level 4) shared4 tt))
+known level =
+    cond-by Known (eqb level 2) shared2
+    (cond-by Known (eqb level 3) shared3
+    (cond-by Known (eqb level 4) shared4 (cond-by Known (eqb level 12) shared12 (cond-by Known (eqb level 14) shared14 tt))))
 
 pub shared-row : (level : ℕ) (row : Row) → levelOf level ≡ Of row → Shared row
 shared-row level row e = subst Known e (known level)
@@ -51,4 +62,7 @@ byte-by level n h row other b = go (eqb level n) refl
 
 pub level-byte : (level : ℕ) (row : Row) → levelOf level ≡ Of row → level < 256
 unfolding levelOf
-level-byte level row e = subst (Byte level) e (byte-by level 2 (lit< tt) row2 _ (byte-by level 3 (lit< tt) row3 _ (byte-by level 4 (lit< tt) row4 NoSuchLevel tt)))
+level-byte level row e =
+    let fourteen = byte-by level 14 (lit< tt) row14 NoSuchLevel tt in
+    let twelve = byte-by level 12 (lit< tt) row12 _ fourteen in
+    subst (Byte level) e (byte-by level 2 (lit< tt) row2 _ (byte-by level 3 (lit< tt) row3 _ (byte-by level 4 (lit< tt) row4 _ twelve)))

@@ -1,7 +1,6 @@
 -- The runs between the heads of sets, over the row: a run is columns of tributary digits, one of each tributary, and a column of it
 -- moves each tributary's index on by one. Where the runs lie is read off the row: after the head of the first set, of a set between, of the last.
 use mathlib.Core.Path.{_≡_}
-use mathlib.Core.Bool.{Bool}
 use Prim.Native.Nat.{ℕ, zero, suc, _+_, _*_, _/_, _%_, _-_, _≤_, _<_}
 use native.Mathlib.Omega.{arith}
 use native.Mathlib.Decide.{ℕ-discrete}
@@ -12,6 +11,7 @@ use Rattle.table.specs.declared.Row.{Row}
 use Rattle.levels.specs.declared.places.Kind.the-variants.{Tributary}
 use Rattle.levels.specs.Table.{Shared}
 use Rattle.levels.specs.Places.{headEnd, kindOf, kindAt, posOf}
+use Rattle.levels.specs.declared.order.Action.{Action}
 use Rattle.levels.specs.Order.{carries, before}
 use Rattle.levels.proofs.Choice.{cond-by}
 use Rattle.levels.proofs.Columns.{wide, columns, column-pos}
@@ -22,12 +22,12 @@ abbrev pub Body : Row → ℕ → ℕ → Type 0
 Body row x k = (c : ℕ) → c < k → (j : ℕ) → j < 4 → kindAt row (4 * (x + c) + j) ≡ Tributary
 
 -- each tributary's index moves on by one a column
-pub before-run : (row : Row) (decided : ℕ → Bool) (x k : ℕ) → Body row x k → (j : ℕ) → j < 4
-    → before row decided j (x + k) ≡ before row decided j x + k
+pub before-run : (row : Row) (acts : ℕ → Action) (x k : ℕ) → Body row x k → (j : ℕ) → j < 4
+    → before row acts j (x + k) ≡ before row acts j x + k
 unfolding before carries
-before-run row decided x zero body j jh = rw (add-zero x) (omega arith)
-before-run row decided x (suc k) body j jh =
-    rw (add-suc x k, body k (omega arith) j jh, before-run row decided x k (λ c h. body c (omega arith)) j jh) (omega arith)
+before-run row acts x zero body j jh = rw (add-zero x) (omega arith)
+before-run row acts x (suc k) body j jh =
+    rw (add-suc x k, body k (omega arith) j jh, before-run row acts x k (λ c h. body c (omega arith)) j jh) (omega arith)
 
 module _ (row : Row) (sh : Shared row) where
   -- the heads, one after the other: their ends have what the row says of each
@@ -41,11 +41,22 @@ module _ (row : Row) (sh : Shared row) where
 
   pub head-end-short : (s : ℕ) → headEnd row s ≤ 16
   head-end-short =
-      by-head (λ (h : ℕ). h ≤ 16) (omega (arith, sh .alarm-next, sh .national-next, sh .first-next, sh .few-national, sh .word-short))
-      (omega (arith, sh .last-eight)) (omega (arith, sh .middle-four))
+      by-head (λ (h : ℕ). h ≤ 16) first-short (omega (arith, sh .last-most)) (omega (arith, sh .middle-most))
+    where
+      -- by the length of the word, of which the row has one of three
+      first-short : row .first ≤ 16
+      first-short =
+          elim (ℕ-discrete (row .len) 10) [
+            | yes e ↦ omega (arith, sh .ten e)
+            | no a ↦
+                elim (ℕ-discrete (row .len) 12) [
+                  | yes e ↦ omega (arith, sh .twelve e)
+                  | no b ↦ let e = sh .eight a b in omega (arith, e .1)
+                ]
+          ]
 
   pub head-end-in : (s : ℕ) → headEnd row s ≤ row .set
-  head-end-in = by-head (λ (h : ℕ). h ≤ row .set) (omega (arith, sh .room)) (sh .last-room) (omega (arith, sh .room, sh .middle-four))
+  head-end-in = by-head (λ (h : ℕ). h ≤ row .set) (omega (arith, sh .room)) (sh .last-room) (omega (arith, sh .room, sh .middle-most))
 
   -- past it all is tributary digits
   pub past-head : (s r : ℕ) → headEnd row s ≤ r → kindOf row s r ≡ Tributary

@@ -11,6 +11,7 @@ use lib.Pow.{pow-mono}
 use borrow.Author.Tests.{le-leb, lt-leb}
 use Rattle.table.specs.declared.Row.{Row}
 use Rattle.levels.specs.Table.{Shared}
+use Rattle.levels.specs.Places.{notedOf}
 use Rattle.levels.specs.Judging.{firstOver}
 
 module _ (limit : ℕ) (notes : List ℕ) (f : ℕ) where
@@ -34,7 +35,7 @@ module _ (limit : ℕ) (notes : List ℕ) (f : ℕ) where
       omega (arith, e, none)
 
 -- the limit as the code shifts it
-pub limit-is : (row : Row) → Shared row → 1 * 2 ^ (5 + row .nationals) % 2 ^ 64 ≡ 2 ^ (5 + row .nationals)
+pub limit-is : (row : Row) → Shared row → 1 * 2 ^ (4 + notedOf row) % 2 ^ 64 ≡ 2 ^ (4 + notedOf row)
 limit-is row sh =
-    let small = pow-mono {i = 5 + row .nationals} {j = 8} (omega (arith, sh .few-national)) in
-    rw (one-mul (2 ^ (5 + row .nationals))) (mod-eq-of-lt (omega (arith, small)))
+    let small = pow-mono {i = 4 + notedOf row} {j = 8} (omega (arith, sh .few-alarm, sh .few-national)) in
+    rw (one-mul (2 ^ (4 + notedOf row))) (mod-eq-of-lt (omega (arith, small)))

@@ -22,27 +22,32 @@ pub record Shared (row : Row) : Type 0 where
   pub last-fours : row .last % 4 ≡ 0
   pub room : row .first + 8 ≤ row .set
   pub last-room : row .last ≤ row .set
-  -- the head of the first set is the word, the remote alarm digit, up to three national digits
+  -- the head of the first set is the word, the remote alarm digit and up to three national digits, where there are any, then service digits
+  -- that no note has
   pub alarm-next : row .alarm ≡ row .len
-  pub national-next : row .national ≡ row .alarm + 1
-  pub few-national : row .nationals ≤ 3
-  pub first-next : row .first ≡ row .national + row .nationals
-  -- a word of ten digits has tributary digits from place 12 on; the only other word has twelve, and 16
+  pub national-next : row .national ≡ row .alarm + row .alarms
+  pub few-alarm : row .alarms ≤ 1
+  pub few-national : row .nationals ≤ 3 * row .alarms
+  pub first-next : row .national + row .nationals ≤ row .first
+  -- a word of ten digits has tributary digits from place 12 on, one of twelve from 16; the only other word has eight, and 8
   pub ten : row .len ≡ 10 → row .first ≡ 12
-  pub twelve : row .len ≢ 10 → (row .len ≡ 12) × (row .first ≡ 16)
-  -- the head of a set between is four control digits, that of the last set four control and four justification digits
-  pub middle-four : row .middle ≡ 4
-  pub last-eight : row .last ≡ 8
+  pub twelve : row .len ≡ 12 → row .first ≡ 16
+  pub eight : row .len ≢ 10 → row .len ≢ 12 → (row .len ≡ 8) × (row .first ≡ 8)
+  -- the head of a set between is the control digits, and four service digits or none
+  pub middle-least : 4 ≤ row .middle
+  pub middle-most : row .middle ≤ 8
+  -- that of the last set the control digits, a negative place for each tributary or none, and a positive place for each
+  pub last-least : 8 ≤ row .last
+  pub last-most : row .last ≤ 12
   -- the word has L digits, more than one
   pub word-some : 2 ≤ row .len
   pub word-fits : row .word < 2 ^ row .len
   -- and more zeros than are few, so that frames are no alarm indication, whatever stands between the words
   pub limit-word : row .limit < zerosIn (written (row .len) (row .word))
-  -- the digits per tributary: a column of four places for each, less the heads; the justification place carries
+  -- the digits per tributary: a column of four places for each, less the heads; the positive place carries
   pub counted : row .n + row .first / 4 + (row .sets - 2) * (row .middle / 4) + row .last / 4 ≡ row .digits / 4 + 1
-  -- there is room for them, and for at most one more
-  pub room-least : row .n ≤ row .room
-  pub room-most : row .room ≤ row .n + 1
+  -- there is room for them, and for one more where there is a negative place
+  pub most : row .room + 2 ≡ row .n + row .last / 4
   -- the largest row
   pub short : row .digits ≤ 2928
   pub few-sets : row .sets ≤ 6

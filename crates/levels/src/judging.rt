@@ -1,11 +1,12 @@
 // What a call that goes by notes is judged by, refusals 2 to 5, and what it answers. Multiplexing and extracting by notes share it.
+use crate::order;
 use crate::sizes;
 use table::Row;
 ghost use mathlib.Core.Path.{_≡_};
 ghost use Prim.Native.Nat.{_^_, _<_};
 ghost use lib.ListN.{length};
 ghost use Rattle.levels.specs.Table.{Shared};
-ghost use Rattle.levels.specs.Judging.{firstFaulty, faultOf, refusedWith};
+ghost use Rattle.levels.specs.Judging.{firstFaulty, badEarlier, faultOf, refusedWith};
 
 // Why a call is refused, and the frame that the refusal names; number 0 where nothing is at fault.
 pub struct Fault {
@@ -35,7 +36,7 @@ fn first_faulty(row: Row, notes: &[u8]) -> usize
     requires { ⌜ Shared row ⌝ }
     ensures { λ r. ⌜ r ≡ firstFaulty row (now (notes .entry)) ⌝ }
 {
-    let limit: usize = 1 << (5 + row.nationals);
+    let limit: usize = 1 << (4 + (row.alarms + row.nationals));
     let mut f: usize = 0;
     while f < notes.len() {
         if limit <= notes[f] as usize {
@@ -46,15 +47,31 @@ fn first_faulty(row: Row, notes: &[u8]) -> usize
     f
 }
 
-// The first fault of 2 to 5 that applies to a line of so many bytes, these notes and a buffer of so many bytes.
-pub fn fault_of(row: Row, line: usize, notes: &[u8], buffer: usize) -> Fault
+// Whether the vote before frame 0 is over 15, where the level looks at it.
+pub fn bad_earlier(row: Row, earlier: u64) -> bool
+    ensures { λ r. ⌜ r ≡ badEarlier row earlier ⌝ }
+{
+    if order::has_negative(row) {
+        return 15 < earlier;
+    }
+    false
+}
+
+// The first fault of 2 to 5 that applies to an earlier vote, a line of so many bytes, these notes and a buffer of so many bytes.
+pub fn fault_of(row: Row, earlier: u64, line: usize, notes: &[u8], buffer: usize) -> Fault
     requires { ⌜ Shared row × (buffer < 2 ^ 63) ⌝ }
-    ensures { λ r. ⌜ r ≡ faultOf row line (now (notes .entry)) buffer ⌝ }
+    ensures { λ r. ⌜ r ≡ faultOf row earlier line (now (notes .entry)) buffer ⌝ }
 {
     let no = sizes::size_refusal(row, line, notes.len(), buffer);
     if no != 0 {
         return Fault {
             refusal: no,
+            frame: 0,
+        };
+    }
+    if bad_earlier(row, earlier) {
+        return Fault {
+            refusal: 5,
             frame: 0,
         };
     }

@@ -1,21 +1,21 @@
 // What a place of a frame is, and the walk along a tributary's own places, a column of four places at a time.
 use table::CONTROL_END;
-use table::JUSTIFICATION;
-use table::JUSTIFICATION_END;
+use table::EIGHT_END;
 use table::Row;
+use table::SECOND;
+use table::SECOND_END;
 use table::TEN_ALARM;
 use table::TEN_END;
 use table::TEN_NATIONAL;
+use table::THIRD;
+use table::THIRD_END;
 use table::TWELVE_ALARM;
 use table::TWELVE_END;
-use table::TWELVE_NATIONAL;
-use table::TWELVE_SECOND;
 use table::TWELVE_THIRD;
 ghost use mathlib.Core.Path.{_≡_};
 ghost use Prim.Native.Nat.{ℕ, _+_, _%_, _<_, _≤_};
-ghost use Rattle.table.specs.Table.{row2, row4};
 ghost use Rattle.levels.specs.Table.{Shared};
-ghost use Rattle.levels.specs.Places.{firstSet, middleSet, lastSet, headEnd, kindOf, kindAt, posOf, isOwn};
+ghost use Rattle.levels.specs.Places.{serviceDigit, firstSet, middleSet, lastSet, headEnd, kindOf, kindAt, posOf, isOwn};
 
 // A place in a frame, 0 to N - 1, counted on from frame to frame in a line, and a place in a tributary: the number of a digit in
 // its quarter. Two kinds of numbers: lent.rt reads and writes a line by the one and a quarter by the other.
@@ -28,13 +28,21 @@ pub enum ServiceDigit {
     FirstNational,
     SecondNational,
     ThirdNational,
+    // in no note: sent as 1 and never reported
+    Fixed,
+}
+
+// A positive place is left out by stuffing, a negative place carries a digit more.
+pub enum Sign {
+    Negative,
+    Positive,
 }
 
 pub enum Kind {
     Word,
     Service(ServiceDigit),
     Control,
-    Justification,
+    Justification(Sign),
     Tributary,
 }
 
@@ -45,28 +53,53 @@ pub struct At {
     pub place: usize,
 }
 
+// Service digit k of the first set's head: those that a note has, in the order of its bits, then those that no note has.
+fn service_digit(row: Row, k: usize) -> ServiceDigit
+    requires { ⌜ Shared row ⌝ }
+    ensures { λ s. ⌜ s ≡ serviceDigit row k ⌝ }
+{
+    if row.alarms + row.nationals <= k {
+        return ServiceDigit::Fixed;
+    }
+    match k {
+        0 => ServiceDigit::RemoteAlarm,
+        1 => ServiceDigit::FirstNational,
+        2 => ServiceDigit::SecondNational,
+        _ => ServiceDigit::ThirdNational,
+    }
+}
+
+// Place r of a first set whose word has eight digits.
+fn head_of_eight(row: Row, r: usize) -> Kind
+    requires { ⌜ Shared row × (row .len ≡ 8) × (row .first ≡ 8) ⌝ }
+    ensures { λ k. ⌜ k ≡ firstSet row r ⌝ }
+{
+    match r {
+        0..=EIGHT_END => Kind::Word,
+        _ => Kind::Tributary,
+    }
+}
+
 // Place r of a first set whose word has ten digits.
-fn head_of_ten(r: usize) -> Kind
-    ensures { λ k. ⌜ k ≡ firstSet row2 r ⌝ }
+fn head_of_ten(row: Row, r: usize) -> Kind
+    requires { ⌜ Shared row × (row .len ≡ 10) ⌝ }
+    ensures { λ k. ⌜ k ≡ firstSet row r ⌝ }
 {
     match r {
         0..=TEN_END => Kind::Word,
-        TEN_ALARM => Kind::Service(ServiceDigit::RemoteAlarm),
-        TEN_NATIONAL => Kind::Service(ServiceDigit::FirstNational),
+        TEN_ALARM..=TEN_NATIONAL => Kind::Service(service_digit(row, r - TEN_ALARM)),
         _ => Kind::Tributary,
     }
 }
 
 // Place r of a first set whose word has twelve digits.
-fn head_of_twelve(r: usize) -> Kind
-    ensures { λ k. ⌜ k ≡ firstSet row4 r ⌝ }
+fn head_of_twelve(row: Row, r: usize) -> Kind
+    requires { ⌜ Shared row × (row .len ≡ 12) ⌝ }
+    ensures { λ k. ⌜ k ≡ firstSet row r ⌝ }
 {
     match r {
         0..=TWELVE_END => Kind::Word,
-        TWELVE_ALARM => Kind::Service(ServiceDigit::RemoteAlarm),
-        TWELVE_NATIONAL => Kind::Service(ServiceDigit::FirstNational),
-        TWELVE_SECOND => Kind::Service(ServiceDigit::SecondNational),
-        TWELVE_THIRD => Kind::Service(ServiceDigit::ThirdNational),
+        TWELVE_ALARM..=TWELVE_THIRD => Kind::Service(service_digit(row, r - TWELVE_ALARM)),
         _ => Kind::Tributary,
     }
 }
@@ -77,28 +110,53 @@ fn first_set(row: Row, r: usize) -> Kind
     ensures { λ k. ⌜ k ≡ firstSet row r ⌝ }
 {
     if row.len == TEN_END + 1 {
-        return head_of_ten(r);
+        return head_of_ten(row, r);
     }
-    head_of_twelve(r)
+    if row.len == TWELVE_END + 1 {
+        return head_of_twelve(row, r);
+    }
+    head_of_eight(row, r)
 }
 
 // Place r of a set between the first and the last.
-fn middle_set(r: usize) -> Kind
-    ensures { λ k. ⌜ k ≡ middleSet row2 r ⌝ }
+fn middle_set(row: Row, r: usize) -> Kind
+    requires { ⌜ Shared row ⌝ }
+    ensures { λ k. ⌜ k ≡ middleSet row r ⌝ }
 {
     match r {
         0..=CONTROL_END => Kind::Control,
+        SECOND..=SECOND_END => {
+            if row.middle == SECOND_END + 1 {
+                Kind::Service(ServiceDigit::Fixed)
+            } else {
+                Kind::Tributary
+            }
+        }
         _ => Kind::Tributary,
     }
 }
 
 // Place r of the last set.
-fn last_set(r: usize) -> Kind
-    ensures { λ k. ⌜ k ≡ lastSet row2 r ⌝ }
+fn last_set(row: Row, r: usize) -> Kind
+    requires { ⌜ Shared row ⌝ }
+    ensures { λ k. ⌜ k ≡ lastSet row r ⌝ }
 {
     match r {
         0..=CONTROL_END => Kind::Control,
-        JUSTIFICATION..=JUSTIFICATION_END => Kind::Justification,
+        SECOND..=SECOND_END => {
+            if row.last == THIRD_END + 1 {
+                Kind::Justification(Sign::Negative)
+            } else {
+                Kind::Justification(Sign::Positive)
+            }
+        }
+        THIRD..=THIRD_END => {
+            if row.last == THIRD_END + 1 {
+                Kind::Justification(Sign::Positive)
+            } else {
+                Kind::Tributary
+            }
+        }
         _ => Kind::Tributary,
     }
 }
@@ -113,9 +171,9 @@ pub fn kind_of(row: Row, at: At) -> Kind
         return first_set(row, r);
     }
     if at.set == row.sets - 1 {
-        return last_set(r);
+        return last_set(row, r);
     }
-    middle_set(r)
+    middle_set(row, r)
 }
 
 // Where the head of a set ends: its first tributary place. From there to the set's end is a run of tributary digits.
@@ -161,7 +219,7 @@ pub fn is_own(kind: Kind) -> bool
         Kind::Word => false,
         Kind::Service(_) => false,
         Kind::Control => true,
-        Kind::Justification => true,
+        Kind::Justification(_) => true,
         Kind::Tributary => true,
     }
 }

@@ -12,13 +12,13 @@ use Rattle.multiplex.proofs.multiplex.{signature, ended}
 use Rattle.multiplex.proofs.multiplex.Reads.{Asked, Learnt}
 
 -- what two runs of the call may answer and leave, on the same input, is the same
-pub no-second-answer : (level : ℕ) (line notes buffer : List ℕ) (a b : Counted) (l m : List ℕ) → Met level line notes buffer a l → Met level line notes buffer b m
+pub no-second-answer : (level earlier : ℕ) (line notes buffer : List ℕ) (a b : Counted) (l m : List ℕ) → Met level earlier line notes buffer a l → Met level earlier line notes buffer b m
     → (a ≡ b) × (l ≡ m)
-no-second-answer level line notes buffer a b l m x y = (x .0 ∙ sym (y .0), x .1 ∙ sym (y .1))
+no-second-answer level earlier line notes buffer a b l m x y = (x .0 ∙ sym (y .0), x .1 ∙ sym (y .1))
 
 -- and what the call ensures is that statement
 pub call-met : (κs : Lfts 3) (a : ArgsD signature κs) (r : ResD signature κs) (e : AtExit ended κs) → Learnt κs a r e
-    → Met (a .0) (now (a .1 .0)) (now (a .1 .1 .0)) (now (a .1 .1 .1 .0)) r (now (e .1 .0))
+    → Met (a .0) (a .1 .0) (now (a .1 .1 .0)) (now (a .1 .1 .1 .0)) (now (a .1 .1 .1 .1 .0)) r (now (e .1 .1 .0))
 call-met κs a r e met = met
 
 -- and it asks nothing of its caller

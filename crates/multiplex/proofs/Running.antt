@@ -16,7 +16,7 @@ use Rattle.weave.specs.Weave.{woven, Has}
 use Rattle.table.specs.declared.Row.{Row}
 use Rattle.levels.specs.Table.{Shared}
 use Rattle.levels.specs.Places.{headEnd, kindAt}
-use Rattle.levels.specs.Order.{decisions, before, countOf, countsOf}
+use Rattle.levels.specs.Order.{actions, before, countOf, countsOf}
 use Rattle.levels.specs.Sizes.{quarterOf, Accepted, Fits}
 use Rattle.levels.proofs.Buffers.{quarter-length}
 use Rattle.levels.proofs.Columns.{wide, columns, frame-start}
@@ -30,13 +30,13 @@ use Rattle.multiplex.specs.Line.{lineDigit, lineOf}
 use Rattle.multiplex.specs.Sending.{tributaryOf, nextOf, Ran, Sent, Sending, AllSent}
 use Rattle.multiplex.proofs.Placing.{Headed}
 
-module _ (row : Row) (notes buffer : List ℕ) where
+module _ (row : Row) (earlier : ℕ) (notes buffer : List ℕ) where
   abbrev line : ℕ → ℕ
-  line = lineDigit row notes (tributaryOf buffer)
+  line = lineDigit row earlier notes (tributaryOf buffer)
 
   -- n digits more
-  pub sending-more : (p p′ n : ℕ) (l l′ : List ℕ) (w r : Writer) (next next′ ds : List ℕ) → Sending row notes buffer p l w next → Appended l l′ w r n ds
-      → length l′ ≡ length l → p′ ≡ p + n → Sent row notes buffer p′ next′ (outFrom 0 l w ++ ds) → Sending row notes buffer p′ l′ r next′
+  pub sending-more : (p p′ n : ℕ) (l l′ : List ℕ) (w r : Writer) (next next′ ds : List ℕ) → Sending row earlier notes buffer p l w next → Appended l l′ w r n ds
+      → length l′ ≡ length l → p′ ≡ p + n → Sent row earlier notes buffer p′ next′ (outFrom 0 l w ++ ds) → Sending row earlier notes buffer p′ l′ r next′
   sending-more p p′ n l l′ w r next next′ ds s more kept e sent =
       record {
         fits = rw kept (s .fits);
@@ -46,18 +46,18 @@ module _ (row : Row) (notes buffer : List ℕ) where
       }
 
   -- a head more
-  pub head-sent : (p end word : ℕ) (l l′ : List ℕ) (w r : Writer) (next next′ : List ℕ) → Sending row notes buffer p l w next
-      → Appended l l′ w r end (written end word) → length l′ ≡ length l → Headed row notes buffer p (outFrom 0 l w) end word next′
-      → Sending row notes buffer (p + end) l′ r next′
+  pub head-sent : (p end word : ℕ) (l l′ : List ℕ) (w r : Writer) (next next′ : List ℕ) → Sending row earlier notes buffer p l w next
+      → Appended l l′ w r end (written end word) → length l′ ≡ length l → Headed row earlier notes buffer p (outFrom 0 l w) end word next′
+      → Sending row earlier notes buffer (p + end) l′ r next′
   head-sent p end word l l′ w r next next′ s more kept h = sending-more p (p + end) end l l′ w r next next′ (written end word) s more kept refl (h .sent)
 
   -- ---- a run
 
-  module _ (x : ℕ) (next out : List ℕ) (was : Sent row notes buffer (4 * x) next out) where
+  module _ (x : ℕ) (next out : List ℕ) (was : Sent row earlier notes buffer (4 * x) next out) where
     abbrev index : ℕ → ℕ
     index j = getD next j 0
 
-    now : (j : ℕ) → j < 4 → index j ≡ before row (decisions notes j) j x
+    now : (j : ℕ) → j < 4 → index j ≡ before row (actions row earlier notes j) j x
     now j h = let e : (4 * x + 3 - j) / 4 ≡ x = omega arith in was .index j h ∙ rw e
 
     run-digit : (k : ℕ) → Body row x k → (c : ℕ) → c < k → (j : ℕ) → j < 4 → line (4 * (x + c) + j) ≡ getD (tributaryOf buffer j) (index j + c) 0
@@ -65,7 +65,7 @@ module _ (row : Row) (notes buffer : List ℕ) where
     run-digit k body c h j jh =
         let column : (4 * (x + c) + j) / 4 ≡ x + c = omega arith in
         let mine : (4 * (x + c) + j) % 4 ≡ j = omega arith in
-        rw (body c h j jh, mine, column, before-run row (decisions notes j) x c (λ d l. body d (omega arith)) j jh, now j jh)
+        rw (body c h j jh, mine, column, before-run row (actions row earlier notes j) x c (λ d l. body d (omega arith)) j jh, now j jh)
 
     -- its digits are the woven columns
     run-woven : (k : ℕ) → Body row x k
@@ -81,14 +81,14 @@ module _ (row : Row) (notes buffer : List ℕ) where
 
     pub sent-run : (k p : ℕ) → Body row x k → p ≡ 4 * x + 4 * k → (next′ : List ℕ)
         → next′ ≡ (index 0 + k) ∷ (index 1 + k) ∷ (index 2 + k) ∷ (index 3 + k) ∷ []
-        → Sent row notes buffer p next′ (out ++ woven k (tributaryOf buffer 0) (tributaryOf buffer 1) (tributaryOf buffer 2) (tributaryOf buffer 3) (nextOf next))
+        → Sent row earlier notes buffer p next′ (out ++ woven k (tributaryOf buffer 0) (tributaryOf buffer 1) (tributaryOf buffer 2) (tributaryOf buffer 3) (nextOf next))
     sent-run k p body e next′ e′ =
         let moved : (j : ℕ) → j < 4 → getD next′ j 0 ≡ index j + k = of-four (λ (j : ℕ). getD next′ j 0 ≡ index j + k) (rw e′) (rw e′) (rw e′) (rw e′) in
         record {
           four = rw e′ refl;
           index = λ j h.
               let column : (p + 3 - j) / 4 ≡ x + k = omega arith in
-              moved j h ∙ rw (column, before-run row (decisions notes j) x k body j h, now j h);
+              moved j h ∙ rw (column, before-run row (actions row earlier notes j) x k body j h, now j h);
           digits = rw (was .digits, run-woven k body, e, tab-cat (4 * x) (4 * k) 0 line, zero-add (4 * x));
         }
 
@@ -109,12 +109,12 @@ module _ (row : Row) (line F quarter : ℕ) (fits : Fits row line F quarter) whe
       omega (arith, line-whole, last, later, add-mul f 1 (row .digits), sh .room)
 
   -- a tributary's digits up to any column of it have room
-  pub before-room : (notes : List ℕ) (j : ℕ) → j < 4 → (x : ℕ) → x ≤ 2 * line
-      → (before row (decisions notes j) j x ≤ 8 * quarter) × (before row (decisions notes j) j x < 65536)
-  before-room notes j jh x h =
-      let rises = before-rises row (decisions notes j) j x (2 * line) h in
-      let all = count-of row sh j jh (decisions notes j) F line (fits .whole) in
-      let most = count-room row sh j jh (decisions notes j) F in
+  pub before-room : (earlier : ℕ) (notes : List ℕ) (j : ℕ) → j < 4 → (x : ℕ) → x ≤ 2 * line
+      → (before row (actions row earlier notes j) j x ≤ 8 * quarter) × (before row (actions row earlier notes j) j x < 65536)
+  before-room earlier notes j jh x h =
+      let rises = before-rises row (actions row earlier notes j) j x (2 * line) h in
+      let all = count-of row sh j jh (actions row earlier notes j) F line (fits .whole) in
+      let most = count-room row sh j jh (actions row earlier notes j) F in
       (omega (arith, rises, all, most, fits .room), omega (arith, rises, all, most, room-small row sh F (fits .few)))
 
 -- ---- the quarters as they are lent
@@ -134,8 +134,8 @@ module _ (buffer : List ℕ) where
 
 -- ---- the run of a set
 
-module _ (row : Row) (notes buffer : List ℕ) (f s : ℕ) (hf : f < length notes) (hs : s < row .sets) (l : List ℕ) (w : Writer) (next : List ℕ)
-    (was : Sending row notes buffer (f * row .digits + (s * row .set + headEnd row s)) l w next) (n : ℕ) (size : n ≡ (row .set - headEnd row s) / 4) where
+module _ (row : Row) (earlier : ℕ) (notes buffer : List ℕ) (f s : ℕ) (hf : f < length notes) (hs : s < row .sets) (l : List ℕ) (w : Writer) (next : List ℕ)
+    (was : Sending row earlier notes buffer (f * row .digits + (s * row .set + headEnd row s)) l w next) (n : ℕ) (size : n ≡ (row .set - headEnd row s) / 4) where
   abbrev shared : Shared row
   shared = was .fits .shared
 
@@ -165,9 +165,9 @@ module _ (row : Row) (notes buffer : List ℕ) (f s : ℕ) (hf : f < length note
   room : (j : ℕ) → j < 4 → (getD next j 0 + n ≤ 8 * (length buffer / 4)) × (getD next j 0 + n < 65536)
   room j jh =
       let e : (f * row .digits + (s * row .set + headEnd row s) + 3 - j) / 4 ≡ x = omega (arith, starts) in
-      let on : before row (decisions notes j) j (x + n) ≡ getD next j 0 + n =
-      before-run row (decisions notes j) x n body j jh ∙ rw (was .sent .index j jh, e) in
-      rw on at (before-room row (length l) (length notes) (length buffer / 4) (was .fits) notes j jh (x + n) (omega (arith, within)))
+      let on : before row (actions row earlier notes j) j (x + n) ≡ getD next j 0 + n =
+      before-run row (actions row earlier notes j) x n body j jh ∙ rw (was .sent .index j jh, e) in
+      rw on at (before-room row (length l) (length notes) (length buffer / 4) (was .fits) earlier notes j jh (x + n) (omega (arith, within)))
 
   -- and the quarters have digits for it
   pub run-has : Has (quarterOf buffer 0) (quarterOf buffer 1) (quarterOf buffer 2) (quarterOf buffer 3) (nextOf next) n
@@ -185,28 +185,28 @@ module _ (row : Row) (notes buffer : List ℕ) (f s : ℕ) (hf : f < length note
       }
 
   pub run-sent : (l′ : List ℕ) (r : Writer) (next′ : List ℕ) → Ran buffer next n l l′ w r next′ → length l′ ≡ length l
-      → Sending row notes buffer (f * row .digits + (s + 1) * row .set) l′ r next′
+      → Sending row earlier notes buffer (f * row .digits + (s + 1) * row .set) l′ r next′
   run-sent l′ r next′ ran kept =
       let from = f * row .digits + (s * row .set + headEnd row s) in
       let to = f * row .digits + (s + 1) * row .set in
-      sending-more row notes buffer from to (4 * n) l l′ w r next next′ _ was (ran .columns) kept (omega (arith, starts, ends))
-      (sent-run row notes buffer x next (outFrom 0 l w) (rw starts at (was .sent)) n to body ends next′ (ran .index))
+      sending-more row earlier notes buffer from to (4 * n) l l′ w r next next′ _ was (ran .columns) kept (omega (arith, starts, ends))
+      (sent-run row earlier notes buffer x next (outFrom 0 l w) (rw starts at (was .sent)) n to body ends next′ (ran .index))
 
 -- ---- frames
 
-module _ (row : Row) (notes buffer : List ℕ) (f : ℕ) (l : List ℕ) (w : Writer) (next : List ℕ) where
-  pub set-first : Sending row notes buffer (f * row .digits) l w next → Sending row notes buffer (f * row .digits + 0 * row .set) l w next
+module _ (row : Row) (earlier : ℕ) (notes buffer : List ℕ) (f : ℕ) (l : List ℕ) (w : Writer) (next : List ℕ) where
+  pub set-first : Sending row earlier notes buffer (f * row .digits) l w next → Sending row earlier notes buffer (f * row .digits + 0 * row .set) l w next
   set-first s = let e : f * row .digits + 0 * row .set ≡ f * row .digits = omega (arith, zero-mul (row .set)) in rw e s
 
-  pub frame-last : Sending row notes buffer (f * row .digits + row .sets * row .set) l w next → Sending row notes buffer ((f + 1) * row .digits) l w next
+  pub frame-last : Sending row earlier notes buffer (f * row .digits + row .sets * row .set) l w next → Sending row earlier notes buffer ((f + 1) * row .digits) l w next
   frame-last s =
       let e : (f + 1) * row .digits ≡ f * row .digits + row .sets * row .set = omega (arith, add-mul f 1 (row .digits), s .fits .shared .whole) in
       rw e s
 
 -- ---- the start and the end
 
-module _ (row : Row) (sh : Shared row) (notes buffer old : List ℕ) (ok : Accepted row (length old) (length notes) (length buffer)) where
-  pub sending-start : Sending row notes buffer (0 * row .digits) old (record { at = 0; held = 0; fill = 0 }) (0 ∷ 0 ∷ 0 ∷ 0 ∷ [])
+module _ (row : Row) (sh : Shared row) (earlier : ℕ) (notes buffer old : List ℕ) (ok : Accepted row (length old) (length notes) (length buffer)) where
+  pub sending-start : Sending row earlier notes buffer (0 * row .digits) old (record { at = 0; held = 0; fill = 0 }) (0 ∷ 0 ∷ 0 ∷ 0 ∷ [])
   unfolding outFrom digitsOf written tab before
   sending-start =
       rw (zero-mul (row .digits))
@@ -216,15 +216,15 @@ module _ (row : Row) (sh : Shared row) (notes buffer old : List ℕ) (ok : Accep
         place = refl;
         sent = record {
           four = refl;
-          index = of-four (λ (j : ℕ). getD (0 ∷ 0 ∷ 0 ∷ 0 ∷ []) j 0 ≡ before row (decisions notes j) j ((0 + 3 - j) / 4)) refl refl refl refl;
+          index = of-four (λ (j : ℕ). getD (0 ∷ 0 ∷ 0 ∷ 0 ∷ []) j 0 ≡ before row (actions row earlier notes j) j ((0 + 3 - j) / 4)) refl refl refl refl;
           digits = refl;
         };
       })
 
-  module _ (l l′ : List ℕ) (w r : Writer) (next : List ℕ) (kept : length l ≡ length old) (all : Sending row notes buffer (length notes * row .digits) l w next)
+  module _ (l l′ : List ℕ) (w r : Writer) (next : List ℕ) (kept : length l ≡ length old) (all : Sending row earlier notes buffer (length notes * row .digits) l w next)
       (done : Finished l l′ w r) (kept′ : length l′ ≡ length l) (bytes : Bytes l′) where
     abbrev lines : ℕ → ℕ
-    lines = lineDigit row notes (tributaryOf buffer)
+    lines = lineDigit row earlier notes (tributaryOf buffer)
 
     whole : 8 * length l ≡ length notes * row .digits
     whole = line-whole row (length l) (length notes) (length buffer / 4) (all .fits)
@@ -244,15 +244,15 @@ module _ (row : Row) (sh : Shared row) (notes buffer old : List ℕ) (ok : Accep
         let e : length notes * row .digits ≡ 8 * length old = omega (arith, whole, kept) in
         sym mine ∙ out ∙ append-nil (outFrom 0 l w) ∙ all .sent .digits ∙ rw e
 
-    pub all-sent : AllSent row notes buffer old next l′
+    pub all-sent : AllSent row earlier notes buffer old next l′
     unfolding tab
     all-sent =
         record {
-          counted = tab-of next 4 (λ (k : ℕ). countOf row (decisions notes k) (length notes)) (all .sent .four) counted;
+          counted = tab-of next 4 (λ (k : ℕ). countOf row (actions row earlier notes k) (length notes)) (all .sent .four) counted;
           line = sym (bytes-of-digits l′ bytes) ∙ rw (kept′, kept) (ap (λ (ds : List ℕ). bytesOf (length old) ds) digits-out);
         }
       where
-        counted : (j : ℕ) → j < 4 → getD next j 0 ≡ countOf row (decisions notes j) (length notes)
+        counted : (j : ℕ) → j < 4 → getD next j 0 ≡ countOf row (actions row earlier notes j) (length notes)
         counted j h =
             let column : (length notes * row .digits + 3 - j) / 4 ≡ 2 * length l = omega (arith, whole) in
-            all .sent .index j h ∙ rw column (count-of row sh j h (decisions notes j) (length notes) (length l) (all .fits .whole))
+            all .sent .index j h ∙ rw column (count-of row sh j h (actions row earlier notes j) (length notes) (length l) (all .fits .whole))

@@ -1,7 +1,7 @@
 -- A line on its way: what the inner functions leave, set by set. The public call's definitions are in specs/Line.antt and
 -- specs/Multiplex.antt; these lie between them and the loops.
 use mathlib.Core.Path.{_≡_}
-use mathlib.Core.Bool.{Bool, cond}
+use mathlib.Core.Bool.{cond}
 use mathlib.Core.List.{List, [], _∷_}
 use Prim.Native.Nat.{ℕ, _+_, _*_, _-_, _/_, _%_, _<_}
 use lib.Dec.{eqb}
@@ -12,10 +12,9 @@ use Rattle.words.specs.Words.{Ready, outFrom, Appended}
 use Rattle.weave.specs.declared.Next.{Next}
 use Rattle.weave.specs.Weave.{woven}
 use Rattle.table.specs.declared.Row.{Row}
-use Rattle.levels.specs.declared.places.Kind.{Kind}
-use Rattle.levels.specs.declared.places.Kind.the-variants.{Word, Service, Control, Justification, Tributary}
+use Rattle.levels.specs.declared.order.Action.{Action}
 use Rattle.levels.specs.Places.{kindOf}
-use Rattle.levels.specs.Order.{stuffed, decisions, carried, before, countsOf}
+use Rattle.levels.specs.Order.{actions, carried, before, countsOf}
 use Rattle.levels.specs.Sizes.{quarterOf, Fits}
 use Rattle.multiplex.specs.Line.{digitBy, lineDigit, lineOf}
 
@@ -23,19 +22,11 @@ use Rattle.multiplex.specs.Line.{digitBy, lineDigit, lineOf}
 abbrev pub tributaryOf : List ℕ → ℕ → List ℕ
 tributaryOf buffer j = digitsOf (quarterOf buffer j)
 
--- an own place that carries no digit: a control digit is the decision, "A stuffing digit is sent as 1"
-abbrev pub idleDigit : Kind → Bool → ℕ
-idleDigit Word st = 1
-idleDigit (Service s) st = 1
-idleDigit Control st = cond st 1 0
-idleDigit Justification st = 1
-idleDigit Tributary st = 1
-
--- one place of a head: its digit, and its tributary's index is one further on where the place carries one
-pub record Placed (row : Row) (note set r : ℕ) (buffer next : List ℕ) (d : ℕ) (next′ : List ℕ) : Type 0 where
-  pub digit : d ≡ digitBy row note (r % 4) r (getD (tributaryOf buffer (r % 4)) (getD next (r % 4) 0) 0) (kindOf row set r)
+-- one place of a head, in a frame that acts so: its digit, and its tributary's index is one further on where the place carries one
+pub record Placed (row : Row) (note : ℕ) (act : Action) (set r : ℕ) (buffer next : List ℕ) (d : ℕ) (next′ : List ℕ) : Type 0 where
+  pub digit : d ≡ digitBy row note act (r % 4) r (getD (tributaryOf buffer (r % 4)) (getD next (r % 4) 0) 0) (kindOf row set r)
   pub binary : d < 2
-  pub index : (j : ℕ) → j < 4 → getD next′ j 0 ≡ getD next j 0 + cond (eqb j (r % 4)) (cond (carried (kindOf row set r) (stuffed note (r % 4))) 1 0) 0
+  pub index : (j : ℕ) → j < 4 → getD next′ j 0 ≡ getD next j 0 + cond (eqb j (r % 4)) (cond (carried (kindOf row set r) act) 1 0) 0
   pub kept : length next′ ≡ length next
 
 -- the four indices, each by itself
@@ -49,19 +40,19 @@ pub record Ran (buffer next : List ℕ) (n : ℕ) (old new : List ℕ) (w r : Wr
 
 -- p digits of the line are out, and each tributary's next digit is the one that its next place may carry: tributary j has had
 -- (p + 3 - j) / 4 of the first p places
-pub record Sent (row : Row) (notes buffer : List ℕ) (p : ℕ) (next out : List ℕ) : Type 0 where
+pub record Sent (row : Row) (earlier : ℕ) (notes buffer : List ℕ) (p : ℕ) (next out : List ℕ) : Type 0 where
   pub four : length next ≡ 4
-  pub index : (j : ℕ) → j < 4 → getD next j 0 ≡ before row (decisions notes j) j ((p + 3 - j) / 4)
-  pub digits : out ≡ tab p 0 (lineDigit row notes (tributaryOf buffer))
+  pub index : (j : ℕ) → j < 4 → getD next j 0 ≡ before row (actions row earlier notes j) j ((p + 3 - j) / 4)
+  pub digits : out ≡ tab p 0 (lineDigit row earlier notes (tributaryOf buffer))
 
 -- the same of what a writer has put into a line that has room for all frames
-pub record Sending (row : Row) (notes buffer : List ℕ) (p : ℕ) (line : List ℕ) (w : Writer) (next : List ℕ) : Type 0 where
+pub record Sending (row : Row) (earlier : ℕ) (notes buffer : List ℕ) (p : ℕ) (line : List ℕ) (w : Writer) (next : List ℕ) : Type 0 where
   pub fits : Fits row (length line) (length notes) (length buffer / 4)
   pub ready : Ready (w .fill) (w .held)
   pub place : 8 * w .at + w .fill ≡ p
-  pub sent : Sent row notes buffer p next (outFrom 0 line w)
+  pub sent : Sent row earlier notes buffer p next (outFrom 0 line w)
 
 -- all of it
-pub record AllSent (row : Row) (notes buffer old counts new : List ℕ) : Type 0 where
-  pub counted : counts ≡ countsOf row notes (length notes)
-  pub line : new ≡ lineOf row notes (tributaryOf buffer) (length old)
+pub record AllSent (row : Row) (earlier : ℕ) (notes buffer old counts new : List ℕ) : Type 0 where
+  pub counted : counts ≡ countsOf row earlier notes (length notes)
+  pub line : new ≡ lineOf row earlier notes (tributaryOf buffer) (length old)

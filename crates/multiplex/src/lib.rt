@@ -7,8 +7,8 @@ use levels::lent;
 use levels::order;
 use levels::places;
 use levels::places::At;
-use levels::places::FramePlace;
 use levels::places::Kind;
+use levels::places::ServiceDigit;
 use levels::places::TributaryPlace;
 use table::Level;
 use table::Row;
@@ -16,7 +16,7 @@ use weave::Next;
 use weave::table::spread_table;
 use words::Writer;
 ghost use mathlib.Core.Path.{_≡_};
-ghost use mathlib.Core.Bool.{true};
+ghost use mathlib.Core.Bool.{true, false};
 ghost use Prim.Native.Nat.{ℕ, _+_, _*_, _/_, _%_, _<_, _≤_};
 ghost use lib.ListN.{length, getD};
 ghost use Rattle.digits.specs.Digits.{tab};
@@ -25,47 +25,72 @@ ghost use Rattle.weave.specs.Weave.{spreadOf, Has};
 ghost use Rattle.levels.specs.Table.{Shared};
 ghost use Rattle.levels.specs.Sizes.{quarterOf, Accepted};
 ghost use Rattle.levels.specs.Places.{headEnd, kindOf};
-ghost use Rattle.levels.specs.Order.{stuffed, carried};
-ghost use Rattle.multiplex.specs.Line.{digitBy};
-ghost use Rattle.multiplex.specs.Sending.{idleDigit, Placed, nextOf, Ran, Sending, AllSent};
+ghost use Rattle.levels.specs.Order.{stuffed, actionOf, carried};
+ghost use Rattle.levels.specs.Word.{wordDigit};
+ghost use Rattle.levels.specs.declared.order.Action.{Action};
+ghost use Rattle.levels.specs.declared.places.Kind.the-variants.{Word};
+ghost use Rattle.multiplex.specs.Line.{serviceBy, digitBy};
+ghost use Rattle.multiplex.specs.Sending.{Placed, nextOf, Ran, Sending, AllSent};
 ghost use Rattle.levels.specs.Judging.{answerOn};
 ghost use Rattle.multiplex.specs.Multiplex.{lineOn, Met};
 
-// The digit at place r of a frame's head: the word's, then the note's service bits in the order of their places.
-fn head_digit(row: Row, note: u8, r: FramePlace) -> u8
-    requires { ⌜ Shared row × (r .0 < row .first) ⌝ }
-    ensures { λ d. ⌜ ((j next : ℕ) → d ≡ digitBy row note j (r .0) next (kindOf row 0 (r .0))) × (d < 2) ⌝ }
+// Digit r of the alignment word.
+fn word_digit(row: Row, r: usize) -> u8
+    requires { ⌜ Shared row × (r < row .len) ⌝ }
+    ensures { λ d. ⌜ (d ≡ wordDigit row r) × (d < 2) ⌝ }
 {
-    let k = r.0;
-    if k < row.len {
-        return ((row.word >> (row.len - 1 - k)) % 2) as u8;
-    }
-    (note >> (4 + (k - row.len))) % 2
+    ((row.word >> (row.len - 1 - r)) % 2) as u8
 }
 
-// What an own place that carries no digit is sent as: a control digit is the decision, a stuffing digit is 1.
-fn idle_digit(kind: Kind, st: bool) -> u8
-    ensures { λ d. ⌜ (d ≡ idleDigit kind st) × (d < 2) ⌝ }
+// A service digit: its bit of the note, 1 where no note has one.
+fn service_digit(note: u8, digit: ServiceDigit) -> u8
+    ensures { λ d. ⌜ (d ≡ serviceBy note digit) × (d < 2) ⌝ }
+{
+    match digit {
+        ServiceDigit::RemoteAlarm => (note >> 4) % 2,
+        ServiceDigit::FirstNational => (note >> 5) % 2,
+        ServiceDigit::SecondNational => (note >> 6) % 2,
+        ServiceDigit::ThirdNational => (note >> 7) % 2,
+        ServiceDigit::Fixed => 1,
+    }
+}
+
+// What place r of a set is sent as where it carries no digit of its tributary j (from 0): its kind says what. A control digit is the vote, an unused
+// justification place 1.
+fn idle_digit(row: Row, kind: Kind, note: u8, j: usize, r: usize) -> u8
+    requires { ⌜ Shared row × (j < 4) × (kind ≡ Word → r < row .len) ⌝ }
+    ensures { λ d. ⌜ ((act : Action) (next : ℕ) → carried kind act ≡ false → d ≡ digitBy row note act j r next kind) × (d < 2) ⌝ }
 {
     match kind {
-        Kind::Word => 1,
-        Kind::Service(_) => 1,
-        Kind::Control => digits::digit_of(st),
-        Kind::Justification => 1,
+        Kind::Word => word_digit(row, r),
+        Kind::Service(digit) => service_digit(note, digit),
+        Kind::Control => digits::digit_of(order::is_stuffed(note, j)),
+        Kind::Justification(_) => 1,
         Kind::Tributary => 1,
     }
 }
 
 // One place of a set's head: its digit. Where it carries one of its tributary, that is the next, and the index moves on.
-fn place_digit(row: Row, buffer: &[u8], next: &mut [usize; 4], note: u8, set: usize, r: usize) -> u8
+fn place_digit(
+    row: Row,
+    buffer: &[u8],
+    next: &mut [usize; 4],
+    preceding: u64,
+    note: u8,
+    set: usize,
+    r: usize,
+) -> u8
     requires { ⌜
         Shared row
         × (length (now buffer) ≡ 4 * (length (now buffer) / 4))
         × (length (now next) ≡ 4)
         × (getD (now next) (r % 4) 0 < 65536)
-        × (carried (kindOf row set r) (stuffed note (r % 4)) ≡ true → getD (now next) (r % 4) 0 < 8 * (length (now buffer) / 4))
+        × (carried (kindOf row set r) (actionOf row (stuffed preceding (r % 4)) (stuffed note (r % 4))) ≡ true
+        → getD (now next) (r % 4) 0 < 8 * (length (now buffer) / 4))
         ⌝ }
-    ensures { λ d. ⌜ Placed row note set r (now (buffer .entry)) (now (next .entry)) d (now (next .exit)) ⌝ }
+    ensures { λ d. ⌜
+        Placed row note (actionOf row (stuffed preceding (r % 4)) (stuffed note (r % 4))) set r (now (buffer .entry)) (now (next .entry)) d (now (next .exit))
+        ⌝ }
 {
     let j = r % 4;
     let kind = places::kind_of(
@@ -76,8 +101,7 @@ fn place_digit(row: Row, buffer: &[u8], next: &mut [usize; 4], note: u8, set: us
             place: r,
         },
     );
-    let st = order::is_stuffed(note, j);
-    if order::carries_digit(kind, st) {
+    if order::carries_digit(row, kind, preceding, note, j) {
         let q = buffer.len() / 4;
         let a = j * q;
         let e = a + q;
@@ -85,10 +109,7 @@ fn place_digit(row: Row, buffer: &[u8], next: &mut [usize; 4], note: u8, set: us
         next[j] = i + 1;
         return lent::tributary_digit(&buffer[a..e], TributaryPlace(i));
     }
-    if places::is_own(kind) {
-        return idle_digit(kind, st);
-    }
-    head_digit(row, note, FramePlace(r))
+    idle_digit(row, kind, note, j, r)
 }
 
 fn wide(d: u8) -> u64
@@ -100,6 +121,7 @@ fn wide(d: u8) -> u64
 // The head of a set of frame f, place by place, put out as one number.
 fn send_head(
     row: Row,
+    earlier: u64,
     line: &mut [u8],
     notes: &[u8],
     buffer: &[u8],
@@ -112,18 +134,20 @@ fn send_head(
         (f < length (now notes))
         × (set < row .sets)
         × (length (now buffer) ≡ 4 * (length (now buffer) / 4))
-        × Sending row (now notes) (now buffer) (f * row .digits + set * row .set) (now line) w (now next)
+        × Sending row earlier (now notes) (now buffer) (f * row .digits + set * row .set) (now line) w (now next)
         ⌝ }
     ensures { λ r. ⌜
-        Sending row (now (notes .entry)) (now (buffer .entry)) (f * row .digits + (set * row .set + headEnd row set)) (now (line .exit)) r (now (next .exit))
+        Sending row earlier (now (notes .entry)) (now (buffer .entry)) (f * row .digits + (set * row .set + headEnd row set))
+        (now (line .exit)) r (now (next .exit))
         ⌝ }
 {
     let note = order::note_of(notes, f);
+    let preceding = order::preceding_of(earlier, notes, f);
     let end = places::head_end(row, set);
     let mut word: u64 = 0;
     let mut r: usize = 0;
     while r < end {
-        word = word * 2 + wide(place_digit(row, buffer, next, note, set, r));
+        word = word * 2 + wide(place_digit(row, buffer, next, preceding, note, set, r));
         r += 1;
     }
     words::put(line, w, word, end)
@@ -175,6 +199,7 @@ fn send_run(
 fn send_set(
     table: &[u64; 256],
     row: Row,
+    earlier: u64,
     line: &mut [u8],
     notes: &[u8],
     buffer: &[u8],
@@ -188,13 +213,13 @@ fn send_set(
         × (f < length (now notes))
         × (set < row .sets)
         × (length (now buffer) ≡ 4 * (length (now buffer) / 4))
-        × Sending row (now notes) (now buffer) (f * row .digits + set * row .set) (now line) w (now next)
+        × Sending row earlier (now notes) (now buffer) (f * row .digits + set * row .set) (now line) w (now next)
         ⌝ }
     ensures { λ r. ⌜
-        Sending row (now (notes .entry)) (now (buffer .entry)) (f * row .digits + (set + 1) * row .set) (now (line .exit)) r (now (next .exit))
+        Sending row earlier (now (notes .entry)) (now (buffer .entry)) (f * row .digits + (set + 1) * row .set) (now (line .exit)) r (now (next .exit))
         ⌝ }
 {
-    let headed = send_head(row, line, notes, buffer, next, w, f, set);
+    let headed = send_head(row, earlier, line, notes, buffer, next, w, f, set);
     let columns = (row.set - places::head_end(row, set)) / 4;
     send_run(table, line, buffer, next, headed, columns)
 }
@@ -203,6 +228,7 @@ fn send_set(
 fn send_frame(
     table: &[u64; 256],
     row: Row,
+    earlier: u64,
     line: &mut [u8],
     notes: &[u8],
     buffer: &[u8],
@@ -214,23 +240,23 @@ fn send_frame(
         (now table ≡ tab 256 0 (spreadOf 8))
         × (f < length (now notes))
         × (length (now buffer) ≡ 4 * (length (now buffer) / 4))
-        × Sending row (now notes) (now buffer) (f * row .digits) (now line) w0 (now next)
+        × Sending row earlier (now notes) (now buffer) (f * row .digits) (now line) w0 (now next)
         ⌝ }
-    ensures { λ r. ⌜ Sending row (now (notes .entry)) (now (buffer .entry)) ((f + 1) * row .digits) (now (line .exit)) r (now (next .exit)) ⌝ }
+    ensures { λ r. ⌜ Sending row earlier (now (notes .entry)) (now (buffer .entry)) ((f + 1) * row .digits) (now (line .exit)) r (now (next .exit)) ⌝ }
 {
     let mut w = w0;
     let mut set: usize = 0;
     while set < row.sets {
-        w = send_set(table, row, line, notes, buffer, next, w, f, set);
+        w = send_set(table, row, earlier, line, notes, buffer, next, w, f, set);
         set += 1;
     }
     w
 }
 
 // All frames, one after the other, into the line. Answers how many digits of each tributary they took.
-fn send_frames(row: Row, line: &mut [u8], notes: &[u8], buffer: &[u8]) -> [usize; 4]
+fn send_frames(row: Row, earlier: u64, line: &mut [u8], notes: &[u8], buffer: &[u8]) -> [usize; 4]
     requires { ⌜ Shared row × Accepted row (length (now line)) (length (now notes)) (length (now buffer)) ⌝ }
-    ensures { λ r. ⌜ AllSent row (now (notes .entry)) (now (buffer .entry)) (now (line .entry)) r (now (line .exit)) ⌝ }
+    ensures { λ r. ⌜ AllSent row earlier (now (notes .entry)) (now (buffer .entry)) (now (line .entry)) r (now (line .exit)) ⌝ }
 {
     let table = spread_table();
     let mut next = [0usize; 4];
@@ -241,7 +267,7 @@ fn send_frames(row: Row, line: &mut [u8], notes: &[u8], buffer: &[u8]) -> [usize
     };
     let mut f: usize = 0;
     while f < notes.len() {
-        w = send_frame(&table, row, line, notes, buffer, &mut next, w, f);
+        w = send_frame(&table, row, earlier, line, notes, buffer, &mut next, w, f);
         f += 1;
     }
     words::finish(line, w);
@@ -249,18 +275,18 @@ fn send_frames(row: Row, line: &mut [u8], notes: &[u8], buffer: &[u8]) -> [usize
 }
 
 // A level's row is known: the lengths and the notes are judged, and the line is written.
-fn multiplex_on(row: Row, line: &mut [u8], notes: &[u8], buffer: &[u8]) -> Counted
+fn multiplex_on(row: Row, earlier: u64, line: &mut [u8], notes: &[u8], buffer: &[u8]) -> Counted
     requires { ⌜ Shared row ⌝ }
     ensures { λ r. ⌜
-        (r ≡ answerOn row (length (now (line .entry))) (now (notes .entry)) (length (now (buffer .entry))))
-        × (now (line .exit) ≡ lineOn row (now (line .entry)) (now (notes .entry)) (now (buffer .entry)))
+        (r ≡ answerOn row earlier (length (now (line .entry))) (now (notes .entry)) (length (now (buffer .entry))))
+        × (now (line .exit) ≡ lineOn row earlier (now (line .entry)) (now (notes .entry)) (now (buffer .entry)))
         ⌝ }
 {
-    let found = judging::fault_of(row, line.len(), notes, buffer.len());
+    let found = judging::fault_of(row, earlier, line.len(), notes, buffer.len());
     if found.refusal != 0 {
         return judging::refused(found);
     }
-    let counts = send_frames(row, line, notes, buffer);
+    let counts = send_frames(row, earlier, line, notes, buffer);
     Counted {
         refusal: 0,
         frame: 0,
@@ -269,12 +295,12 @@ fn multiplex_on(row: Row, line: &mut [u8], notes: &[u8], buffer: &[u8]) -> Count
 }
 
 // Multiplexes the notes and the quarters of the buffer into the line. Any level number, any lengths: see specs/Multiplex.antt.
-pub fn multiplex(level: u64, line: &mut [u8], notes: &[u8], buffer: &[u8]) -> Counted
-    ensures { λ r. ⌜ Met level (now (line .entry)) (now (notes .entry)) (now (buffer .entry)) r (now (line .exit)) ⌝ }
+pub fn multiplex(level: u64, earlier: u64, line: &mut [u8], notes: &[u8], buffer: &[u8]) -> Counted
+    ensures { λ r. ⌜ Met level earlier (now (line .entry)) (now (notes .entry)) (now (buffer .entry)) r (now (line .exit)) ⌝ }
 {
     let found = table::level_of(level);
     match found {
-        Level::Of(row) => multiplex_on(row, line, notes, buffer),
+        Level::Of(row) => multiplex_on(row, earlier, line, notes, buffer),
         Level::NoSuchLevel => judging::refused(Fault {
             refusal: 1,
             frame: 0,

@@ -19,7 +19,7 @@ const NOTES: usize = 4;
 
 pub const TRIBUTARIES: usize = 5;
 
-pub fn run(row: Row, level: u64)
+pub fn run(row: Row, level: u64, earlier: u64)
     requires { ⌜ Shared row ⌝ }
 {
     let line = files::open(LINE);
@@ -38,24 +38,25 @@ pub fn run(row: Row, level: u64)
         help::no_note_each(NOTES, notes.bytes, LINE, line.bytes / row.bytes);
         return;
     }
-    run_from(row, level, line.fd, notes.fd, notes.bytes);
+    run_from(row, level, earlier, line.fd, notes.fd, notes.bytes);
 }
 
 // The same with a line and notes of so many frames.
-fn run_from(row: Row, level: u64, line: i32, notes: i32, frames: usize)
+fn run_from(row: Row, level: u64, earlier: u64, line: i32, notes: i32, frames: usize)
     requires { ⌜ Shared row × (frames ≤ longest) ⌝ }
 {
     let tributaries = files::create(TRIBUTARIES, b"");
     if tributaries < 0 {
         return;
     }
-    let start = passage::start(OpenFiles {
+    let open = OpenFiles {
         line,
         first: 0,
         notes,
         tributaries,
         quarter: sizes::quarter_bytes(row, frames),
-    });
+    };
+    let start = passage::start(row, earlier, open);
     end(level, runs::all(row, level, runs::BY_NOTES, frames, start));
 }
 
@@ -74,7 +75,7 @@ fn end(level: u64, t: Passage) {
     }
     files::discard(TRIBUTARIES, b"");
     if t.refusal != 0 {
-        help::note_bits(NOTES, t.frame);
+        help::note_bits(NOTES, level, t.frame);
         return;
     }
     match failed {

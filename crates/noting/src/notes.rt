@@ -17,7 +17,7 @@ pub const LINE: usize = 3;
 pub const NOTES: usize = 4;
 
 // Whether the notes are written is `writes`.
-pub fn run(row: Row, level: u64, writes: bool)
+pub fn run(row: Row, level: u64, earlier: u64, writes: bool)
     requires { ⌜ Shared row ⌝ }
 {
     let line = files::open(LINE);
@@ -33,14 +33,15 @@ pub fn run(row: Row, level: u64, writes: bool)
     if writes && notes < 0 {
         return;
     }
-    rows::say_head();
-    let start = passage::start(OpenFiles {
+    rows::say_head(row);
+    let open = OpenFiles {
         line: line.fd,
         first: 0,
         notes,
         tributaries: -1,
         quarter: 0,
-    });
+    };
+    let start = passage::start(row, earlier, open);
     end(
         level,
         writes,
@@ -86,6 +87,10 @@ fn say_totals(level: u64, t: Totals) {
     let stuffed = t.stuffed;
     let dissent = t.dissent;
     say_four(b"stuffed frames of tributaries 1 to 4:    ", stuffed);
+    if t.signed {
+        let negative = t.negative;
+        say_four(b"negative digits of tributaries 1 to 4:   ", negative);
+    }
     say_four(b"dissenting digits of tributaries 1 to 4: ", dissent);
     say::line(b"alignment digits wrong: ", t.alignment);
 }

@@ -1,8 +1,10 @@
 // A passage through the calls: which files it goes between, how far it is, and the tables that are said of it.
+use crate::acts;
 use console::say;
-use recordings::carry;
+use levels::order;
 use recordings::sizes;
-ghost use Prim.Native.Nat.{_≤_};
+use table::Row;
+ghost use Prim.Native.Nat.{_<_, _≤_};
 
 // The files, or a number below 0 for none, the byte of its file at which the line begins, and the bytes of a quarter of the tributaries' file.
 pub struct OpenFiles {
@@ -17,7 +19,10 @@ pub struct OpenFiles {
 pub struct Totals {
     pub frames: usize,
     pub digits: [usize; 4],
+    // frames whose positive place is stuffed, and frames whose negative place carries a digit, where the level has such places
     pub stuffed: [usize; 4],
+    pub negative: [usize; 4],
+    pub signed: bool,
     pub alignment: usize,
     pub dissent: [usize; 4],
 }
@@ -38,8 +43,8 @@ pub const NOTES: u8 = 2;
 
 pub const TRIBUTARIES: u8 = 3;
 
-// How far it is, and which file could not be read or written first, or none; the refusal number and the frame that it names; and whether the
-// plain engine makes the calls, or the quick one.
+// How far it is, and which file could not be read or written first, or none; the refusal number and the frame that it names; the vote of the
+// frame before the next run; and whether the plain engine makes the calls, or the quick one.
 pub struct Passage {
     pub open: OpenFiles,
     pub totals: Totals,
@@ -47,22 +52,25 @@ pub struct Passage {
     pub failed: u8,
     pub refusal: u64,
     pub frame: usize,
+    pub earlier: u64,
     pub plain: bool,
 }
 
-// By the quick engine.
-pub fn start(open: OpenFiles) -> Passage {
-    start_by(open, false)
+// By the quick engine, after this vote.
+pub fn start(row: Row, earlier: u64, open: OpenFiles) -> Passage {
+    start_by(row, earlier, open, false)
 }
 
 // By the plain engine, or by the quick one.
-pub fn start_by(open: OpenFiles, plain: bool) -> Passage {
+pub fn start_by(row: Row, earlier: u64, open: OpenFiles, plain: bool) -> Passage {
     Passage {
         open,
         totals: Totals {
             frames: 0,
             digits: [0usize; 4],
             stuffed: [0usize; 4],
+            negative: [0usize; 4],
+            signed: order::has_negative(row),
             alignment: 0,
             dissent: [0usize; 4],
         },
@@ -74,8 +82,18 @@ pub fn start_by(open: OpenFiles, plain: bool) -> Passage {
         failed: NONE,
         refusal: 0,
         frame: 0,
+        earlier,
         plain,
     }
+}
+
+// The vote before the next run: that of this run's last frame.
+pub fn last_vote(notes: &[u8], earlier: u64) -> u64 {
+    let n = notes.len();
+    if n == 0 {
+        return earlier;
+    }
+    order::note_of(notes, n - 1) as u64
 }
 
 // Where byte `at` of quarter j (from 0) of the tributaries' file stands.
@@ -88,9 +106,11 @@ pub fn in_quarter(quarter: usize, j: usize, at: usize) -> usize
     )
 }
 
-// The totals with those of one run of frames: its notes, the digits of each tributary, and what was wrong.
+// The totals with those of one run of frames: the vote before it, its notes, the digits of each tributary, and what was wrong.
 pub fn add(
     t: Totals,
+    row: Row,
+    earlier: u64,
     notes: &[u8],
     counts: [usize; 4],
     alignment: usize,
@@ -98,11 +118,14 @@ pub fn add(
 ) -> Totals {
     let digits = t.digits;
     let stuffed = t.stuffed;
+    let negative = t.negative;
     let before = t.dissent;
     Totals {
         frames: sizes::plus(t.frames, notes.len()),
         digits: four_sums(digits, counts),
-        stuffed: four_sums(stuffed, four_stuffed(notes)),
+        stuffed: four_sums(stuffed, acts::four_stuffed(row, earlier, notes)),
+        negative: four_sums(negative, acts::four_negative(row, earlier, notes)),
+        signed: t.signed,
         alignment: sizes::plus(t.alignment, alignment),
         dissent: four_sums(before, dissent),
     }
@@ -114,15 +137,6 @@ fn four_sums(a: [usize; 4], b: [usize; 4]) -> [usize; 4] {
         sizes::plus(a[1], b[1]),
         sizes::plus(a[2], b[2]),
         sizes::plus(a[3], b[3]),
-    ]
-}
-
-fn four_stuffed(notes: &[u8]) -> [usize; 4] {
-    [
-        carry::stuffed_frames(notes, 0),
-        carry::stuffed_frames(notes, 1),
-        carry::stuffed_frames(notes, 2),
-        carry::stuffed_frames(notes, 3),
     ]
 }
 
@@ -151,33 +165,44 @@ pub fn say_frames(level: u64, frames: usize, what: &[u8]) {
     say::text(what);
 }
 
-// The table of the four tributaries. Only frames that were taken apart have votes, and so a column of dissenting digits.
+// The table of the four tributaries. Only levels with negative places have a column of digits in them, and only frames that were taken apart
+// have votes, and so a column of dissenting digits.
 pub fn say_table(t: Totals, taken: bool) {
+    say::text(b"tributary        digits      stuffed");
+    say_if(t.signed, b"     negative");
+    say_if(taken, b"      dissent");
+    say::text(b"\n");
     let digits = t.digits;
     let stuffed = t.stuffed;
+    let negative = t.negative;
     let dissent = t.dissent;
-    say::text(b"tributary        digits      stuffed");
-    say_if(taken, b"      dissent");
     let mut j: usize = 0;
     while j < 4 {
+        say_counts(j, digits[j], stuffed[j]);
+        say_column(t.signed, negative[j]);
+        say_column(taken, dissent[j]);
         say::text(b"\n");
-        say::right(9, j + 1);
-        say::right(14, digits[j]);
-        say::right(13, stuffed[j]);
-        say_dissent(taken, dissent[j]);
         j += 1;
     }
-    say::text(b"\n");
 }
 
-fn say_if(taken: bool, text: &[u8]) {
-    if taken {
+// Of tributary j (from 0).
+fn say_counts(j: usize, digits: usize, stuffed: usize)
+    requires { ⌜ j < 4 ⌝ }
+{
+    say::right(9, j + 1);
+    say::right(14, digits);
+    say::right(13, stuffed);
+}
+
+fn say_if(wanted: bool, text: &[u8]) {
+    if wanted {
         say::text(text);
     }
 }
 
-fn say_dissent(taken: bool, n: usize) {
-    if taken {
+fn say_column(wanted: bool, n: usize) {
+    if wanted {
         say::right(13, n);
     }
 }

@@ -21,7 +21,7 @@ const TRIBUTARIES: usize = 4;
 
 pub const LINE: usize = 5;
 
-pub fn run(row: Row, level: u64, plain: bool)
+pub fn run(row: Row, level: u64, earlier: u64, plain: bool)
     requires { ⌜ Shared row ⌝ }
 {
     let notes = files::open(NOTES);
@@ -48,7 +48,7 @@ pub fn run(row: Row, level: u64, plain: bool)
         tributaries: tributaries.fd,
         quarter: tributaries.bytes / 4,
     };
-    let start = passage::start_by(from, plain);
+    let start = passage::start_by(row, earlier, from, plain);
     end(level, runs::all(row, level, notes.bytes, start));
 }
 
@@ -73,7 +73,7 @@ pub fn one_run(
 {
     let read = read_notes(notes, t);
     let filled = fill(row, notes.len(), t, buffer);
-    send_on(level, at, line, notes, buffer, read, filled, t)
+    send_on(row, level, at, line, notes, buffer, read, filled, t)
 }
 
 fn read_notes(notes: &mut [u8], t: Passage) -> bool {
@@ -84,6 +84,7 @@ fn read_notes(notes: &mut [u8], t: Passage) -> bool {
 
 // Sends what was read: the notes, and the tributaries' digits.
 fn send_on(
+    row: Row,
     level: u64,
     at: usize,
     line: &mut [u8],
@@ -93,7 +94,7 @@ fn send_on(
     filled: bool,
     t: Passage,
 ) -> Passage {
-    let r = multiplex_by(t.plain, level, line, notes, buffer);
+    let r = multiplex_by(t.plain, level, t.earlier, line, notes, buffer);
     let to = t.open;
     let written = files::write_at(to.line, line, at);
     let totals = t.totals;
@@ -103,25 +104,39 @@ fn send_on(
     let unread = passage::first_failed(no_notes, filled, passage::TRIBUTARIES);
     Passage {
         open: to,
-        totals: passage::add(totals, notes, counts, 0, [0usize; 4]),
+        totals: passage::add(totals, row, t.earlier, notes, counts, 0, [0usize; 4]),
         quarters,
         failed: passage::first_failed(unread, written && r.refusal == 0, passage::LINE),
         refusal: r.refusal,
         frame: sizes::plus(totals.frames, r.frame),
+        earlier: passage::last_vote(notes, t.earlier),
         plain: t.plain,
     }
 }
 
 // The call, by one engine or the other.
-fn multiplex_by(plain: bool, level: u64, line: &mut [u8], notes: &[u8], buffer: &[u8]) -> Counted {
+fn multiplex_by(
+    plain: bool,
+    level: u64,
+    earlier: u64,
+    line: &mut [u8],
+    notes: &[u8],
+    buffer: &[u8],
+) -> Counted {
     if plain {
-        return multiplex_plainly(level, line, notes, buffer);
+        return multiplex_plainly(level, earlier, line, notes, buffer);
     }
-    multiplex::multiplex(level, line, notes, buffer)
+    multiplex::multiplex(level, earlier, line, notes, buffer)
 }
 
-fn multiplex_plainly(level: u64, line: &mut [u8], notes: &[u8], buffer: &[u8]) -> Counted {
-    let r = plain::multiplex(level, line, notes, buffer);
+fn multiplex_plainly(
+    level: u64,
+    earlier: u64,
+    line: &mut [u8],
+    notes: &[u8],
+    buffer: &[u8],
+) -> Counted {
+    let r = plain::multiplex(level, earlier, line, notes, buffer);
     let counts = r.counts;
     Counted {
         refusal: r.refusal,
@@ -188,7 +203,7 @@ fn end(level: u64, t: Passage) {
     }
     files::discard(LINE, b"");
     if t.refusal != 0 {
-        help::note_bits(NOTES, t.frame);
+        help::note_bits(NOTES, level, t.frame);
         return;
     }
     match failed {

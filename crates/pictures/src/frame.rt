@@ -3,16 +3,47 @@
 use crate::svg;
 use crate::text;
 use console::files;
+use console::help;
 use console::page::Page;
 use console::say;
+use levels::order;
+use levels::places;
+use levels::places::FramePlace;
+use levels::places::Sign;
 use table::Row;
 use workbench::picture;
+ghost use Prim.Native.Nat.{_<_};
 ghost use Rattle.levels.specs.Table.{Shared};
 
-// Whether there is a note, and the note.
+// Whether there is a note, the note, and the vote of the frame before, which counts where the level has negative places.
 pub struct Noted {
     pub given: bool,
     pub note: u8,
+    pub earlier: u64,
+}
+
+// Whether places of this kind are justification places.
+pub fn is_justification(kind: u8) -> bool {
+    if kind == picture::JUSTIFICATION {
+        return true;
+    }
+    kind == picture::NEGATIVE
+}
+
+// Whether justification place q, which is of this kind, carries a digit of its tributary.
+pub fn carries(row: Row, noted: Noted, kind: u8, q: usize) -> bool
+    requires { ⌜ q < 65536 ⌝ }
+{
+    let j = places::tributary_at(FramePlace(q)) % 4;
+    let act = order::action_of(row, noted.earlier, noted.note, j);
+    order::justification_carries(sign_of(kind), act)
+}
+
+fn sign_of(kind: u8) -> Sign {
+    if kind == picture::NEGATIVE {
+        return Sign::Negative;
+    }
+    Sign::Positive
 }
 
 // Where drawn, word k of the call names the picture's file.
@@ -23,11 +54,10 @@ pub fn run(row: Row, level: u64, noted: Noted, drawn: bool, k: usize)
     let notes = [noted.note];
     let zeros = [0u8; 368];
     let n = row.bytes;
-    let r = multiplex::multiplex(level, &mut line[..n], &notes, &zeros);
+    let r = multiplex::multiplex(level, noted.earlier, &mut line[..n], &notes, &zeros);
     if r.refusal != 0 {
-        say::text(
-            b"refused 5: the note has bit 6 or 7 set; only level 4 has these national digits.\n",
-        );
+        say::text(b"refused 5: the note");
+        help::wrong_bits(level);
         return;
     }
     if !drawn {

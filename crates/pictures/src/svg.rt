@@ -1,4 +1,5 @@
 // The frame of a level as a picture in SVG: a row of cells to a set, a cell to each place of its head, one long cell to its tributary digits.
+use crate::frame;
 use crate::frame::Noted;
 use console::files;
 use console::page::Page;
@@ -20,24 +21,35 @@ const CELL: usize = 34;
 
 pub fn title(page: Page, row: Row, level: u64) -> Page {
     let height = 76 + 66 * sizes::least(row.sets, 16);
-    page.put(b"<svg xmlns=\"http://www.w3.org/2000/svg\" viewBox=\"0 0 960 ")
+    let styled = page.put(b"<svg xmlns=\"http://www.w3.org/2000/svg\" viewBox=\"0 0 960 ")
         .number(height)
         .put(b"\" width=\"960\" height=\"")
         .number(height)
         .put(b"\" font-family=\"sans-serif\" font-size=\"13\">\n")
         .put(
-            b"<style>rect{stroke:#fff}.k0{fill:#1f4e79}.k1{fill:#c55a11}.k2{fill:#bf9000}.k3{fill:#deebf7}.k4,.k5,.k6,.k7{fill:#707070}",
+            b"<style>rect{stroke:#fff}.k0{fill:#1f4e79}.k1{fill:#c55a11}.k2{fill:#bf9000}.k3{fill:#deebf7}",
         )
+        .put(b".k4,.k5,.k6,.k7,.k8{fill:#707070}.k9{fill:#7b5ea7}")
         .put(b".c{fill:#fff;text-anchor:middle}.p{fill:#555;font-size:10px}</style>\n")
         .put(
             b"<rect width=\"100%\" height=\"100%\" fill=\"#fff\"/>\n<text x=\"12\" y=\"26\" font-size=\"16\">Level ",
         )
         .number(level as usize)
         .put(b": a frame of ")
-        .number(row.digits)
-        .put(
-            b" digits. Alignment word, A remote alarm, N national, C control, J justification digits</text>\n",
-        )
+        .number(row.digits);
+    key(styled, row)
+}
+
+// What the cells' names stand for.
+fn key(page: Page, row: Row) -> Page {
+    if order::has_negative(row) {
+        return page.put(
+            b" digits. Alignment word, S service, C control, -J negative and +J positive justification digits</text>\n",
+        );
+    }
+    page.put(
+        b" digits. Alignment word, A remote alarm, N national, C control, J justification digits</text>\n",
+    )
 }
 
 // The picture's end. Word k of the call names its file, which is kept where all of it is written.
@@ -163,33 +175,43 @@ fn cell(page: Page, row: Row, line: &[u8; 366], noted: Noted, kind: u8, q: usize
     let y = y_of(row, q);
     let named = label(rect(page, kind, x, y, CELL), b"c", x + 17, y + 16);
     let tributary = places::tributary_at(FramePlace(q)) % 4 + 1;
-    let drawn = name(named, kind, tributary).put(b"</text>\n");
+    let drawn = name(named, row, kind, tributary).put(b"</text>\n");
     if kind == picture::WORD || noted.given {
         let valued = label(drawn, b"c", x + 17, y + 32);
-        return value(valued, line, noted.note, kind, q).put(b"</text>\n");
+        return value(valued, row, line, noted, kind, q).put(b"</text>\n");
     }
     drawn
 }
 
-fn name(page: Page, kind: u8, tributary: usize) -> Page {
+fn name(page: Page, row: Row, kind: u8, tributary: usize) -> Page {
     match kind {
         picture::WORD => page.put(b"w"),
         picture::CONTROL => page.put(b"C").number(tributary),
-        picture::JUSTIFICATION => page.put(b"J").number(tributary),
+        picture::JUSTIFICATION => positive(page, row).number(tributary),
+        picture::NEGATIVE => page.put(b"-J").number(tributary),
         picture::REMOTE_ALARM => page.put(b"A"),
+        picture::FIXED => page.put(b"S"),
         _ => page.put(b"N"),
     }
 }
 
+// A level without negative places has justification places of one kind.
+fn positive(page: Page, row: Row) -> Page {
+    if order::has_negative(row) {
+        return page.put(b"+J");
+    }
+    page.put(b"J")
+}
+
 // What a place holds: a justification digit is stuffing, or the tributary's own.
-fn value(page: Page, line: &[u8; 366], note: u8, kind: u8, q: usize) -> Page
+fn value(page: Page, row: Row, line: &[u8; 366], noted: Noted, kind: u8, q: usize) -> Page
     requires { ⌜ q < 65536 ⌝ }
 {
-    if kind == picture::JUSTIFICATION {
-        if order::is_stuffed(note, places::tributary_at(FramePlace(q)) % 4) {
-            return page.put(b"stuff");
-        }
+    if !frame::is_justification(kind) {
+        return page.number(digits::digit_or_zero(line, q) as usize);
+    }
+    if frame::carries(row, noted, kind, q) {
         return page.put(b"digit");
     }
-    page.number(digits::digit_or_zero(line, q) as usize)
+    page.put(b"stuff")
 }

@@ -1,4 +1,5 @@
 // A run of places of one kind in words.
+use crate::frame;
 use crate::frame::Noted;
 use console::say;
 use levels::order;
@@ -17,7 +18,11 @@ pub fn title(row: Row, level: u64) {
     say::number(row.sets);
     say::text(b" sets; each tributary has ");
     say::number(row.n);
-    say::text(b" digits, one fewer where stuffed.");
+    say::text(b" digits, one fewer where stuffed");
+    if order::has_negative(row) {
+        say::text(b", one more where its negative place carries one");
+    }
+    say::text(b".");
 }
 
 // The run from place p up to `end`. A set begins with the word or with control digits.
@@ -32,15 +37,21 @@ pub fn one_run(row: Row, line: &[u8; 366], noted: Noted, kind: u8, p: usize, end
         say::text(b", ");
     }
     span(p, end);
-    name(kind);
-    if kind <= picture::TRIBUTARY {
-        if kind != picture::WORD {
-            whose(p);
-        }
+    name(row, kind);
+    if is_shared_out(kind) {
+        whose(p);
     }
     if noted.given {
-        values(line, noted.note, kind, p, end);
+        values(row, line, noted, kind, p, end);
     }
+}
+
+// Whether places of this kind belong to the tributaries in turn.
+fn is_shared_out(kind: u8) -> bool {
+    if frame::is_justification(kind) {
+        return true;
+    }
+    kind == picture::CONTROL || kind == picture::TRIBUTARY
 }
 
 fn span(p: usize, end: usize)
@@ -53,15 +64,25 @@ fn span(p: usize, end: usize)
     }
 }
 
-fn name(kind: u8) {
+fn name(row: Row, kind: u8) {
     match kind {
         picture::WORD => say::text(b" alignment word"),
         picture::CONTROL => say::text(b" control"),
-        picture::JUSTIFICATION => say::text(b" justification"),
+        picture::JUSTIFICATION => positive(row),
+        picture::NEGATIVE => say::text(b" negative justification"),
         picture::TRIBUTARY => say::text(b" tributary digits in turn"),
         picture::REMOTE_ALARM => say::text(b" remote alarm"),
+        picture::FIXED => say::text(b" service"),
         _ => say::text(b" national"),
     }
+}
+
+// A level without negative places has justification places of one kind.
+fn positive(row: Row) {
+    if order::has_negative(row) {
+        say::text(b" positive");
+    }
+    say::text(b" justification");
 }
 
 // The tributaries of the first four places of a run.
@@ -78,15 +99,15 @@ fn whose(p: usize)
 }
 
 // What a run's places hold: tributary digits are the tributaries' own, and a justification digit is one or is stuffing.
-fn values(line: &[u8; 366], note: u8, kind: u8, p: usize, end: usize)
+fn values(row: Row, line: &[u8; 366], noted: Noted, kind: u8, p: usize, end: usize)
     requires { ⌜ (p < end) × (end < 65536) ⌝ }
 {
     if kind == picture::TRIBUTARY {
         return;
     }
     say::text(b" =");
-    if kind == picture::JUSTIFICATION {
-        stuffings(note, p, end);
+    if frame::is_justification(kind) {
+        stuffings(row, noted, kind, p, end);
         return;
     }
     say::text(b" ");
@@ -97,16 +118,15 @@ fn values(line: &[u8; 366], note: u8, kind: u8, p: usize, end: usize)
     }
 }
 
-fn stuffings(note: u8, p: usize, end: usize)
+fn stuffings(row: Row, noted: Noted, kind: u8, p: usize, end: usize)
     requires { ⌜ (p < end) × (end < 65536) ⌝ }
 {
     let mut q = p;
     while q < end {
-        let j = places::tributary_at(FramePlace(q));
-        if order::is_stuffed(note, j % 4) {
-            say::text(b" stuffing");
-        } else {
+        if frame::carries(row, noted, kind, q) {
             say::text(b" digit");
+        } else {
+            say::text(b" stuffing");
         }
         q += 1;
     }

@@ -17,12 +17,12 @@ use Rattle.plain.proofs.read_notes.Reads as read-notes-reads
 use Rattle.plain.proofs.extract as extract
 use Rattle.plain.proofs.extract.Reads as extract-reads
 
-pub one-multiplex : (level : ℕ) (line notes buffer : List ℕ) (a b : Answered) (l m : List ℕ)
-    → MultiplexMet level line notes buffer a l → MultiplexMet level line notes buffer b m → (a ≡ b) × (l ≡ m)
-one-multiplex level line notes buffer a b l m x y = (x .answered ∙ sym (y .answered), x .written ∙ sym (y .written))
+pub one-multiplex : (level earlier : ℕ) (line notes buffer : List ℕ) (a b : Answered) (l m : List ℕ)
+    → MultiplexMet level earlier line notes buffer a l → MultiplexMet level earlier line notes buffer b m → (a ≡ b) × (l ≡ m)
+one-multiplex level earlier line notes buffer a b l m x y = (x .answered ∙ sym (y .answered), x .written ∙ sym (y .written))
 
 pub multiplex-met : (κs : Lfts 3) (a : ArgsD multiplex.signature κs) (r : ResD multiplex.signature κs) (e : AtExit multiplex.ended κs)
-    → multiplex-reads.Learnt κs a r e → MultiplexMet (a .0) (now (a .1 .0)) (now (a .1 .1 .0)) (now (a .1 .1 .1 .0)) r (now (e .1 .0))
+    → multiplex-reads.Learnt κs a r e → MultiplexMet (a .0) (a .1 .0) (now (a .1 .1 .0)) (now (a .1 .1 .1 .0)) (now (a .1 .1 .1 .1 .0)) r (now (e .1 .1 .0))
 multiplex-met κs a r e met = met
 
 pub multiplex-asks-nothing : (κs : Lfts 3) (a : ArgsD multiplex.signature κs) → multiplex-reads.Asked κs a
@@ -39,12 +39,12 @@ read-notes-met κs a r e met = met
 pub read-notes-asks-nothing : (κs : Lfts 2) (a : ArgsD read-notes.signature κs) → read-notes-reads.Asked κs a
 read-notes-asks-nothing κs a = tt
 
-pub one-extraction : (level : ℕ) (line notes buffer : List ℕ) (a b : Answered) (l m : List ℕ)
-    → ExtractMet level line notes buffer a l → ExtractMet level line notes buffer b m → (a ≡ b) × (l ≡ m)
-one-extraction level line notes buffer a b l m x y = (x .answered ∙ sym (y .answered), x .written ∙ sym (y .written))
+pub one-extraction : (level earlier : ℕ) (line notes buffer : List ℕ) (a b : Answered) (l m : List ℕ)
+    → ExtractMet level earlier line notes buffer a l → ExtractMet level earlier line notes buffer b m → (a ≡ b) × (l ≡ m)
+one-extraction level earlier line notes buffer a b l m x y = (x .answered ∙ sym (y .answered), x .written ∙ sym (y .written))
 
 pub extract-met : (κs : Lfts 3) (a : ArgsD extract.signature κs) (r : ResD extract.signature κs) (e : AtExit extract.ended κs)
-    → extract-reads.Learnt κs a r e → ExtractMet (a .0) (now (a .1 .0)) (now (a .1 .1 .0)) (now (a .1 .1 .1 .0)) r (now (e .1 .1 .1 .0))
+    → extract-reads.Learnt κs a r e → ExtractMet (a .0) (a .1 .0) (now (a .1 .1 .0)) (now (a .1 .1 .1 .0)) (now (a .1 .1 .1 .1 .0)) r (now (e .1 .1 .1 .1 .0))
 extract-met κs a r e met = met
 
 pub extract-asks-nothing : (κs : Lfts 3) (a : ArgsD extract.signature κs) → extract-reads.Asked κs a

@@ -28,9 +28,9 @@ frame-noted row re line notes fits p h = div-lt-iff-lt-mul some .1 (omega (arith
 pub line-short : (row : Row) → Regular row → (line notes : ℕ) → Fits row line notes → 8 * line ≤ 262144
 line-short row re line notes fits = omega (arith, fits .whole, mul-le-mul (fits .few) (re .short))
 
-module _ (row : Row) (notes : List ℕ) where
+module _ (row : Row) (earlier : ℕ) (notes : List ℕ) where
   -- nothing is counted before the first place
-  pub counted-start : Counted row notes 0 (0 ∷ 0 ∷ 0 ∷ 0 ∷ [])
+  pub counted-start : Counted row earlier notes 0 (0 ∷ 0 ∷ 0 ∷ 0 ∷ [])
   unfolding countTo sumOver
   counted-start = record { four = refl; each = λ j h. zeros j }
     where
@@ -41,36 +41,36 @@ module _ (row : Row) (notes : List ℕ) where
       zeros (suc (suc (suc zero))) = refl
       zeros (suc (suc (suc (suc j)))) = refl
 
-  pub count-more : (j p : ℕ) → countTo row notes j (p + 1) ≡ countTo row notes j p + cond (carriesFor row notes j p) 1 0
+  pub count-more : (j p : ℕ) → countTo row earlier notes j (p + 1) ≡ countTo row earlier notes j p + cond (carriesFor row earlier notes j p) 1 0
   unfolding countTo sumOver
   count-more j p = rw (add-one p)
 
-  pub count-most : (j p : ℕ) → countTo row notes j p ≤ p
+  pub count-most : (j p : ℕ) → countTo row earlier notes j p ≤ p
   unfolding countTo sumOver
   count-most j zero = omega arith
   count-most j (suc p) =
-      omega (arith, count-most j p, cond-by (λ (n : ℕ). n ≤ 1) (carriesFor row notes j p) {a = 1} {b = 0} (omega arith) (omega arith))
+      omega (arith, count-most j p, cond-by (λ (n : ℕ). n ≤ 1) (carriesFor row earlier notes j p) {a = 1} {b = 0} (omega arith) (omega arith))
 
-  module _ (p : ℕ) (next : List ℕ) (w : Counted row notes p next) where
+  module _ (p : ℕ) (next : List ℕ) (w : Counted row earlier notes p next) where
     abbrev own : ℕ
     own = p % row .digits % 4
 
     -- a place that carries nothing moves no index
-    pub counted-idle : carriesAt row notes p ≡ false → Counted row notes (p + 1) next
+    pub counted-idle : carriesAt row earlier notes p ≡ false → Counted row earlier notes (p + 1) next
     unfolding carriesFor
     counted-idle e =
         record { four = w .four; each = λ j h. w .each j h ∙ sym (count-more j p ∙ rw (none j) (omega arith)) }
       where
-        none : (j : ℕ) → cond {A = ℕ} (carriesFor row notes j p) 1 0 ≡ 0
+        none : (j : ℕ) → cond {A = ℕ} (carriesFor row earlier notes j p) 1 0 ≡ 0
         none j = rw e (cond-by (λ t. cond {A = ℕ} t 1 0 ≡ 0) (eqb own j) refl refl)
 
     -- one that carries moves its tributary's
-    pub counted-carried : carriesAt row notes p ≡ true → Counted row notes (p + 1) (set next own (getD next own 0 + 1))
+    pub counted-carried : carriesAt row earlier notes p ≡ true → Counted row earlier notes (p + 1) (set next own (getD next own 0 + 1))
     unfolding carriesFor
     counted-carried e =
         record { four = length-set next own (getD next own 0 + 1) ∙ w .four; each = λ j h. moved j h ∙ sym (count-more j p) }
       where
-        moved : (j : ℕ) → j < 4 → getD (set next own (getD next own 0 + 1)) j 0 ≡ countTo row notes j p + cond (carriesFor row notes j p) 1 0
+        moved : (j : ℕ) → j < 4 → getD (set next own (getD next own 0 + 1)) j 0 ≡ countTo row earlier notes j p + cond (carriesFor row earlier notes j p) 1 0
         moved j h =
             elim (ℕ-discrete j own) [
               | yes same ↦
@@ -80,11 +80,11 @@ module _ (row : Row) (notes : List ℕ) where
             ]
 
 -- at the end they are the counts
-pub counted-all : (row : Row) (notes : List ℕ) (p : ℕ) (next : List ℕ) → Counted row notes p next → next ≡ countsTo row notes p
-counted-all row notes p next w =
-    ext-getD 0 next (countsTo row notes p) (w .four) (λ i h. w .each i (omega (arith, w .four)) ∙ sym (at i (omega (arith, w .four))))
+pub counted-all : (row : Row) (earlier : ℕ) (notes : List ℕ) (p : ℕ) (next : List ℕ) → Counted row earlier notes p next → next ≡ countsTo row earlier notes p
+counted-all row earlier notes p next w =
+    ext-getD 0 next (countsTo row earlier notes p) (w .four) (λ i h. w .each i (omega (arith, w .four)) ∙ sym (at i (omega (arith, w .four))))
   where
-    at : (i : ℕ) → i < 4 → getD (countsTo row notes p) i 0 ≡ countTo row notes i p
+    at : (i : ℕ) → i < 4 → getD (countsTo row earlier notes p) i 0 ≡ countTo row earlier notes i p
     at zero h = refl
     at (suc zero) h = refl
     at (suc (suc zero)) h = refl

@@ -41,39 +41,39 @@ same-place q j i k m hi hm e =
     same : j * (8 * q) + i ≡ k * (8 * q) + m
     same = omega (arith, e, mul-left-comm j 8 q, mul-left-comm k 8 q)
 
-module _ (row : Row) (notes line : List ℕ) where
+module _ (row : Row) (earlier : ℕ) (notes line : List ℕ) where
   -- as many digits are taken as are counted
-  pub taken-length : (j p : ℕ) → length (takenTo row notes line j p) ≡ countTo row notes j p
+  pub taken-length : (j p : ℕ) → length (takenTo row earlier notes line j p) ≡ countTo row earlier notes j p
   unfolding takenTo countTo sumOver
   taken-length j zero = refl
-  taken-length j (suc p) = length-append (takenTo row notes line j p) _ ∙ rw (taken-length j p, one (carriesFor row notes j p))
+  taken-length j (suc p) = length-append (takenTo row earlier notes line j p) _ ∙ rw (taken-length j p, one (carriesFor row earlier notes j p))
     where
       one : (t : Bool) → length (cond t (digitAt line p ∷ []) []) ≡ cond t 1 0
       one true = refl
       one false = refl
 
-  pub taken-more : (j p : ℕ) → takenTo row notes line j (p + 1) ≡ takenTo row notes line j p ++ cond (carriesFor row notes j p) (digitAt line p ∷ []) []
+  pub taken-more : (j p : ℕ) → takenTo row earlier notes line j (p + 1) ≡ takenTo row earlier notes line j p ++ cond (carriesFor row earlier notes j p) (digitAt line p ∷ []) []
   unfolding takenTo
   taken-more j p = rw (add-one p)
 
   -- a place that is not tributary j's, or carries nothing, hands nothing to it
-  taken-same : (j p : ℕ) → carriesFor row notes j p ≡ false → takenTo row notes line j (p + 1) ≡ takenTo row notes line j p
-  taken-same j p e = taken-more j p ∙ rw e (append-nil (takenTo row notes line j p))
+  taken-same : (j p : ℕ) → carriesFor row earlier notes j p ≡ false → takenTo row earlier notes line j (p + 1) ≡ takenTo row earlier notes line j p
+  taken-same j p e = taken-more j p ∙ rw e (append-nil (takenTo row earlier notes line j p))
 
-  taken-own : (j p i : ℕ) → carriesFor row notes j p ≡ true
-      → getD (takenTo row notes line j (p + 1)) i 0 ≡ cond (eqb i (countTo row notes j p)) (digitAt line p) (getD (takenTo row notes line j p) i 0)
+  taken-own : (j p i : ℕ) → carriesFor row earlier notes j p ≡ true
+      → getD (takenTo row earlier notes line j (p + 1)) i 0 ≡ cond (eqb i (countTo row earlier notes j p)) (digitAt line p) (getD (takenTo row earlier notes line j p) i 0)
   taken-own j p i e =
       ap (λ (xs : List ℕ). getD xs i 0) (taken-more j p)
-      ∙ rw e (one-more (takenTo row notes line j p) (digitAt line p) i ∙ rw (taken-length j p))
+      ∙ rw e (one-more (takenTo row earlier notes line j p) (digitAt line p) i ∙ rw (taken-length j p))
 
-  module _ (q p : ℕ) (buffer : List ℕ) (w : Taken row notes line q p buffer) where
+  module _ (q p : ℕ) (buffer : List ℕ) (w : Taken row earlier notes line q p buffer) where
     abbrev own : ℕ
     own = p % row .digits % 4
 
     abbrev index : ℕ
-    index = countTo row notes own p
+    index = countTo row earlier notes own p
 
-    pub taken-idle : carriesAt row notes p ≡ false → Taken row notes line q (p + 1) buffer
+    pub taken-idle : carriesAt row earlier notes p ≡ false → Taken row earlier notes line q (p + 1) buffer
     unfolding carriesFor
     taken-idle e =
         record {
@@ -83,38 +83,38 @@ module _ (row : Row) (notes line : List ℕ) where
         }
 
     -- which of two digits one place more hands to digit i of tributary j
-    handed : (j i : ℕ) → carriesAt row notes p ≡ true
-        → getD (takenTo row notes line j (p + 1)) i 0
-        ≡ cond (eqb own j) (cond (eqb i index) (digitAt line p) (getD (takenTo row notes line j p) i 0)) (getD (takenTo row notes line j p) i 0)
+    handed : (j i : ℕ) → carriesAt row earlier notes p ≡ true
+        → getD (takenTo row earlier notes line j (p + 1)) i 0
+        ≡ cond (eqb own j) (cond (eqb i index) (digitAt line p) (getD (takenTo row earlier notes line j p) i 0)) (getD (takenTo row earlier notes line j p) i 0)
     unfolding carriesFor
     handed j i e =
         elim (ℕ-discrete own j) [
           | yes s ↦
-              let mine : carriesFor row notes j p ≡ true = rw (eq-eqb own j s, e) in
+              let mine : carriesFor row earlier notes j p ≡ true = rw (eq-eqb own j s, e) in
               rw (eq-eqb own j s) (taken-own j p i mine ∙ rw (← s))
           | no n ↦
-              let other : carriesFor row notes j p ≡ false = rw (ne-eqb own j n) in
+              let other : carriesFor row earlier notes j p ≡ false = rw (ne-eqb own j n) in
               rw (ne-eqb own j n) (ap (λ (xs : List ℕ). getD xs i 0) (taken-same j p other))
         ]
 
     -- past the quarter's end nothing is written
-    pub taken-past : carriesAt row notes p ≡ true → 8 * q ≤ index → Taken row notes line q (p + 1) buffer
+    pub taken-past : carriesAt row earlier notes p ≡ true → 8 * q ≤ index → Taken row earlier notes line q (p + 1) buffer
     taken-past e past =
         record {
           bytes = w .bytes;
           size = w .size;
           done = λ j i hj hi.
               w .done j i hj hi
-              ∙ sym (handed j i e ∙ rw (ne-eqb i index (λ z. omega arith)) (cond-by (λ n. n ≡ getD (takenTo row notes line j p) i 0) (eqb own j) refl refl));
+              ∙ sym (handed j i e ∙ rw (ne-eqb i index (λ z. omega arith)) (cond-by (λ n. n ≡ getD (takenTo row earlier notes line j p) i 0) (eqb own j) refl refl));
         }
 
-    pub taken-put : carriesAt row notes p ≡ true → index < 8 * q → (new : List ℕ) (d : ℕ) → d ≡ digitAt line p
+    pub taken-put : carriesAt row earlier notes p ≡ true → index < 8 * q → (new : List ℕ) (d : ℕ) → d ≡ digitAt line p
         → ((k : ℕ) → digitAt new k ≡ cond (eqb k (8 * (own * q) + index)) d (digitAt buffer k)) → Bytes new → length new ≡ length buffer
-        → Taken row notes line q (p + 1) new
+        → Taken row earlier notes line q (p + 1) new
     taken-put e room new d ed put bytes kept = record { bytes = bytes; size = kept ∙ w .size; done = λ j i hj hi. put (8 * (j * q) + i) ∙ sym (handed j i e ∙ at j i hj hi) }
       where
         at : (j i : ℕ) → j < 4 → i < 8 * q
-            → cond (eqb own j) (cond (eqb i index) (digitAt line p) (getD (takenTo row notes line j p) i 0)) (getD (takenTo row notes line j p) i 0)
+            → cond (eqb own j) (cond (eqb i index) (digitAt line p) (getD (takenTo row earlier notes line j p) i 0)) (getD (takenTo row earlier notes line j p) i 0)
             ≡ cond (eqb (8 * (j * q) + i) (8 * (own * q) + index)) d (digitAt buffer (8 * (j * q) + i))
         at j i hj hi =
             elim (ℕ-discrete own j) [
@@ -133,7 +133,7 @@ module _ (row : Row) (notes line : List ℕ) where
             ]
 
   -- nothing is handed out before the first place: zeros
-  pub taken-start : (n q : ℕ) → n ≡ 4 * q → Taken row notes line q 0 (replicate n 0)
+  pub taken-start : (n q : ℕ) → n ≡ 4 * q → Taken row earlier notes line q 0 (replicate n 0)
   unfolding digitAt takenTo
   taken-start n q e =
       record {
@@ -147,13 +147,13 @@ module _ (row : Row) (notes line : List ℕ) where
       zeros (suc n) zero = refl
       zeros (suc n) (suc i) = zeros n i
 
-  pub taken-all : (q p n : ℕ) (buffer : List ℕ) → Taken row notes line q p buffer → p ≡ 8 * length line → n ≡ 4 * q
-      → buffer ≡ packed n (handedAt row notes line (8 * q))
+  pub taken-all : (q p n : ℕ) (buffer : List ℕ) → Taken row earlier notes line q p buffer → p ≡ 8 * length line → n ≡ 4 * q
+      → buffer ≡ packed n (handedAt row earlier notes line (8 * q))
   unfolding handedAt
   taken-all q p n buffer w e en =
-      packed-is buffer (handedAt row notes line (8 * q)) (w .bytes) digit ∙ ap (λ (m : ℕ). packed m (handedAt row notes line (8 * q))) (w .size ∙ sym en)
+      packed-is buffer (handedAt row earlier notes line (8 * q)) (w .bytes) digit ∙ ap (λ (m : ℕ). packed m (handedAt row earlier notes line (8 * q))) (w .size ∙ sym en)
     where
-      digit : (k : ℕ) → k < 8 * length buffer → digitAt buffer k ≡ getD (takenTo row notes line (k / (8 * q)) (8 * length line)) (k % (8 * q)) 0
+      digit : (k : ℕ) → k < 8 * length buffer → digitAt buffer k ≡ getD (takenTo row earlier notes line (k / (8 * q)) (8 * length line)) (k % (8 * q)) 0
       digit k h =
           let some : 0 < 8 * q = omega (arith, w .size) in
           let quarter : k / (8 * q) < 4 = div-lt-iff-lt-mul some .1 (omega (arith, w .size)) in

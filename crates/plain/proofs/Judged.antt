@@ -11,7 +11,7 @@ use lib.ListN.{length}
 use borrow.Author.Tests.{eqb-true, ltb-false, not-false}
 use Rattle.table.specs.declared.Row.{Row}
 use Rattle.plain.specs.declared.refusals.Verdict.{Verdict}
-use Rattle.plain.specs.Engine.{badLine, badNotes, badBuffer, firstFaulty, verdict, verdictOn, readingOn}
+use Rattle.plain.specs.Engine.{badLine, badNotes, badBuffer, firstFaulty, badEarlier, verdict, verdictOn, readingOn}
 use Rattle.plain.specs.Walk.{Regular, Fits}
 
 -- where neither of two faults is there
@@ -47,16 +47,17 @@ fits-by row re line notes two three = record { whole = rw (noted, re .packed) ei
     eights : 8 * line ≡ line / row .bytes * (8 * row .bytes)
     eights = omega (arith, div-add-mod' line (row .bytes), whole .0, mul-left-comm (line / row .bytes) 8 (row .bytes))
 
-pub accepted : (row : Row) → Regular row → (line : ℕ) (notes : List ℕ) (buffer : ℕ) → verdictOn row line notes buffer .refusal ≡ 0
+pub accepted : (row : Row) → Regular row → (earlier line : ℕ) (notes : List ℕ) (buffer : ℕ) → verdictOn row earlier line notes buffer .refusal ≡ 0
     → Fits row line (length notes) × (buffer ≡ 4 * (buffer / 4))
 unfolding verdictOn
-accepted row re line notes buffer e =
+accepted row re earlier line notes buffer e =
     let noted = cond (ltb (firstFaulty row notes) (length notes)) (verdict 5 (firstFaulty row notes)) (verdict 0 0) in
-    let roomy = cond (badBuffer row line buffer) (verdict 4 0) noted in
+    let voted = cond (badEarlier row earlier) (verdict 5 0) noted in
+    let roomy = cond (badBuffer row line buffer) (verdict 4 0) voted in
     let right = cond (badNotes row line (length notes)) (verdict 3 0) roomy in
     let two = unrefused (badLine row line) 2 (right .refusal) (λ z. omega arith) (sym (number (badLine row line) (verdict 2 0) right) ∙ e) in
     let three = unrefused (badNotes row line (length notes)) 3 (roomy .refusal) (λ z. omega arith) (sym (number (badNotes row line (length notes)) (verdict 3 0) roomy) ∙ two .1) in
-    let four = unrefused (badBuffer row line buffer) 4 (noted .refusal) (λ z. omega arith) (sym (number (badBuffer row line buffer) (verdict 4 0) noted) ∙ three .1) in
+    let four = unrefused (badBuffer row line buffer) 4 (voted .refusal) (λ z. omega arith) (sym (number (badBuffer row line buffer) (verdict 4 0) voted) ∙ three .1) in
     let fours = eqb-true (buffer % 4) 0 (neither (eqb (buffer % 4) 0) (ltb (8 * (buffer / 4)) (line / row .bytes * row .room)) (four .0) .0) in
     (fits-by row re line (length notes) (two .0) (three .0), omega arith)
 

@@ -7,7 +7,7 @@ use lib.Dec.{ltb}
 use borrow.Author.Tests.{ltb-true, ltb-false}
 use Rattle.table.specs.declared.Row.{Row}
 use Rattle.plain.specs.declared.frame.Place.{Place}
-use Rattle.plain.specs.declared.frame.Place.the-variants.{Alignment, Service, Control, Justification, Tributary}
+use Rattle.plain.specs.declared.frame.Place.the-variants.{Alignment, Service, Fixed, Control, Negative, Positive, Tributary}
 use Rattle.plain.specs.Engine.{placeIn}
 use Rattle.plain.proofs.Rows.{cond-by}
 
@@ -19,9 +19,11 @@ cond-known P false x y = y refl
 module _ (row : Row) (q : ℕ) where
   abbrev Known : Place → Type 0
   Known Alignment = q < row .len
-  Known Service = (row .len ≤ q) × (q < row .first)
+  Known Service = (row .len ≤ q) × (q < row .len + row .alarms + row .nationals)
+  Known Fixed = Unit {0}
   Known Control = Unit {0}
-  Known Justification = Unit {0}
+  Known Negative = Unit {0}
+  Known Positive = Unit {0}
   Known Tributary = Unit {0}
 
   known : Known (placeIn row q)
@@ -29,14 +31,17 @@ module _ (row : Row) (q : ℕ) where
   known =
       cond-known Known (ltb q (row .len)) (λ e. ltb-true q (row .len) e)
       (λ n.
-      cond-known Known (ltb q (row .first)) (λ e. (ltb-false q (row .len) n, ltb-true q (row .first) e))
+      cond-known Known (ltb q (row .len + row .alarms + row .nationals))
+      (λ e. (ltb-false q (row .len) n, ltb-true q (row .len + row .alarms + row .nationals) e))
       (λ _.
-      cond-by Known (ltb q (row .set)) tt
-      (cond-by Known (ltb (q % row .set) (row .middle)) tt
-      (cond-by Known (ltb (q + row .set) (row .digits)) tt (cond-by Known (ltb (q % row .set) (row .last)) tt tt)))))
+      cond-by Known (ltb q (row .first)) tt
+      (cond-by Known (ltb q (row .set)) tt
+      (cond-by Known (ltb (q % row .set) 4) tt
+      (cond-by Known (ltb (q + row .set) (row .digits)) (cond-by Known (ltb (q % row .set) (row .middle)) tt tt)
+      (cond-by Known (ltb (q % row .set + 4) (row .last)) tt (cond-by Known (ltb (q % row .set) (row .last)) tt tt)))))))
 
   pub in-word : placeIn row q ≡ Alignment → q < row .len
   in-word e = subst Known e known
 
-  pub in-service : placeIn row q ≡ Service → (row .len ≤ q) × (q < row .first)
+  pub in-service : placeIn row q ≡ Service → (row .len ≤ q) × (q < row .len + row .alarms + row .nationals)
   in-service e = subst Known e known

@@ -7,7 +7,7 @@ use lib.Dec.{eqb}
 use Rattle.table.specs.declared.Row.{Row}
 use Rattle.table.specs.declared.Level.{Level}
 use Rattle.table.specs.declared.Level.the-variants.{Of, NoSuchLevel}
-use Rattle.table.specs.Table.{levelOf, row2, row3, row4}
+use Rattle.table.specs.Table.{levelOf, row2, row3, row4, row12, row14}
 use Rattle.plain.specs.Walk.{Regular}
 
 regular2 : Regular row2
@@ -18,6 +18,12 @@ regular3 = omega arith
 
 regular4 : Regular row4
 regular4 = omega arith
+
+regular12 : Regular row12
+regular12 = omega arith
+
+regular14 : Regular row14
+regular14 = omega arith
 
 abbrev Known : Level → Type 0
 Known (Of row) = Regular row
@@ -30,7 +36,10 @@ cond-by P false x y = y
 
 known : (level : ℕ) → Known (levelOf level)
 unfolding levelOf
-known level = cond-by Known (eqb level 2) regular2 (cond-by Known (eqb level 3) regular3 (cond-by Known (eqb level 4) regular4 tt))
+known level =
+    cond-by Known (eqb level 2) regular2
+    (cond-by Known (eqb level 3) regular3
+    (cond-by Known (eqb level 4) regular4 (cond-by Known (eqb level 12) regular12 (cond-by Known (eqb level 14) regular14 tt))))
 
 pub regular-row : (level : ℕ) (row : Row) → levelOf level ≡ Of row → Regular row
 regular-row level row e = subst Known e (known level)

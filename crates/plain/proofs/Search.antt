@@ -34,7 +34,7 @@ module _ (limit : ℕ) (notes : List ℕ) (f : ℕ) where
       omega (arith, e, none)
 
 -- the limit as the code shifts it
-pub limit-is : (row : Row) → Regular row → 1 * 2 ^ (5 + row .nationals) % 2 ^ 64 ≡ 2 ^ (5 + row .nationals)
+pub limit-is : (row : Row) → Regular row → 1 * 2 ^ (4 + row .alarms + row .nationals) % 2 ^ 64 ≡ 2 ^ (4 + row .alarms + row .nationals)
 limit-is row re =
-    let small = pow-mono {i = 5 + row .nationals} {j = 8} (omega (arith, re .nationals)) in
-    rw (one-mul (2 ^ (5 + row .nationals))) (mod-eq-of-lt (omega (arith, small)))
+    let small = pow-mono {i = 4 + row .alarms + row .nationals} {j = 8} (omega (arith, re .alarms, re .nationals)) in
+    rw (one-mul (2 ^ (4 + row .alarms + row .nationals))) (mod-eq-of-lt (omega (arith, small)))

@@ -12,7 +12,7 @@ use lib.Seq.{getD-set-same, getD-set-other}
 use borrow.Author.Tests.{eq-eqb, ne-eqb}
 use Rattle.table.specs.declared.Row.{Row}
 use Rattle.plain.specs.declared.frame.Place.{Place}
-use Rattle.plain.specs.declared.frame.Place.the-variants.{Alignment, Service, Control, Justification, Tributary}
+use Rattle.plain.specs.declared.frame.Place.the-variants.{Alignment, Service, Fixed, Control, Negative, Positive, Tributary}
 use Rattle.plain.specs.Engine.{sumOver, placeIn, received, wrongBy, wrongTo, votesBy, votesTo, noteIn, dissentIn}
 use Rattle.plain.specs.Walk.{isControl, Voted, decisionsOf, minoritiesOf, servicesIn}
 use Rattle.plain.proofs.Rows.{cond-by}
@@ -21,8 +21,10 @@ use Rattle.plain.proofs.Rows.{cond-by}
 pub control-votes : (j v q d : ℕ) (place : Place) → votesBy j v q d place ≡ cond (isControl place) (cond (eqb (q % 4) j) (cond (eqb d v) 1 0) 0) 0
 control-votes j v q d Alignment = refl
 control-votes j v q d Service = refl
+control-votes j v q d Fixed = refl
 control-votes j v q d Control = refl
-control-votes j v q d Justification = refl
+control-votes j v q d Negative = refl
+control-votes j v q d Positive = refl
 control-votes j v q d Tributary = refl
 
 -- one vote more

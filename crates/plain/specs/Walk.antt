@@ -8,8 +8,8 @@ use lib.Dec.{ltb}
 use lib.ListN.{length, getD}
 use Rattle.table.specs.declared.Row.{Row}
 use Rattle.plain.specs.declared.frame.Place.{Place}
-use Rattle.plain.specs.declared.frame.Place.the-variants.{Alignment, Service, Control, Justification, Tributary}
-use Rattle.plain.specs.Engine.{digitAt, countTo, sentAt, received, votesTo, nationalIn, takenTo}
+use Rattle.plain.specs.declared.frame.Place.the-variants.{Alignment, Service, Fixed, Control, Negative, Positive, Tributary}
+use Rattle.plain.specs.Engine.{digitAt, countTo, sentAt, votesTo, alarmIn, nationalIn, takenTo}
 
 -- what the code needs of a row of the table
 pub record Regular (row : Row) : Type 0 where
@@ -18,8 +18,7 @@ pub record Regular (row : Row) : Type 0 where
   pub short : row .digits ≤ 4096
   pub sets : 0 < row .set
   pub word : row .len ≤ 16
-  pub alarm : row .alarm ≡ row .len
-  pub service : row .first ≤ row .alarm + 4
+  pub alarms : row .alarms ≤ 1
   pub national : row .national + row .nationals ≤ row .digits
   pub nationals : row .nationals ≤ 3
   pub alarmed : row .alarm < row .digits
@@ -40,22 +39,24 @@ abbrev pub Bytes : List ℕ → Type 0
 Bytes bs = (i : ℕ) → getD bs i 0 < 256
 
 -- the four running indices before place p: each is the number of its tributary's next digit
-pub record Counted (row : Row) (notes : List ℕ) (p : ℕ) (next : List ℕ) : Type 0 where
+pub record Counted (row : Row) (earlier : ℕ) (notes : List ℕ) (p : ℕ) (next : List ℕ) : Type 0 where
   pub four : length next ≡ 4
-  pub each : (j : ℕ) → j < 4 → getD next j 0 ≡ countTo row notes j p
+  pub each : (j : ℕ) → j < 4 → getD next j 0 ≡ countTo row earlier notes j p
 
 -- the line before place p: the places behind are sent
-pub record Sent (row : Row) (notes buffer : List ℕ) (p n : ℕ) (line : List ℕ) : Type 0 where
+pub record Sent (row : Row) (earlier : ℕ) (notes buffer : List ℕ) (p n : ℕ) (line : List ℕ) : Type 0 where
   pub bytes : Bytes line
   pub size : length line ≡ n
-  pub done : (k : ℕ) → k < p → digitAt line k ≡ sentAt row notes buffer k
+  pub done : (k : ℕ) → k < p → digitAt line k ≡ sentAt row earlier notes buffer k
 
 -- the one place whose digits vote
 abbrev pub isControl : Place → Bool
 isControl Alignment = false
 isControl Service = false
+isControl Fixed = false
 isControl Control = true
-isControl Justification = false
+isControl Negative = false
+isControl Positive = false
 isControl Tributary = false
 
 -- the control digits of frame f among its first n places: 4 * v + j counts those of tributary j that are v
@@ -82,14 +83,14 @@ minoritiesOf votes =
 -- the service digits of frame f, as bits 4 to 7
 unfoldable pub servicesIn : Row → List ℕ → ℕ → ℕ
 servicesIn row line f =
-    16 * received row line f (row .alarm) + 32 * nationalIn row line f 0 + 64 * nationalIn row line f 1 + 128 * nationalIn row line f 2
+    16 * alarmIn row line f + 32 * nationalIn row line f 0 + 64 * nationalIn row line f 1 + 128 * nationalIn row line f 2
 
 -- four counts with four more
 abbrev pub fourSums : List ℕ → List ℕ → List ℕ
 fourSums a b = (getD a 0 0 + getD b 0 0) ∷ (getD a 1 0 + getD b 1 0) ∷ (getD a 2 0 + getD b 2 0) ∷ (getD a 3 0 + getD b 3 0) ∷ []
 
 -- the buffer before place p of a line, its quarters q bytes each: the tributaries' digits so far, and zeros
-pub record Taken (row : Row) (notes line : List ℕ) (q p : ℕ) (buffer : List ℕ) : Type 0 where
+pub record Taken (row : Row) (earlier : ℕ) (notes line : List ℕ) (q p : ℕ) (buffer : List ℕ) : Type 0 where
   pub bytes : Bytes buffer
   pub size : length buffer ≡ 4 * q
-  pub done : (j i : ℕ) → j < 4 → i < 8 * q → digitAt buffer (8 * (j * q) + i) ≡ getD (takenTo row notes line j p) i 0
+  pub done : (j i : ℕ) → j < 4 → i < 8 * q → digitAt buffer (8 * (j * q) + i) ≡ getD (takenTo row earlier notes line j p) i 0

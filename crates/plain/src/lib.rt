@@ -1,6 +1,6 @@
 // The plain engine: multiplexing and demultiplexing digit by digit. Besides the level table it shares nothing with the quick engine (crates
-// multiplex and demultiplex); specs/Engine.antt is the whole of its specification. For each place of a line, in order: ask what the place
-// is, then read or write one digit.
+// multiplex, reading and extraction); specs/Engine.antt is the whole of its specification. For each place of a line, in order: ask what the
+// place is, then read or write one digit.
 pub mod frame;
 pub mod packed;
 pub mod reading;
@@ -31,18 +31,18 @@ pub struct NotesRead {
 }
 
 // A level's row is known.
-fn multiplex_on(row: Row, line: &mut [u8], notes: &[u8], buffer: &[u8]) -> Answered
+fn multiplex_on(row: Row, earlier: u64, line: &mut [u8], notes: &[u8], buffer: &[u8]) -> Answered
     requires { ⌜ Regular row ⌝ }
     ensures { λ r. ⌜
         (r
-        ≡ answerBy row (length (now (line .entry))) (now (notes .entry))
-        (verdictOn row (length (now (line .entry))) (now (notes .entry)) (length (now (buffer .entry)))))
+        ≡ answerBy row earlier (length (now (line .entry))) (now (notes .entry))
+        (verdictOn row earlier (length (now (line .entry))) (now (notes .entry)) (length (now (buffer .entry)))))
         × (now (line .exit)
-        ≡ sentLine row (now (line .entry)) (now (notes .entry)) (now (buffer .entry))
-        (verdictOn row (length (now (line .entry))) (now (notes .entry)) (length (now (buffer .entry)))))
+        ≡ sentLine row earlier (now (line .entry)) (now (notes .entry)) (now (buffer .entry))
+        (verdictOn row earlier (length (now (line .entry))) (now (notes .entry)) (length (now (buffer .entry)))))
         ⌝ }
 {
-    let v = refusals::verdict_on(row, line.len(), notes, buffer.len());
+    let v = refusals::verdict_on(row, earlier, line.len(), notes, buffer.len());
     if v.refusal != 0 {
         return Answered {
             refusal: v.refusal,
@@ -50,7 +50,7 @@ fn multiplex_on(row: Row, line: &mut [u8], notes: &[u8], buffer: &[u8]) -> Answe
             counts: [0; 4],
         };
     }
-    let counts = send::send(row, line, notes, buffer);
+    let counts = send::send(row, earlier, line, notes, buffer);
     Answered {
         refusal: 0,
         frame: 0,
@@ -58,13 +58,13 @@ fn multiplex_on(row: Row, line: &mut [u8], notes: &[u8], buffer: &[u8]) -> Answe
     }
 }
 
-// Multiplexes the notes and the quarters of the buffer into the line.
-pub fn multiplex(level: u64, line: &mut [u8], notes: &[u8], buffer: &[u8]) -> Answered
-    ensures { λ r. ⌜ MultiplexMet level (now (line .entry)) (now (notes .entry)) (now (buffer .entry)) r (now (line .exit)) ⌝ }
+// Multiplexes the notes and the quarters of the buffer into the line, by the notes and the vote before frame 0.
+pub fn multiplex(level: u64, earlier: u64, line: &mut [u8], notes: &[u8], buffer: &[u8]) -> Answered
+    ensures { λ r. ⌜ MultiplexMet level earlier (now (line .entry)) (now (notes .entry)) (now (buffer .entry)) r (now (line .exit)) ⌝ }
 {
     let found = table::level_of(level);
     match found {
-        Level::Of(row) => multiplex_on(row, line, notes, buffer),
+        Level::Of(row) => multiplex_on(row, earlier, line, notes, buffer),
         Level::NoSuchLevel => Answered {
             refusal: 1,
             frame: 0,
@@ -115,18 +115,18 @@ pub fn read_notes(level: u64, line: &[u8], notes: &mut [u8]) -> NotesRead
     }
 }
 
-fn extract_on(row: Row, line: &[u8], notes: &[u8], buffer: &mut [u8]) -> Answered
+fn extract_on(row: Row, earlier: u64, line: &[u8], notes: &[u8], buffer: &mut [u8]) -> Answered
     requires { ⌜ Regular row ⌝ }
     ensures { λ r. ⌜
         (r
-        ≡ answerBy row (length (now (line .entry))) (now (notes .entry))
-        (verdictOn row (length (now (line .entry))) (now (notes .entry)) (length (now (buffer .entry)))))
+        ≡ answerBy row earlier (length (now (line .entry))) (now (notes .entry))
+        (verdictOn row earlier (length (now (line .entry))) (now (notes .entry)) (length (now (buffer .entry)))))
         × (now (buffer .exit)
-        ≡ takenBuffer row (now (line .entry)) (now (notes .entry)) (now (buffer .entry))
-        (verdictOn row (length (now (line .entry))) (now (notes .entry)) (length (now (buffer .entry)))))
+        ≡ takenBuffer row earlier (now (line .entry)) (now (notes .entry)) (now (buffer .entry))
+        (verdictOn row earlier (length (now (line .entry))) (now (notes .entry)) (length (now (buffer .entry)))))
         ⌝ }
 {
-    let v = refusals::verdict_on(row, line.len(), notes, buffer.len());
+    let v = refusals::verdict_on(row, earlier, line.len(), notes, buffer.len());
     if v.refusal != 0 {
         return Answered {
             refusal: v.refusal,
@@ -134,7 +134,7 @@ fn extract_on(row: Row, line: &[u8], notes: &[u8], buffer: &mut [u8]) -> Answere
             counts: [0; 4],
         };
     }
-    let counts = take::take(row, line, notes, buffer);
+    let counts = take::take(row, earlier, line, notes, buffer);
     Answered {
         refusal: 0,
         frame: 0,
@@ -142,13 +142,13 @@ fn extract_on(row: Row, line: &[u8], notes: &[u8], buffer: &mut [u8]) -> Answere
     }
 }
 
-// Extracts the tributaries of the line into the quarters of the buffer, by the notes given.
-pub fn extract(level: u64, line: &[u8], notes: &[u8], buffer: &mut [u8]) -> Answered
-    ensures { λ r. ⌜ ExtractMet level (now (line .entry)) (now (notes .entry)) (now (buffer .entry)) r (now (buffer .exit)) ⌝ }
+// Extracts the tributaries of the line into the quarters of the buffer, by the notes given and the vote before frame 0.
+pub fn extract(level: u64, earlier: u64, line: &[u8], notes: &[u8], buffer: &mut [u8]) -> Answered
+    ensures { λ r. ⌜ ExtractMet level earlier (now (line .entry)) (now (notes .entry)) (now (buffer .entry)) r (now (buffer .exit)) ⌝ }
 {
     let found = table::level_of(level);
     match found {
-        Level::Of(row) => extract_on(row, line, notes, buffer),
+        Level::Of(row) => extract_on(row, earlier, line, notes, buffer),
         Level::NoSuchLevel => Answered {
             refusal: 1,
             frame: 0,

@@ -10,7 +10,8 @@ ghost use mathlib.Core.List.{[], _∷_};
 ghost use Prim.Native.Nat.{ℕ, _+_, _*_, _%_, _<_, _≤_, min};
 ghost use lib.Dec.{ltb};
 ghost use lib.ListN.{length, getD};
-ghost use Rattle.plain.specs.Engine.{placeIn, received, wrongBy, votesBy, wrongTo, nationalIn, noteIn, notesTo, alignmentTo, dissentIn, dissentsTo};
+ghost use Rattle.plain.specs.Engine.{placeIn, received, wrongBy, votesBy, wrongTo, alarmIn, nationalIn, noteIn};
+ghost use Rattle.plain.specs.Engine.{notesTo, alignmentTo, dissentIn, dissentsTo};
 ghost use Rattle.plain.specs.Walk.{Regular, Fits, Within, isControl, Voted, decisionsOf, minoritiesOf, servicesIn, fourSums};
 
 // What a frame says: its note, the wrong digits of its alignment signal, the dissenting digits of each tributary.
@@ -40,8 +41,10 @@ fn wrong_by(row: Row, q: usize, d: u8) -> usize
             1
         }
         Place::Service => 0,
+        Place::Fixed => 0,
         Place::Control => 0,
-        Place::Justification => 0,
+        Place::Negative => 0,
+        Place::Positive => 0,
         Place::Tributary => 0,
     }
 }
@@ -52,8 +55,10 @@ fn is_control(place: Place) -> bool
     match place {
         Place::Alignment => false,
         Place::Service => false,
+        Place::Fixed => false,
         Place::Control => true,
-        Place::Justification => false,
+        Place::Negative => false,
+        Place::Positive => false,
         Place::Tributary => false,
     }
 }
@@ -153,6 +158,17 @@ fn minorities(votes: &[usize; 8]) -> [usize; 4]
     ]
 }
 
+// The remote alarm digit of frame f, or 0.
+fn alarm_in(row: Row, line: &[u8], f: usize) -> u8
+    requires { ⌜ Regular row × Within row (length (now line)) f ⌝ }
+    ensures { λ d. ⌜ (d ≡ alarmIn row (now (line .entry)) f) × (d < 2) ⌝ }
+{
+    if 0 < row.alarms {
+        return packed::digit_from(line, 0, f * row.digits + row.alarm);
+    }
+    0
+}
+
 // The k-th digit for national use of frame f, or 0.
 fn national_in(row: Row, line: &[u8], f: usize, k: usize) -> u8
     requires { ⌜ Regular row × Within row (length (now line)) f ⌝ }
@@ -169,8 +185,7 @@ fn services(row: Row, line: &[u8], f: usize) -> u8
     requires { ⌜ Regular row × Within row (length (now line)) f ⌝ }
     ensures { λ r. ⌜ (r ≡ servicesIn row (now (line .entry)) f) × (r ≤ 240) ⌝ }
 {
-    let alarm = packed::digit_from(line, 0, f * row.digits + row.alarm);
-    let low = 16 * alarm + 32 * national_in(row, line, f, 0);
+    let low = 16 * alarm_in(row, line, f) + 32 * national_in(row, line, f, 0);
     low + 64 * national_in(row, line, f, 1) + 128 * national_in(row, line, f, 2)
 }
 

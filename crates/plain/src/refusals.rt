@@ -1,9 +1,9 @@
-// The refusals of the three calls, in document 01's order.
+// The refusals of the three calls, in the documents' order.
 use table::Row;
 ghost use mathlib.Core.Path.{_≡_};
 ghost use Prim.Native.Nat.{_/_, _^_, _<_, _≤_};
 ghost use lib.ListN.{length};
-ghost use Rattle.plain.specs.Engine.{badLine, badBuffer, firstFaulty, verdictOn, readingOn};
+ghost use Rattle.plain.specs.Engine.{badLine, badBuffer, badEarlier, firstFaulty, verdictOn, readingOn};
 ghost use Rattle.plain.specs.Walk.{Regular};
 
 // The refusal, or 0, and the frame that refusal 5 names, or 0.
@@ -34,12 +34,22 @@ fn bad_buffer(row: Row, line: usize, buffer: usize) -> bool
     8 * (buffer / 4) < line / row.bytes * row.room
 }
 
+// 5: an earlier vote over 15, where the level has negative places; elsewhere it is not looked at.
+fn bad_earlier(row: Row, earlier: u64) -> bool
+    ensures { λ r. ⌜ r ≡ badEarlier row earlier ⌝ }
+{
+    if row.n < row.room {
+        return 15 < earlier;
+    }
+    false
+}
+
 // 5: the first frame whose note has a bit that the level has not, or the number of notes where there is none.
 fn first_faulty(row: Row, notes: &[u8]) -> usize
     requires { ⌜ Regular row ⌝ }
     ensures { λ r. ⌜ r ≡ firstFaulty row (now (notes .entry)) ⌝ }
 {
-    let limit: usize = 1 << (5 + row.nationals);
+    let limit: usize = 1 << (4 + row.alarms + row.nationals);
     let mut f: usize = 0;
     while f < notes.len() {
         if limit <= notes[f] as usize {
@@ -57,9 +67,9 @@ fn refused(refusal: u64, frame: usize) -> Verdict
 }
 
 // 2, 3, 4 and 5 in this order: for multiplexing and for extraction.
-pub fn verdict_on(row: Row, line: usize, notes: &[u8], buffer: usize) -> Verdict
+pub fn verdict_on(row: Row, earlier: u64, line: usize, notes: &[u8], buffer: usize) -> Verdict
     requires { ⌜ Regular row × (buffer < 2 ^ 63) ⌝ }
-    ensures { λ r. ⌜ r ≡ verdictOn row line (now (notes .entry)) buffer ⌝ }
+    ensures { λ r. ⌜ r ≡ verdictOn row earlier line (now (notes .entry)) buffer ⌝ }
 {
     if bad_line(row, line) {
         return refused(2, 0);
@@ -67,8 +77,13 @@ pub fn verdict_on(row: Row, line: usize, notes: &[u8], buffer: usize) -> Verdict
     if notes.len() != line / row.bytes {
         return refused(3, 0);
     }
-    if bad_buffer(row, line, buffer) {
+    let full = bad_buffer(row, line, buffer);
+    let over = bad_earlier(row, earlier);
+    if full {
         return refused(4, 0);
+    }
+    if over {
+        return refused(5, 0);
     }
     let f = first_faulty(row, notes);
     if f < notes.len() {

@@ -20,17 +20,25 @@ fn clear(bytes: &mut [u8])
 }
 
 // Place p of the line: where it carries a digit, that is its tributary's next.
-fn take_place(row: Row, line: &[u8], notes: &[u8], buffer: &mut [u8], next: &[usize; 4], p: usize)
+fn take_place(
+    row: Row,
+    earlier: u64,
+    line: &[u8],
+    notes: &[u8],
+    buffer: &mut [u8],
+    next: &[usize; 4],
+    p: usize,
+)
     requires { ⌜
         Regular row
         × (p / 8 < length (now line))
         × (p / row .digits < length (now notes))
-        × Counted row (now notes) p (now next)
-        × Taken row (now notes) (now line) (length (now buffer) / 4) p (now buffer)
+        × Counted row earlier (now notes) p (now next)
+        × Taken row earlier (now notes) (now line) (length (now buffer) / 4) p (now buffer)
         ⌝ }
-    ensures { λ _. ⌜ Taken row (now (notes .entry)) (now (line .entry)) (length (now (buffer .entry)) / 4) (p + 1) (now (buffer .exit)) ⌝ }
+    ensures { λ _. ⌜ Taken row earlier (now (notes .entry)) (now (line .entry)) (length (now (buffer .entry)) / 4) (p + 1) (now (buffer .exit)) ⌝ }
 {
-    if frame::carries_at(row, notes, p) {
+    if frame::carries_at(row, earlier, notes, p) {
         let j = p % row.digits % 4;
         let q = buffer.len() / 4;
         let i = next[j];
@@ -42,14 +50,14 @@ fn take_place(row: Row, line: &[u8], notes: &[u8], buffer: &mut [u8], next: &[us
 }
 
 // The whole line, place by place. Answers how many digits each tributary got.
-pub fn take(row: Row, line: &[u8], notes: &[u8], buffer: &mut [u8]) -> [usize; 4]
+pub fn take(row: Row, earlier: u64, line: &[u8], notes: &[u8], buffer: &mut [u8]) -> [usize; 4]
     requires { ⌜
         Regular row × Fits row (length (now line)) (length (now notes)) × (length (now buffer) ≡ 4 * (length (now buffer) / 4))
         ⌝ }
     ensures { λ r. ⌜
-        (r ≡ countsTo row (now (notes .entry)) (8 * length (now (line .entry))))
+        (r ≡ countsTo row earlier (now (notes .entry)) (8 * length (now (line .entry))))
         × (now (buffer .exit)
-        ≡ packed (length (now (buffer .entry))) (handedAt row (now (notes .entry)) (now (line .entry)) (8 * (length (now (buffer .entry)) / 4))))
+        ≡ packed (length (now (buffer .entry))) (handedAt row earlier (now (notes .entry)) (now (line .entry)) (8 * (length (now (buffer .entry)) / 4))))
         ⌝ }
 {
     clear(buffer);
@@ -57,8 +65,8 @@ pub fn take(row: Row, line: &[u8], notes: &[u8], buffer: &mut [u8]) -> [usize; 4
     let end = 8 * line.len();
     let mut p: usize = 0;
     while p < end {
-        take_place(row, line, notes, buffer, &next, p);
-        frame::count_place(row, notes, &mut next, p);
+        take_place(row, earlier, line, notes, buffer, &next, p);
+        frame::count_place(row, earlier, notes, &mut next, p);
         p += 1;
     }
     next

@@ -4,9 +4,9 @@ use mathlib.Core.Bool.{Bool, cond, true, false}
 use mathlib.Core.List.{List, [], _∷_, _++_, append-assoc, append-nil}
 use Prim.Native.Nat.{ℕ, zero, suc, _+_, _*_, _-_, _/_, _%_, _^_, _≤_, _<_}
 use native.Mathlib.Omega.{arith}
-use native.Mathlib.Decide.{ℕ-discrete}
+use native.Mathlib.Decide.{decLt, ℕ-discrete}
 use native.Mathlib.Nat.{mul-left-comm, not-suc-le-zero, div-add-mod'}
-use lib.Dec.{eqb, ltb, leb}
+use lib.Dec.{eqb, lit<}
 use lib.ListN.{length, getD, take, replicate, length-append, length-map, length-replicate}
 use lib.Seq.{take-at}
 use borrow.Author.Tests.{eq-eqb, ne-eqb, le-ltb, lt-leb, ltb-false, leb-false}
@@ -20,7 +20,7 @@ use Rattle.table.specs.declared.Level.the-variants.{Of, NoSuchLevel}
 use Rattle.table.specs.Table.{levelOf}
 use Rattle.levels.specs.Table.{Shared}
 use Rattle.levels.specs.Sizes.{onLevel, framesOf, sizeRefusal, quarterOf, Accepted}
-use Rattle.levels.specs.Order.{decisions, countOf, countsOf, placesOf}
+use Rattle.levels.specs.Order.{actions, countOf, countsOf, placesOf}
 use Rattle.levels.proofs.Rows.{shared-row}
 use Rattle.levels.proofs.Counts.{line-count, count-room}
 use Rattle.levels.proofs.Columns.{columns, frame-start}
@@ -28,8 +28,8 @@ use Rattle.levels.proofs.Inverse.{places-length}
 use Rattle.levels.proofs.Judged.{accepted, fits-quarter, no-size-refused}
 use Rattle.levels.specs.declared.judging.Counted.{Counted}
 use Rattle.levels.specs.declared.judging.Fault.{Fault}
-use Rattle.levels.specs.Judging.{fault, faultOf, refusedWith, counted, answerOn, answered}
-use Rattle.levels.proofs.Refusals.{NotesFit, faultless, fit-faultless}
+use Rattle.levels.specs.Judging.{fault, badEarlier, faultOf, refusedWith, counted, answerOn, answered}
+use Rattle.levels.proofs.Refusals.{EarlierFits, NotesFit, faultless, fit-faultless}
 use Rattle.multiplex.specs.Line.{lineDigit, lineOf}
 use Rattle.reading.specs.Notes.{noteOf, notesOf, dissentTo, dissentsOf}
 use Rattle.extraction.specs.Quarters.{takenTo, quarterFrom, quartersFrom}
@@ -46,28 +46,31 @@ some-level : {A : Type 0} (P : A → Type 0) (level : Level) (go : Row → A) (n
 some-level P (Of row) go none n h = (row, refl)
 some-level P NoSuchLevel go none n h = absurd (n h)
 
-pub send-level : (level : ℕ) (c : Lent) → SendAccepted level c → (row : Row) × (levelOf level ≡ Of row)
-send-level level c ok =
-    some-level (λ (r : Counted). r .refusal ≡ 0) (levelOf level) (λ (row : Row). answerOn row (length (c .line)) (c .notes) (length (c .buffer))) (refusedWith (fault 1 0)) (λ e. omega arith) ok
+pub send-level : (level earlier : ℕ) (c : Lent) → SendAccepted level earlier c → (row : Row) × (levelOf level ≡ Of row)
+send-level level earlier c ok =
+    some-level (λ (r : Counted). r .refusal ≡ 0) (levelOf level) (λ (row : Row). answerOn row earlier (length (c .line)) (c .notes) (length (c .buffer))) (refusedWith (fault 1 0)) (λ e. omega arith) ok
 
 -- a reading that was accepted is that of the one call
-pub as-together : (level : ℕ) (c : Lent) → ReadAccepted level c → outcome level c ≡ together level (c .line) (c .notes) (c .buffer)
-as-together level c ok =
-    elim (ℕ-discrete (together level (c .line) (c .notes) (c .buffer) .refusal) 4) [
-      | yes four ↦ absurd (some (sym (ap (λ (o : Outcome). o .refusal) (split level (c .line) (c .notes) (c .buffer) .room four)) ∙ ok))
-      | no n ↦ split level (c .line) (c .notes) (c .buffer) .same n
+pub as-together : (level earlier : ℕ) (c : Lent) → ReadAccepted level earlier c → outcome level earlier c ≡ together level earlier (c .line) (c .notes) (c .buffer)
+as-together level earlier c ok =
+    elim (decLt (together level earlier (c .line) (c .notes) (c .buffer) .refusal) 4) [
+      | yes low ↦ split level earlier (c .line) (c .notes) (c .buffer) .same low
+      | no high ↦
+          let late : 4 ≤ together level earlier (c .line) (c .notes) (c .buffer) .refusal = omega arith in
+          let told = sym (ap (λ (o : Outcome). o .refusal) (split level earlier (c .line) (c .notes) (c .buffer) .second-refused late)) ∙ ok in
+          absurd (some (rw told at late))
     ]
   where
-    some : _≡_ {A = ℕ} 4 0 → ⊥
+    some : _≤_ 4 0 → ⊥
     some e = omega arith
 
-accepted-together : (level : ℕ) (c : Lent) → ReadAccepted level c → together level (c .line) (c .notes) (c .buffer) .refusal ≡ 0
-accepted-together level c ok = sym (ap (λ (o : Outcome). o .refusal) (as-together level c ok)) ∙ ok
+accepted-together : (level earlier : ℕ) (c : Lent) → ReadAccepted level earlier c → together level earlier (c .line) (c .notes) (c .buffer) .refusal ≡ 0
+accepted-together level earlier c ok = sym (ap (λ (o : Outcome). o .refusal) (as-together level earlier c ok)) ∙ ok
 
-pub read-level : (level : ℕ) (c : Lent) → ReadAccepted level c → (row : Row) × (levelOf level ≡ Of row)
-read-level level c ok =
-    some-level (λ (o : Outcome). o .refusal ≡ 0) (levelOf level) (λ (row : Row). togetherOn row (c .line) (c .notes) (c .buffer)) (refusedWhole 1 (c .notes) (c .buffer)) (λ e. omega arith)
-    (accepted-together level c ok)
+pub read-level : (level earlier : ℕ) (c : Lent) → ReadAccepted level earlier c → (row : Row) × (levelOf level ≡ Of row)
+read-level level earlier c ok =
+    some-level (λ (o : Outcome). o .refusal ≡ 0) (levelOf level) (λ (row : Row). togetherOn row earlier (c .line) (c .notes) (c .buffer)) (refusedWhole 1 (c .notes) (c .buffer)) (λ e. omega arith)
+    (accepted-together level earlier c ok)
 
 -- an answer that is given by a refusal number is accepted where that number is 0
 zero-refusal : {A : Type 0} (refusal : A → ℕ) (n : ℕ) (sent refused : A) → refusal refused ≡ n → refusal (cond (eqb n 0) sent refused) ≡ 0 → n ≡ 0
@@ -78,26 +81,26 @@ zero-refusal refusal n sent refused r e =
     ]
 
 -- the count of a tributary is its own of the four
-pub count-at : (row : Row) (notes : List ℕ) (F j : ℕ) → j < 4 → getD (countsOf row notes F) j 0 ≡ countOf row (decisions notes j) F
-count-at row notes F = of-four (λ (j : ℕ). getD (countsOf row notes F) j 0 ≡ countOf row (decisions notes j) F) refl refl refl refl
+pub count-at : (row : Row) (earlier : ℕ) (notes : List ℕ) (F j : ℕ) → j < 4 → getD (countsOf row earlier notes F) j 0 ≡ countOf row (actions row earlier notes j) F
+count-at row earlier notes F = of-four (λ (j : ℕ). getD (countsOf row earlier notes F) j 0 ≡ countOf row (actions row earlier notes j) F) refl refl refl refl
 
 pub dissent-at : (row : Row) (ds : List ℕ) (F j : ℕ) → j < 4 → getD (dissentsOf row ds F) j 0 ≡ dissentTo row ds j F
 dissent-at row ds F = of-four (λ (j : ℕ). getD (dissentsOf row ds F) j 0 ≡ dissentTo row ds j F) refl refl refl refl
 
 -- the quarters that an extraction leaves are those of its tributaries
-module _ (row : Row) (notes line : List ℕ) (q : ℕ) where
+module _ (row : Row) (earlier : ℕ) (notes line : List ℕ) (q : ℕ) where
   abbrev part : ℕ → List ℕ
-  part j = quarterFrom row notes line q j
+  part j = quarterFrom row earlier notes line q j
 
   long : (j : ℕ) → length (part j) ≡ q
   unfolding quarterFrom
   long j = bytes-length q _
 
-  pub quarters-length : length (quartersFrom row notes line q) ≡ 4 * q
+  pub quarters-length : length (quartersFrom row earlier notes line q) ≡ 4 * q
   unfolding quartersFrom
   quarters-length = simp length-append (omega (arith, long 0, long 1, long 2, long 3))
 
-  quarter-is : (j : ℕ) → j < 4 → quarterOf (quartersFrom row notes line q) j ≡ part j
+  quarter-is : (j : ℕ) → j < 4 → quarterOf (quartersFrom row earlier notes line q) j ≡ part j
   unfolding quartersFrom
   quarter-is =
       of-four (λ (j : ℕ). quarterOf all j ≡ part j)
@@ -107,7 +110,7 @@ module _ (row : Row) (notes line : List ℕ) (q : ℕ) where
       (quarter-at all ((part 0 ++ part 1) ++ part 2) (part 3) [] 3 q last quarters-length (length-append (part 0 ++ part 1) (part 2) ∙ omega (arith, two, long 2)) (long 3))
     where
       all : List ℕ
-      all = quartersFrom row notes line q
+      all = quartersFrom row earlier notes line q
 
       two : length (part 0 ++ part 1) ≡ q + q
       two = length-append (part 0) (part 1) ∙ omega (arith, long 0, long 1)
@@ -116,45 +119,45 @@ module _ (row : Row) (notes line : List ℕ) (q : ℕ) where
       last = simp (append-nil, append-assoc)
 
 -- a quarter with room for a tributary's digits holds them, and zeros after them
-quarter-digits : (row : Row) (notes line taken : List ℕ) (q j : ℕ) → takenTo row notes (digitsOf line) j (2 * length line) ≡ taken → length taken ≤ 8 * q
-    → digitsOf (quarterFrom row notes line q j) ≡ taken ++ replicate (8 * q - length taken) 0
+quarter-digits : (row : Row) (earlier : ℕ) (notes line taken : List ℕ) (q j : ℕ) → takenTo row earlier notes (digitsOf line) j (2 * length line) ≡ taken → length taken ≤ 8 * q
+    → digitsOf (quarterFrom row earlier notes line q j) ≡ taken ++ replicate (8 * q - length taken) 0
 unfolding quarterFrom takenTo
-quarter-digits row notes line taken q j e room =
+quarter-digits row earlier notes line taken q j e room =
     let zeros = replicate {A = ℕ} (8 * q - length taken) 0 in
     rw e
     (digits-of-bytes q (taken ++ zeros) (binary-append taken zeros (rw e at small) (zeros-binary (8 * q - length taken)))
     (length-append taken zeros ∙ omega (arith, length-replicate {A = ℕ} (8 * q - length taken) 0)))
   where
-    small : Binary (takenTo row notes (digitsOf line) j (2 * length line))
-    small = map-binary (λ (p : ℕ). getD (digitsOf line) p 0) (placesOf row (decisions notes j) j (2 * length line)) (λ i. digits-binary line i)
+    small : Binary (takenTo row earlier notes (digitsOf line) j (2 * length line))
+    small = map-binary (λ (p : ℕ). getD (digitsOf line) p 0) (placesOf row (actions row earlier notes j) j (2 * length line)) (λ i. digits-binary line i)
 
 -- a tributary has as many digits as are counted
-pub taken-length : (row : Row) → Shared row → (notes ds : List ℕ) (F j : ℕ) → j < 4 → length (takenTo row notes ds j (F * columns row)) ≡ countOf row (decisions notes j) F
+pub taken-length : (row : Row) → Shared row → (earlier : ℕ) (notes ds : List ℕ) (F j : ℕ) → j < 4 → length (takenTo row earlier notes ds j (F * columns row)) ≡ countOf row (actions row earlier notes j) F
 unfolding takenTo countOf
-taken-length row sh notes ds F j hj =
-    length-map (placesOf row (decisions notes j) j (F * columns row)) (λ (p : ℕ). getD ds p 0)
-    ∙ places-length row (decisions notes j) j (F * columns row)
-    ∙ omega (arith, line-count row sh j hj (decisions notes j) F)
+taken-length row sh earlier notes ds F j hj =
+    length-map (placesOf row (actions row earlier notes j) j (F * columns row)) (λ (p : ℕ). getD ds p 0)
+    ∙ places-length row (actions row earlier notes j) j (F * columns row)
+    ∙ omega (arith, line-count row sh j hj (actions row earlier notes j) F)
 
 -- so a quarter with room has a tributary's digits first, as many as are counted
-module _ (row : Row) (sh : Shared row) (notes line : List ℕ) (F q j : ℕ) (hj : j < 4) (places : 8 * length line ≡ F * row .digits) (room : F * row .room ≤ 8 * q) where
+module _ (row : Row) (sh : Shared row) (earlier : ℕ) (notes line : List ℕ) (F q j : ℕ) (hj : j < 4) (places : 8 * length line ≡ F * row .digits) (room : F * row .room ≤ 8 * q) where
   abbrev count : ℕ
-  count = countOf row (decisions notes j) F
+  count = countOf row (actions row earlier notes j) F
 
   abbrev taken : List ℕ
-  taken = takenTo row notes (digitsOf line) j (F * columns row)
+  taken = takenTo row earlier notes (digitsOf line) j (F * columns row)
 
-  whole : takenTo row notes (digitsOf line) j (2 * length line) ≡ taken
+  whole : takenTo row earlier notes (digitsOf line) j (2 * length line) ≡ taken
   whole =
       let all : 2 * length line ≡ F * columns row = omega (arith, places, frame-start row sh j hj F) in
       rw all
 
-  pub quarter-taken : take count (digitsOf (quarterOf (quartersFrom row notes line q) j)) ≡ taken
+  pub quarter-taken : take count (digitsOf (quarterOf (quartersFrom row earlier notes line q) j)) ≡ taken
   unfolding countOf
   quarter-taken =
-      let all = taken-length row sh notes (digitsOf line) F j hj in
-      ap (λ (l : List ℕ). take count (digitsOf l)) (quarter-is row notes line q j hj)
-      ∙ ap (λ (l : List ℕ). take count l) (quarter-digits row notes line taken q j whole (omega (arith, all, count-room row sh j hj (decisions notes j) F, room)))
+      let all = taken-length row sh earlier notes (digitsOf line) F j hj in
+      ap (λ (l : List ℕ). take count (digitsOf l)) (quarter-is row earlier notes line q j hj)
+      ∙ ap (λ (l : List ℕ). take count l) (quarter-digits row earlier notes line taken q j whole (omega (arith, all, count-room row sh j hj (actions row earlier notes j) F, room)))
       ∙ take-at taken (replicate (8 * q - length taken) 0) count all
 
 -- a line of accepted length is its frames, in bytes and in digits
@@ -165,11 +168,11 @@ line-places : (row : Row) → Shared row → (line notes buffer : ℕ) → Accep
 line-places row sh line notes buffer sizes =
     ap (λ (n : ℕ). 8 * n) (line-bytes row line notes buffer sizes) ∙ mul-left-comm 8 notes (row .bytes) ∙ ap (λ (n : ℕ). notes * n) (sym (sh .packed))
 
-pub line-digits : (row : Row) (notes : List ℕ) (tributary : ℕ → List ℕ) → ((j : ℕ) → j < 4 → Binary (tributary j)) → (bytes F : ℕ) → 8 * bytes ≡ F * row .digits
-    → digitsOf (lineOf row notes tributary bytes) ≡ lineDigits row notes tributary F
-line-digits row notes tributary bin bytes F places =
+pub line-digits : (row : Row) (earlier : ℕ) (notes : List ℕ) (tributary : ℕ → List ℕ) → ((j : ℕ) → j < 4 → Binary (tributary j)) → (bytes F : ℕ) → 8 * bytes ≡ F * row .digits
+    → digitsOf (lineOf row earlier notes tributary bytes) ≡ lineDigits row earlier notes tributary F
+line-digits row earlier notes tributary bin bytes F places =
     rw places
-    (digits-of-bytes bytes (lineDigits row notes tributary F) (line-binary row notes tributary bin F) (tab-length (F * row .digits) 0 (lineDigit row notes tributary) ∙ sym places))
+    (digits-of-bytes bytes (lineDigits row earlier notes tributary F) (line-binary row earlier notes tributary bin F) (tab-length (F * row .digits) 0 (lineDigit row earlier notes tributary) ∙ sym places))
 
 module _ (level : ℕ) (row : Row) (e : levelOf level ≡ Of row) where
   pub shared : Shared row
@@ -186,23 +189,25 @@ module _ (level : ℕ) (row : Row) (e : levelOf level ≡ Of row) where
         room = rw F (lent .room);
       }
 
-  pub read-accepted : (one other : Lent) → Accepted row (length (one .line)) (length (one .notes)) (length (one .buffer))
-      → length (other .line) ≡ length (one .line) → LentFor (row .room) one other → ReadAccepted level other
-  read-accepted one other sizes same lent =
-      let whole = no-size-refused row (length (other .line)) (length (other .notes)) (length (other .buffer)) (lent-accepted one other sizes same lent) in
-      let zero : together level (other .line) (other .notes) (other .buffer) .refusal ≡ 0 = rw (e, whole) in
-      ap (λ (o : Outcome). o .refusal) (split level (other .line) (other .notes) (other .buffer) .same (λ four. some (sym zero ∙ four))) ∙ zero
-    where
-      some : _≡_ {A = ℕ} 0 4 → ⊥
-      some e = omega arith
+module _ (level earlier : ℕ) (row : Row) (e : levelOf level ≡ Of row) where
+  abbrev sh : Shared row
+  sh = shared level row e
 
-  -- a call of accepted lengths, with no bit in its notes that the level has not, is accepted
-  pub send-accepted : (c : Lent) → sizeRefusal row (length (c .line)) (length (c .notes)) (length (c .buffer)) ≡ 0 → NotesFit row (c .notes) → SendAccepted level c
-  send-accepted c size fit =
-      rw (e, fit-faultless row (length (c .line)) (c .notes) (length (c .buffer)) (accepted row (length (c .line)) (length (c .notes)) (length (c .buffer)) size) fit)
+  pub read-accepted : (one other : Lent) → Accepted row (length (one .line)) (length (one .notes)) (length (one .buffer)) → EarlierFits row earlier
+      → length (other .line) ≡ length (one .line) → LentFor (row .room) one other → ReadAccepted level earlier other
+  read-accepted one other sizes fits same lent =
+      let whole = no-size-refused row (length (other .line)) (length (other .notes)) (length (other .buffer)) (lent-accepted level row e one other sizes same lent) in
+      let zero : together level earlier (other .line) (other .notes) (other .buffer) .refusal ≡ 0 = rw (e, whole, fits) in
+      ap (λ (o : Outcome). o .refusal) (split level earlier (other .line) (other .notes) (other .buffer) .same (rw zero (lit< tt))) ∙ zero
+
+  -- a call of accepted lengths, with an earlier vote and notes that fit the level, is accepted
+  pub send-accepted : (c : Lent) → sizeRefusal row (length (c .line)) (length (c .notes)) (length (c .buffer)) ≡ 0 → EarlierFits row earlier → NotesFit row (c .notes)
+      → SendAccepted level earlier c
+  send-accepted c size vote fit =
+      rw (e, fit-faultless row earlier (length (c .line)) (c .notes) (length (c .buffer)) (accepted row (length (c .line)) (length (c .notes)) (length (c .buffer)) size) vote fit)
 
   -- an accepted send
-  module _ (c : Lent) (ok : SendAccepted level c) where
+  module _ (c : Lent) (ok : SendAccepted level earlier c) where
     abbrev F : ℕ
     F = length (c .notes)
 
@@ -210,49 +215,52 @@ module _ (level : ℕ) (row : Row) (e : levelOf level ≡ Of row) where
     tributary j = digitsOf (quarterOf (c .buffer) j)
 
     abbrev pub found : Fault
-    found = faultOf row (length (c .line)) (c .notes) (length (c .buffer))
+    found = faultOf row earlier (length (c .line)) (c .notes) (length (c .buffer))
 
     pub unrefused : found .refusal ≡ 0
-    unrefused = zero-refusal (λ (r : Counted). r .refusal) (found .refusal) (counted row (c .notes)) (refusedWith found) refl (rw e at ok)
+    unrefused = zero-refusal (λ (r : Counted). r .refusal) (found .refusal) (counted row earlier (c .notes)) (refusedWith found) refl (rw e at ok)
 
     pub send-sizes : Accepted row (length (c .line)) F (length (c .buffer))
-    send-sizes = faultless row (length (c .line)) (c .notes) (length (c .buffer)) unrefused .0
+    send-sizes = faultless row earlier (length (c .line)) (c .notes) (length (c .buffer)) unrefused .0
+
+    pub send-vote : EarlierFits row earlier
+    send-vote = faultless row earlier (length (c .line)) (c .notes) (length (c .buffer)) unrefused .1 .0
 
     pub send-whole : length (c .line) ≡ F * row .bytes
     send-whole = line-bytes row (length (c .line)) F (length (c .buffer)) send-sizes
 
     pub send-places : 8 * length (c .line) ≡ F * row .digits
-    send-places = line-places row shared (length (c .line)) F (length (c .buffer)) send-sizes
+    send-places = line-places row sh (length (c .line)) F (length (c .buffer)) send-sizes
 
     pub send-sound : Sound row F (c .notes) tributary
     send-sound =
         record {
           all-noted = refl;
-          notes-fit = faultless row (length (c .line)) (c .notes) (length (c .buffer)) unrefused .1;
+          notes-fit = faultless row earlier (length (c .line)) (c .notes) (length (c .buffer)) unrefused .1 .1;
           digits = λ j hj. digits-binary (quarterOf (c .buffer) j);
-          room = λ j hj. rw (digits-length, quarter-length (c .buffer) j hj) (fits-quarter shared send-sizes .room);
+          room = λ j hj. rw (digits-length, quarter-length (c .buffer) j hj) (fits-quarter sh send-sizes .room);
         }
 
-    pub send-bytes : sentLine level c ≡ lineOf row (c .notes) tributary (length (c .line))
+    pub send-bytes : sentLine level earlier c ≡ lineOf row earlier (c .notes) tributary (length (c .line))
     send-bytes = rw (e, eq-eqb (found .refusal) 0 unrefused)
 
-    pub send-line : digitsOf (sentLine level c) ≡ lineDigits row (c .notes) tributary F
-    send-line = ap digitsOf send-bytes ∙ line-digits row (c .notes) tributary (send-sound .digits) (length (c .line)) F send-places
+    pub send-line : digitsOf (sentLine level earlier c) ≡ lineDigits row earlier (c .notes) tributary F
+    send-line = ap digitsOf send-bytes ∙ line-digits row earlier (c .notes) tributary (send-sound .digits) (length (c .line)) F send-places
 
-    send-answer : answered level (length (c .line)) (c .notes) (length (c .buffer)) ≡ counted row (c .notes)
+    send-answer : answered level earlier (length (c .line)) (c .notes) (length (c .buffer)) ≡ counted row earlier (c .notes)
     send-answer = rw (e, eq-eqb (found .refusal) 0 unrefused)
 
-    pub send-counts : sentCounts level c ≡ countsOf row (c .notes) F
+    pub send-counts : sentCounts level earlier c ≡ countsOf row earlier (c .notes) F
     send-counts = ap (λ (r : Counted). r .counts) send-answer
 
-    pub send-count : (j : ℕ) → j < 4 → getD (sentCounts level c) j 0 ≡ countOf row (decisions (c .notes) j) F
-    send-count j hj = ap (λ (counts : List ℕ). getD counts j 0) send-counts ∙ count-at row (c .notes) F j hj
+    pub send-count : (j : ℕ) → j < 4 → getD (sentCounts level earlier c) j 0 ≡ countOf row (actions row earlier (c .notes) j) F
+    send-count j hj = ap (λ (counts : List ℕ). getD counts j 0) send-counts ∙ count-at row earlier (c .notes) F j hj
 
-    pub send-digits : (j : ℕ) → j < 4 → sentDigits level c j ≡ digitsSent row F (c .notes) tributary j
+    pub send-digits : (j : ℕ) → j < 4 → sentDigits level earlier c j ≡ digitsSent row earlier F (c .notes) tributary j
     send-digits j hj = ap (λ (n : ℕ). take n (tributary j)) (send-count j hj)
 
   -- an accepted reading
-  module _ (c : Lent) (ok : ReadAccepted level c) where
+  module _ (c : Lent) (ok : ReadAccepted level earlier c) where
     abbrev frames : ℕ
     frames = length (c .notes)
 
@@ -265,29 +273,45 @@ module _ (level : ℕ) (row : Row) (e : levelOf level ≡ Of row) where
     abbrev size : ℕ
     size = sizeRefusal row (length (c .line)) frames (length (c .buffer))
 
+    abbrev everything : Outcome
+    everything = readWhole row earlier (c .line) frames (length (c .buffer) / 4)
+
+    together-zero : togetherOn row earlier (c .line) (c .notes) (c .buffer) .refusal ≡ 0
+    together-zero = rw e at (accepted-together level earlier c ok)
+
     pub accepted-size : size ≡ 0
     accepted-size =
-        zero-refusal (λ (o : Outcome). o .refusal) size (readWhole row (c .line) frames (length (c .buffer) / 4)) (refusedWhole size (c .notes) (c .buffer)) refl (rw e at (accepted-together level c ok))
+        zero-refusal (λ (o : Outcome). o .refusal) size (cond (badEarlier row earlier) (refusedWhole 5 (c .notes) (c .buffer)) everything) (refusedWhole size (c .notes) (c .buffer)) refl together-zero
+
+    pub accepted-vote : EarlierFits row earlier
+    accepted-vote = go (badEarlier row earlier) (rw (eq-eqb size 0 accepted-size) at together-zero)
+      where
+        five : _≡_ {A = ℕ} 5 0 → ⊥
+        five e = omega arith
+
+        go : (t : Bool) → cond t (refusedWhole 5 (c .notes) (c .buffer)) everything .refusal ≡ 0 → t ≡ false
+        go true z = absurd (five z)
+        go false z = refl
 
     pub read-sizes : Accepted row (length (c .line)) frames (length (c .buffer))
     read-sizes = accepted row (length (c .line)) frames (length (c .buffer)) accepted-size
 
     pub read-places : 8 * length (c .line) ≡ frames * row .digits
-    read-places = line-places row shared (length (c .line)) frames (length (c .buffer)) read-sizes
+    read-places = line-places row sh (length (c .line)) frames (length (c .buffer)) read-sizes
 
-    pub read-answer : outcome level c ≡ readWhole row (c .line) frames (length (c .buffer) / 4)
-    read-answer = as-together level c ok ∙ rw (e, eq-eqb size 0 accepted-size)
+    pub read-answer : outcome level earlier c ≡ readWhole row earlier (c .line) frames (length (c .buffer) / 4)
+    read-answer = as-together level earlier c ok ∙ rw (e, eq-eqb size 0 accepted-size, accepted-vote)
 
-    pub read-notes : readNotes level c ≡ notes
+    pub read-notes : readNotes level earlier c ≡ notes
     read-notes = ap (λ (o : Outcome). o .notes) read-answer
 
-    pub read-frames : length (readNotes level c) ≡ frames
+    pub read-frames : length (readNotes level earlier c) ≡ frames
     read-frames = rw read-notes (tab-length frames 0 (noteOf row ds))
 
-    pub read-buffer : outcome level c .buffer ≡ quartersFrom row notes (c .line) (length (c .buffer) / 4)
+    pub read-buffer : outcome level earlier c .buffer ≡ quartersFrom row earlier notes (c .line) (length (c .buffer) / 4)
     read-buffer = ap (λ (o : Outcome). o .buffer) read-answer
 
-    pub read-digits : (j : ℕ) → j < 4 → readDigits level c j ≡ digitsRead row frames ds j
+    pub read-digits : (j : ℕ) → j < 4 → readDigits level earlier c j ≡ digitsRead row earlier frames ds j
     read-digits j hj =
-        rw (ap (λ (o : Outcome). o .counts) read-answer, count-at row notes frames j hj, read-buffer)
-        (quarter-taken row shared notes (c .line) frames (length (c .buffer) / 4) j hj read-places (fits-quarter shared read-sizes .room))
+        rw (ap (λ (o : Outcome). o .counts) read-answer, count-at row earlier notes frames j hj, read-buffer)
+        (quarter-taken row sh earlier notes (c .line) frames (length (c .buffer) / 4) j hj read-places (fits-quarter sh read-sizes .room))

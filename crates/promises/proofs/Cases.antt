@@ -1,4 +1,4 @@
--- The worked cases hold: one theorem over the whole table. A frame without digits is computed; zeros, however many, make the same line, and so
+-- The worked cases hold: one theorem over each table. A frame without digits is computed; zeros, however many, make the same line, and so
 -- multiplexing leaves it.
 use mathlib.Core.Path.{_≡_, refl, _∙_, ap}
 use mathlib.Core.Bool.{false}
@@ -16,15 +16,15 @@ use Rattle.digits.proofs.Laws.{digit-at, tab-of, tab-at, tab-length, zeros-at}
 use Rattle.digits.specs.Sums.{sumTo}
 use Rattle.table.specs.declared.Row.{Row}
 use Rattle.table.specs.declared.Level.the-variants.{Of}
-use Rattle.table.specs.Table.{levelOf, row2, row3, row4}
+use Rattle.table.specs.Table.{levelOf, row2, row3, row4, row12, row14}
 use Rattle.levels.specs.Places.{firstSet, middleSet, lastSet, kindOf, posOf}
-use Rattle.levels.specs.Order.{carries, decisions, before, placesOf, countOf, countsOf}
+use Rattle.levels.specs.Order.{actionOf, actions, carries, before, placesOf, countOf, countsOf}
 use Rattle.levels.specs.Sizes.{quarterOf, framesRefusal, sizeRefusal}
 use Rattle.levels.specs.Vote.{votesFor, voteBy}
 use Rattle.multiplex.specs.Line.{lineDigit, lineOf}
-use Rattle.levels.specs.Judging.{firstOver, firstFaulty, fault, faultOf, answered}
+use Rattle.levels.specs.Judging.{firstOver, firstFaulty, fault, badEarlier, faultOf, answered}
 use Rattle.multiplex.specs.Multiplex.{lineAfter}
-use Rattle.promises.specs.Cases.{Every, cases}
+use Rattle.promises.specs.Cases.{Every, cases, signedCases}
 
 -- every part of a list of zeros has 0 at every place
 part-at : (a b n k : ℕ) → getD (take a (drop b (replicate {A = ℕ} n 0))) k 0 ≡ 0
@@ -42,45 +42,61 @@ quarter-digit n j i =
     digit-at (quarterOf (replicate n 0) j) i ∙ rw (part-at q (j * q) n (i / 8), zero-div (2 ^ (7 - i % 8)))
 
 -- quarters of zeros, however long, make the line that the cases name
-zero-quarters : (row : Row) (notes : List ℕ) (tributary : ℕ → List ℕ) (bytes : ℕ) → ((j i : ℕ) → getD (tributary j) i 0 ≡ 0)
-    → lineOf row notes tributary bytes ≡ lineOf row notes (λ (j : ℕ). []) bytes
+zero-quarters : (row : Row) (earlier : ℕ) (notes : List ℕ) (tributary : ℕ → List ℕ) (bytes : ℕ) → ((j i : ℕ) → getD (tributary j) i 0 ≡ 0)
+    → lineOf row earlier notes tributary bytes ≡ lineOf row earlier notes (λ (j : ℕ). []) bytes
 unfolding lineDigit
-zero-quarters row notes tributary bytes zero-at =
+zero-quarters row earlier notes tributary bytes zero-at =
     let n = 8 * bytes in
-    let f = lineDigit row notes tributary in
+    let f = lineDigit row earlier notes tributary in
     ap (λ (ds : List ℕ). bytesOf bytes ds)
-    (tab-of (tab n 0 f) n (lineDigit row notes (λ (j : ℕ). [])) (tab-length n 0 f)
-    (λ p h. tab-at n 0 f p h ∙ rw (zero-add p, zero-at (p % 4) (before row (decisions notes (p % 4)) (p % 4) (p / 4)))))
+    (tab-of (tab n 0 f) n (lineDigit row earlier notes (λ (j : ℕ). [])) (tab-length n 0 f)
+    (λ p h. tab-at n 0 f p h ∙ rw (zero-add p, zero-at (p % 4) (before row (actions row earlier notes (p % 4)) (p % 4) (p / 4)))))
 
 -- so a frame that computes, of a note that the level has, is what the call makes
-sent-frame : (level : ℕ) (row : Row) → levelOf level ≡ Of row → (note : ℕ) (bytes counts : List ℕ)
-    → row .bytes % row .bytes ≡ 0 → row .bytes / row .bytes ≡ 1 → firstFaulty row (note ∷ []) ≡ 1
-    → lineOf row (note ∷ []) (λ (j : ℕ). []) (row .bytes) ≡ bytes → countsOf row (note ∷ []) 1 ≡ counts
+sent-frame : (level earlier : ℕ) (row : Row) → levelOf level ≡ Of row → (note : ℕ) (bytes counts : List ℕ)
+    → row .bytes % row .bytes ≡ 0 → row .bytes / row .bytes ≡ 1 → badEarlier row earlier ≡ false → firstFaulty row (note ∷ []) ≡ 1
+    → lineOf row earlier (note ∷ []) (λ (j : ℕ). []) (row .bytes) ≡ bytes → countsOf row earlier (note ∷ []) 1 ≡ counts
     → (line : List ℕ) (q : ℕ) → length line ≡ row .bytes → row .room ≤ 8 * q
-    → (answered level (length line) (note ∷ []) (4 * q) ≡ record { refusal = 0; frame = 0; counts = counts })
-    × (lineAfter level line (note ∷ []) (replicate (4 * q) 0) ≡ bytes)
+    → (answered level earlier (length line) (note ∷ []) (4 * q) ≡ record { refusal = 0; frame = 0; counts = counts })
+    × (lineAfter level earlier line (note ∷ []) (replicate (4 * q) 0) ≡ bytes)
 unfolding faultOf framesRefusal sizeRefusal
-sent-frame level row e note bytes counts whole one fits is are line q len room =
+sent-frame level earlier row e note bytes counts whole one vote fits is are line q len room =
     let zeros = length-replicate {A = ℕ} (4 * q) 0 in
     let quarters : 4 * q % 4 ≡ 0 = omega arith in
     let enough : ltb (8 * (4 * q / 4)) (1 * row .room) ≡ false = le-ltb (8 * (4 * q / 4)) (1 * row .room) (omega arith) in
-    let ok : faultOf row (length line) (note ∷ []) (4 * q) ≡ fault 0 0 = rw (len, whole, one, quarters, enough, fits) in
-    let made = rw zeros at (zero-quarters row (note ∷ []) (λ (j : ℕ). digitsOf (quarterOf (replicate (4 * q) 0) j)) (length line) (quarter-digit (4 * q))) in (
+    let ok : faultOf row earlier (length line) (note ∷ []) (4 * q) ≡ fault 0 0 = rw (len, whole, one, quarters, enough, vote, fits) in
+    let made = rw zeros at (zero-quarters row earlier (note ∷ []) (λ (j : ℕ). digitsOf (quarterOf (replicate (4 * q) 0) j)) (length line) (quarter-digit (4 * q))) in (
       rw (e, ok) (ap (λ (c : List ℕ). record { refusal = 0; frame = 0; counts = c }) are),
       rw (e, zeros, ok) (made ∙ rw len is),
     )
 
 pub all-hold : Every cases
-unfolding cases levelOf firstSet middleSet lastSet kindOf posOf carries before placesOf sumTo countOf votesFor voteBy lineDigit tab bytesOf firstOver
+unfolding cases levelOf firstSet middleSet lastSet kindOf posOf actionOf carries before placesOf sumTo countOf votesFor voteBy lineDigit tab bytesOf firstOver
 all-hold = (
-  sent-frame 2 row2 refl 0x00 _ _ refl refl refl refl refl,
+  sent-frame 2 0 row2 refl 0x00 _ _ refl refl refl refl refl refl,
   (
-    sent-frame 2 row2 refl 0x3F _ _ refl refl refl refl refl,
+    sent-frame 2 0 row2 refl 0x3F _ _ refl refl refl refl refl refl,
     (
-      sent-frame 3 row3 refl 0x01 _ _ refl refl refl refl refl,
+      sent-frame 3 0 row3 refl 0x01 _ _ refl refl refl refl refl refl,
       (
-        sent-frame 4 row4 refl 0xFF _ _ refl refl refl refl refl,
+        sent-frame 4 0 row4 refl 0xFF _ _ refl refl refl refl refl refl,
         (refl, (refl, (refl, (refl, (refl, (refl, (refl, (refl, (refl, (refl, (refl, (refl, (refl, (refl, (refl, (refl, tt)))))))))))))))),
+      ),
+    ),
+  ),
+)
+
+pub signed-hold : Every signedCases
+unfolding signedCases levelOf firstSet middleSet lastSet kindOf posOf actionOf carries before placesOf sumTo countOf votesFor voteBy lineDigit tab bytesOf firstOver
+signed-hold = (
+  sent-frame 12 0x00 row12 refl 0x00 _ _ refl refl refl refl refl refl,
+  (
+    sent-frame 12 0x0F row12 refl 0x0F _ _ refl refl refl refl refl refl,
+    (
+      sent-frame 12 0x03 row12 refl 0x05 _ _ refl refl refl refl refl refl,
+      (
+        sent-frame 14 0x03 row14 refl 0x05 _ _ refl refl refl refl refl refl,
+        (refl, (refl, (refl, (refl, (refl, (refl, (refl, (refl, (refl, (refl, (refl, tt))))))))))),
       ),
     ),
   ),

@@ -1,7 +1,7 @@
 -- The statements on the calls say no less than they may. Sends that carried the same leave lines of which the one comes from the other by
 -- damage: what they carried is all that a line tells. And what demultiplexing is said to return is what it leaves in notes and buffer:
 -- multiplexed again, it is accepted and carries the same, and an undamaged line comes again byte for byte.
-use mathlib.Core.Path.{_≡_, sym, _∙_, ap}
+use mathlib.Core.Path.{_≡_, refl, sym, _∙_, ap}
 use mathlib.Core.Bool.{cond, true}
 use mathlib.Core.List.{List}
 use Prim.Native.Nat.{ℕ, _+_, _*_, _/_, _%_, _<_}
@@ -15,10 +15,11 @@ use Rattle.digits.proofs.Lists.{differing-self}
 use Rattle.table.specs.declared.Row.{Row}
 use Rattle.table.specs.declared.Level.the-variants.{Of}
 use Rattle.table.specs.Table.{levelOf}
+use Rattle.levels.specs.declared.order.Action.{Action}
 use Rattle.levels.specs.Table.{Shared}
 use Rattle.levels.specs.Places.{kindAt, posOf}
 use Rattle.levels.specs.Sizes.{quarterOf}
-use Rattle.levels.specs.Order.{decisions, carries}
+use Rattle.levels.specs.Order.{decisions, actions, carries}
 use Rattle.levels.proofs.Columns.{columns, frame-start}
 use Rattle.multiplex.specs.Line.{lineDigit, lineOf}
 use Rattle.multiplex.proofs.Unread.{Agree, same-line}
@@ -29,158 +30,167 @@ use Rattle.promises.specs.Calls.{sentOn, LentAt, DamageAt, SendsSame, Se
 use Rattle.promises.specs.Together.{Outcome}
 use Rattle.promises.proofs.Sent.{sent-group, sent-carried}
 use Rattle.promises.proofs.Reading.{note-fits}
-use Rattle.promises.proofs.Order.{carries-same, before-same}
+use Rattle.promises.proofs.Order.{carries-same, before-same, actions-same}
 use Rattle.promises.proofs.Recovered.{kept-carries}
 use Rattle.promises.proofs.RoundTrip.{line-binary}
 use Rattle.promises.proofs.Accepted.{send-level, read-level, shared, quarters-length, line-digits, send-accepted, tributary, send-whole, send-places, send-sound}
-use Rattle.promises.proofs.Accepted.{send-bytes, send-line, send-counts, send-count, accepted-size, read-sizes, read-answer, read-notes, read-frames, read-buffer}
+use Rattle.promises.proofs.Accepted.{send-bytes, send-line, send-counts, send-count, accepted-size, accepted-vote, read-sizes, read-answer, read-notes, read-frames, read-buffer}
 use Rattle.promises.proofs.Calls.{on-damage, send-returned, send-back}
 
 -- two sends with the same decisions and of the same tributaries: only service digits differ
-module _ (row : Row) (sh : Shared row) (F : ℕ) (a b : List ℕ) (tributary : ℕ → List ℕ) (decided : (j f : ℕ) → j < 4 → f < F → decisions a j f ≡ decisions b j f) where
-  same-carried : (j x : ℕ) → j < 4 → 4 * x + j < F * row .digits → libertyAt row a (4 * x + j) ≡ kept
-      → getD (lineDigits row b tributary F) (4 * x + j) 0 ≡ getD (lineDigits row a tributary F) (4 * x + j) 0
+module _ (row : Row) (sh : Shared row) (F earlier : ℕ) (a b : List ℕ) (tributary : ℕ → List ℕ) (decided : (j f : ℕ) → j < 4 → f < F → decisions a j f ≡ decisions b j f) where
+  abbrev acts-a : ℕ → ℕ → Action
+  acts-a = actions row earlier a
+
+  abbrev acts-b : ℕ → ℕ → Action
+  acts-b = actions row earlier b
+
+  same-acts : (j : ℕ) → j < 4 → (f : ℕ) → f < F → acts-a j f ≡ acts-b j f
+  same-acts j hj = actions-same row earlier earlier a b j F refl (λ f hf. decided j f hj hf)
+
+  same-carried : (j x : ℕ) → j < 4 → 4 * x + j < F * row .digits → libertyAt row earlier a (4 * x + j) ≡ kept
+      → getD (lineDigits row earlier b tributary F) (4 * x + j) 0 ≡ getD (lineDigits row earlier a tributary F) (4 * x + j) 0
   unfolding carries
   same-carried j x hj h keep =
       let p = 4 * x + j in
       let within : x < F * columns row = omega (arith, frame-start row sh j hj F) in
       let w : p % 4 ≡ j = omega arith in
-      let ca : carries row (decisions a j) p ≡ true = kept-carries (kindAt row p) (decisions a j (posOf row p .frame)) (rw w at keep) in
-      let cb : carries row (decisions b j) p ≡ true = sym (carries-same row sh F j hj (decisions a j) (decisions b j) (λ f hf. decided j f hj hf) x within) ∙ ca in
-      let index = before-same row sh F j hj (decisions a j) (decisions b j) (λ f hf. decided j f hj hf) x (omega arith) in
-      sent-carried row sh b tributary F j x hj h cb ∙ ap (λ (i : ℕ). getD (tributary j) i 0) (sym index) ∙ sym (sent-carried row sh a tributary F j x hj h ca)
+      let ca : carries row (acts-a j) p ≡ true = kept-carries (kindAt row p) (acts-a j (posOf row p .frame)) (rw w at keep) in
+      let cb : carries row (acts-b j) p ≡ true = sym (carries-same row sh F j hj (acts-a j) (acts-b j) (same-acts j hj) x within) ∙ ca in
+      let index = before-same row sh F j hj (acts-a j) (acts-b j) (same-acts j hj) x (omega arith) in
+      sent-carried row sh earlier b tributary F j x hj h cb ∙ ap (λ (i : ℕ). getD (tributary j) i 0) (sym index) ∙ sym (sent-carried row sh earlier a tributary F j x hj h ca)
 
-  same-damage : ((j : ℕ) → j < 4 → Binary (tributary j)) → Damage row a F (lineDigits row a tributary F) (lineDigits row b tributary F)
+  same-damage : ((j : ℕ) → j < 4 → Binary (tributary j)) → Damage row earlier a F (lineDigits row earlier a tributary F) (lineDigits row earlier b tributary F)
   same-damage bin =
       record {
-        digits = line-binary row b tributary bin F;
-        size = tab-length (F * row .digits) 0 (lineDigit row b tributary);
+        digits = line-binary row earlier b tributary bin F;
+        size = tab-length (F * row .digits) 0 (lineDigit row earlier b tributary);
         others-kept = λ p h keep. let e : p ≡ 4 * (p / 4) + p % 4 = omega arith in rw e (same-carried (p % 4) (p / 4) (omega arith) (omega arith) (rw e at keep));
         few-controls = λ f j hf hj.
-            rw (sent-group row sh a tributary F f j hf hj, sent-group row sh b tributary F f j hf hj, decided j f hj hf)
+            rw (sent-group row sh earlier a tributary F f j hf hj, sent-group row sh earlier b tributary F f j hf hj, decided j f hj hf)
             (omega (arith, differing-self (replicate (row .control) (cond (decisions b j f) 1 0))));
       }
 
 -- two accepted sends that carried the same: the line of the second is made of its notes and of the first one's tributaries
-module _ (level : ℕ) (row : Row) (e : levelOf level ≡ Of row) (a b : Lent) (ok-a : SendAccepted level a) (ok-b : SendAccepted level b) (same : SendsSame level a b) where
+module _ (level earlier : ℕ) (row : Row) (e : levelOf level ≡ Of row) (a b : Lent) (ok-a : SendAccepted level earlier a) (ok-b : SendAccepted level earlier b) (same : SendsSame level earlier a b) where
   abbrev first : ℕ → List ℕ
-  first = tributary level row e a ok-a
+  first = tributary level earlier row e a ok-a
 
-  agree : Agree row (b .notes) (tributary level row e b ok-b) first
+  agree : Agree row earlier (b .notes) (tributary level earlier row e b ok-b) first
   agree j i hj hi =
-      let nb = send-count level row e b ok-b j hj in
+      let nb = send-count level earlier row e b ok-b j hj in
       let na = ap (λ (counts : List ℕ). getD counts j 0) (same .counted) ∙ nb in
-      sym (getD-take (getD (sentCounts level b) j 0) (tributary level row e b ok-b j) i 0 (omega (arith, nb)))
+      sym (getD-take (getD (sentCounts level earlier b) j 0) (tributary level earlier row e b ok-b j) i 0 (omega (arith, nb)))
       ∙ ap (λ (ds : List ℕ). getD ds i 0) (sym (same .digits j hj))
-      ∙ getD-take (getD (sentCounts level a) j 0) (first j) i 0 (omega (arith, na))
+      ∙ getD-take (getD (sentCounts level earlier a) j 0) (first j) i 0 (omega (arith, na))
 
-  one-line : sentLine level b ≡ lineOf row (b .notes) first (length (b .line))
+  one-line : sentLine level earlier b ≡ lineOf row earlier (b .notes) first (length (b .line))
   one-line =
-      send-bytes level row e b ok-b
-      ∙ same-line row (shared level row e) (b .notes) (tributary level row e b ok-b) first agree (length (b .line)) (send-whole level row e b ok-b)
+      send-bytes level earlier row e b ok-b
+      ∙ same-line row (shared level row e) earlier (b .notes) (tributary level earlier row e b ok-b) first agree (length (b .line)) (send-whole level earlier row e b ok-b)
 
-  meet-on : DamageAt level (a .notes) (sentLine level a) (sentLine level b)
+  meet-on : DamageAt level earlier (a .notes) (sentLine level earlier a) (sentLine level earlier b)
   meet-on =
-      on-damage level row e (a .notes) (sentLine level a) (sentLine level b)
-      (rw (send-line level row e a ok-a, digits-b) (same-damage row (shared level row e) (length (a .notes)) (a .notes) (b .notes) first (same .decided) bin))
+      on-damage level earlier row e (a .notes) (sentLine level earlier a) (sentLine level earlier b)
+      (rw (send-line level earlier row e a ok-a, digits-b) (same-damage row (shared level row e) (length (a .notes)) earlier (a .notes) (b .notes) first (same .decided) bin))
     where
       bin : (j : ℕ) → j < 4 → Binary (first j)
-      bin = send-sound level row e a ok-a .digits
+      bin = send-sound level earlier row e a ok-a .digits
 
-      digits-b : digitsOf (sentLine level b) ≡ lineDigits row (b .notes) first (length (a .notes))
-      digits-b = ap digitsOf one-line ∙ line-digits row (b .notes) first bin (length (b .line)) (length (a .notes)) (rw (same .frames) (send-places level row e b ok-b))
+      digits-b : digitsOf (sentLine level earlier b) ≡ lineDigits row earlier (b .notes) first (length (a .notes))
+      digits-b = ap digitsOf one-line ∙ line-digits row earlier (b .notes) first bin (length (b .line)) (length (a .notes)) (rw (same .frames) (send-places level earlier row e b ok-b))
 
 -- two accepted sends that carried the same: the line of the one comes from that of the other by damage. So `sends-same` says
 -- all that can be said
-pub same-meet : (level : ℕ) (a b : Lent) → SendAccepted level a → SendAccepted level b → SendsSame level a b
-    → DamageAt level (a .notes) (sentLine level a) (sentLine level b)
-same-meet level a b ok-a = let on = send-level level a ok-a in meet-on level (on .0) (on .1) a b ok-a
+pub same-meet : (level earlier : ℕ) (a b : Lent) → SendAccepted level earlier a → SendAccepted level earlier b → SendsSame level earlier a b
+    → DamageAt level earlier (a .notes) (sentLine level earlier a) (sentLine level earlier b)
+same-meet level earlier a b ok-a = let on = send-level level earlier a ok-a in meet-on level earlier (on .0) (on .1) a b ok-a
 
 -- what a reading leaves, sent on
-module _ (level : ℕ) (row : Row) (e : levelOf level ≡ Of row) (c : Lent) (ok : ReadAccepted level c) where
-  buffer-on : length (sentOn level c .buffer) ≡ length (c .buffer)
+module _ (level earlier : ℕ) (row : Row) (e : levelOf level ≡ Of row) (c : Lent) (ok : ReadAccepted level earlier c) where
+  buffer-on : length (sentOn level earlier c .buffer) ≡ length (c .buffer)
   buffer-on =
-      rw (read-buffer level row e c ok)
-      (quarters-length row (notesOf row (digitsOf (c .line)) (length (c .notes))) (c .line) (length (c .buffer) / 4) ∙ sym (read-sizes level row e c ok .quarters))
+      rw (read-buffer level earlier row e c ok)
+      (quarters-length row earlier (notesOf row (digitsOf (c .line)) (length (c .notes))) (c .line) (length (c .buffer) / 4) ∙ sym (read-sizes level earlier row e c ok .quarters))
 
-  accepted-on : SendAccepted level (sentOn level c)
+  accepted-on : SendAccepted level earlier (sentOn level earlier c)
   accepted-on =
-      send-accepted level row e (sentOn level c) (rw (read-frames level row e c ok, buffer-on) (accepted-size level row e c ok))
-      (λ f hf. rw (read-notes level row e c ok) (note-fits row (digitsOf (c .line)) (digits-binary (c .line)) f (shared level row e) (length (c .notes)) (omega (arith, read-frames level row e c ok))))
+      send-accepted level earlier row e (sentOn level earlier c) (rw (read-frames level earlier row e c ok, buffer-on) (accepted-size level earlier row e c ok)) (accepted-vote level earlier row e c ok)
+      (λ f hf. rw (read-notes level earlier row e c ok) (note-fits row (digitsOf (c .line)) (digits-binary (c .line)) f (shared level row e) (length (c .notes)) (omega (arith, read-frames level earlier row e c ok))))
 
-  counts-on : sentCounts level (sentOn level c) ≡ readCounts level c
+  counts-on : sentCounts level earlier (sentOn level earlier c) ≡ readCounts level earlier c
   counts-on =
-      send-counts level row e (sentOn level c) accepted-on
-      ∙ rw (read-frames level row e c ok, read-notes level row e c ok) (sym (ap (λ (r : Outcome). r .counts) (read-answer level row e c ok)))
+      send-counts level earlier row e (sentOn level earlier c) accepted-on
+      ∙ rw (read-frames level earlier row e c ok, read-notes level earlier row e c ok) (sym (ap (λ (r : Outcome). r .counts) (read-answer level earlier row e c ok)))
 
-  fours : (length (readCounts level c) ≡ 4) × (length (readDissent level c) ≡ 4)
+  fours : (length (readCounts level earlier c) ≡ 4) × (length (readDissent level earlier c) ≡ 4)
   fours =
-      let answer = read-answer level row e c ok in
+      let answer = read-answer level earlier row e c ok in
       (ap (λ (r : Outcome). length (r .counts)) answer, ap (λ (r : Outcome). length (r .dissent)) answer)
 
-  digits-on : (j : ℕ) → sentDigits level (sentOn level c) j ≡ readDigits level c j
-  digits-on j = ap (λ (counts : List ℕ). take (getD counts j 0) (digitsOf (quarterOf (sentOn level c .buffer) j))) counts-on
+  digits-on : (j : ℕ) → sentDigits level earlier (sentOn level earlier c) j ≡ readDigits level earlier c j
+  digits-on j = ap (λ (counts : List ℕ). take (getD counts j 0) (digitsOf (quarterOf (sentOn level earlier c .buffer) j))) counts-on
 
 -- whatever line was read, what the reading leaves is accepted for sending
-pub sent-on-accepted : (level : ℕ) (c : Lent) → ReadAccepted level c → SendAccepted level (sentOn level c)
-sent-on-accepted level c ok = let on = read-level level c ok in accepted-on level (on .0) (on .1) c ok
+pub sent-on-accepted : (level earlier : ℕ) (c : Lent) → ReadAccepted level earlier c → SendAccepted level earlier (sentOn level earlier c)
+sent-on-accepted level earlier c ok = let on = read-level level earlier c ok in accepted-on level earlier (on .0) (on .1) c ok
 
 -- where demultiplexing returned a send, what it leaves carries the same as the send
-pub sent-on : (level : ℕ) (send read : Lent) → SendReturned level send read → SendsSame level send (sentOn level read)
-sent-on level send read back =
-    let on = read-level level read (back .accepted) in
+pub sent-on : (level earlier : ℕ) (send read : Lent) → SendReturned level earlier send read → SendsSame level earlier send (sentOn level earlier read)
+sent-on level earlier send read back =
+    let on = read-level level earlier read (back .accepted) in
     record {
       frames = sym (back .frames);
       decided = λ j f hj hf. sym (back .decided j f hj hf);
-      counted = sym (back .counted) ∙ sym (counts-on level (on .0) (on .1) read (back .accepted));
-      digits = λ j hj. sym (back .digits j hj) ∙ sym (digits-on level (on .0) (on .1) read (back .accepted) j);
+      counted = sym (back .counted) ∙ sym (counts-on level earlier (on .0) (on .1) read (back .accepted));
+      digits = λ j hj. sym (back .digits j hj) ∙ sym (digits-on level earlier (on .0) (on .1) read (back .accepted) j);
     }
 
 -- where each of the four tributaries comes out of two readings the same, so do all counts and all dissent
-pub alike-answers : (level : ℕ) (a b : Lent) → ReadAccepted level a → ((k : ℕ) → k < 4 → ReadsSame level k a b)
-    → (readCounts level a ≡ readCounts level b) × (readDissent level a ≡ readDissent level b)
-alike-answers level a b ok same =
-    let on = read-level level a ok in
-    let one = fours level (on .0) (on .1) a ok in
-    let two = fours level (on .0) (on .1) b (same 0 (lit< tt) .accepted) in (
-      ext-getD 0 (readCounts level a) (readCounts level b) (one .0 ∙ sym (two .0)) (λ k h. same k (omega (arith, one .0)) .counted),
-      ext-getD 0 (readDissent level a) (readDissent level b) (one .1 ∙ sym (two .1)) (λ k h. same k (omega (arith, one .1)) .dissenting),
+pub alike-answers : (level earlier : ℕ) (a b : Lent) → ReadAccepted level earlier a → ((k : ℕ) → k < 4 → ReadsSame level earlier k a b)
+    → (readCounts level earlier a ≡ readCounts level earlier b) × (readDissent level earlier a ≡ readDissent level earlier b)
+alike-answers level earlier a b ok same =
+    let on = read-level level earlier a ok in
+    let one = fours level earlier (on .0) (on .1) a ok in
+    let two = fours level earlier (on .0) (on .1) b (same 0 (lit< tt) .accepted) in (
+      ext-getD 0 (readCounts level earlier a) (readCounts level earlier b) (one .0 ∙ sym (two .0)) (λ k h. same k (omega (arith, one .0)) .counted),
+      ext-getD 0 (readDissent level earlier a) (readDissent level earlier b) (one .1 ∙ sym (two .1)) (λ k h. same k (omega (arith, one .1)) .dissenting),
     )
 
 -- and what they leave carries the same
-pub alike-on : (level : ℕ) (a b : Lent) → ReadAccepted level a → ((k : ℕ) → k < 4 → ReadsSame level k a b) → SendsSame level (sentOn level a) (sentOn level b)
-alike-on level a b ok same =
-    let on = read-level level a ok in
+pub alike-on : (level earlier : ℕ) (a b : Lent) → ReadAccepted level earlier a → ((k : ℕ) → k < 4 → ReadsSame level earlier k a b) → SendsSame level earlier (sentOn level earlier a) (sentOn level earlier b)
+alike-on level earlier a b ok same =
+    let on = read-level level earlier a ok in
     let row = on .0 in
     let e = on .1 in
     let ok-b = same 0 (lit< tt) .accepted in
     record {
       frames = same 0 (lit< tt) .frames;
-      decided = λ j f hj hf. same j hj .decided f (omega (arith, read-frames level row e a ok));
-      counted = counts-on level row e a ok ∙ alike-answers level a b ok same .0 ∙ sym (counts-on level row e b ok-b);
-      digits = λ j hj. digits-on level row e a ok j ∙ same j hj .digits ∙ sym (digits-on level row e b ok-b j);
+      decided = λ j f hj hf. same j hj .decided f (omega (arith, read-frames level earlier row e a ok));
+      counted = counts-on level earlier row e a ok ∙ alike-answers level earlier a b ok same .0 ∙ sym (counts-on level earlier row e b ok-b);
+      digits = λ j hj. digits-on level earlier row e a ok j ∙ same j hj .digits ∙ sym (digits-on level earlier row e b ok-b j);
     }
 
 -- so a station that demultiplexes a damaged line and multiplexes what it read sends a line that comes from the first by damage
-pub repeated : (level : ℕ) (send read : Lent) → SendAccepted level send → LentAt level send read → DamageAt level (send .notes) (sentLine level send) (read .line)
-    → DamageAt level (send .notes) (sentLine level send) (sentLine level (sentOn level read))
-repeated level send read ok lent damage =
-    let back = send-returned level send read ok lent damage in
-    same-meet level send (sentOn level read) ok (sent-on-accepted level read (back .accepted)) (sent-on level send read back)
+pub repeated : (level earlier : ℕ) (send read : Lent) → SendAccepted level earlier send → LentAt level send read → DamageAt level earlier (send .notes) (sentLine level earlier send) (read .line)
+    → DamageAt level earlier (send .notes) (sentLine level earlier send) (sentLine level earlier (sentOn level earlier read))
+repeated level earlier send read ok lent damage =
+    let back = send-returned level earlier send read ok lent damage in
+    same-meet level earlier send (sentOn level earlier read) ok (sent-on-accepted level earlier read (back .accepted)) (sent-on level earlier send read back)
 
 -- and one that is sent on undamaged comes again, byte for byte
-pub line-again : (level : ℕ) (send read : Lent) → SendAccepted level send → LentAt level send read → read .line ≡ sentLine level send
-    → sentLine level (sentOn level read) ≡ sentLine level send
-line-again level send read ok lent same = let on = send-level level send ok in go (on .0) (on .1)
+pub line-again : (level earlier : ℕ) (send read : Lent) → SendAccepted level earlier send → LentAt level send read → read .line ≡ sentLine level earlier send
+    → sentLine level earlier (sentOn level earlier read) ≡ sentLine level earlier send
+line-again level earlier send read ok lent same = let on = send-level level earlier send ok in go (on .0) (on .1)
   where
-    back : SendBack level send read
-    back = send-back level send read ok lent same
+    back : SendBack level earlier send read
+    back = send-back level earlier send read ok lent same
 
-    onward : SendAccepted level (sentOn level read)
-    onward = sent-on-accepted level read (back .returned .accepted)
+    onward : SendAccepted level earlier (sentOn level earlier read)
+    onward = sent-on-accepted level earlier read (back .returned .accepted)
 
-    go : (row : Row) → levelOf level ≡ Of row → sentLine level (sentOn level read) ≡ sentLine level send
+    go : (row : Row) → levelOf level ≡ Of row → sentLine level earlier (sentOn level earlier read) ≡ sentLine level earlier send
     go row e =
-        let size : length (read .line) ≡ length (send .line) = ap length (same ∙ send-bytes level row e send ok) ∙ bytes-length (length (send .line)) _ in
-        one-line level row e send (sentOn level read) ok onward (sent-on level send read (back .returned))
-        ∙ rw (back .noted, size) (sym (send-bytes level row e send ok))
+        let size : length (read .line) ≡ length (send .line) = ap length (same ∙ send-bytes level earlier row e send ok) ∙ bytes-length (length (send .line)) _ in
+        one-line level earlier row e send (sentOn level earlier read) ok onward (sent-on level earlier send read (back .returned))
+        ∙ rw (back .noted, size) (sym (send-bytes level earlier row e send ok))

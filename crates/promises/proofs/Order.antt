@@ -1,8 +1,8 @@
--- The order of a tributary's digits goes by the decisions of the line's frames and by nothing else; and the digits come back in it.
+-- The order of a tributary's digits goes by what the line's frames do for it and by nothing else, and that by its votes; and the digits come back in it.
 use mathlib.Core.Path.{_≡_, refl, sym, _∙_, ap}
 use mathlib.Core.Bool.{Bool, cond, true, false}
 use mathlib.Core.List.{List, [], _∷_, _++_, map, append-nil}
-use Prim.Native.Nat.{ℕ, zero, suc, _+_, _*_, _≤_, _<_}
+use Prim.Native.Nat.{ℕ, zero, suc, _+_, _*_, _-_, _≤_, _<_}
 use native.Mathlib.Omega.{arith}
 use native.Mathlib.Nat.{lt-of-mul-lt-mul-right, add-zero}
 use native.Mathlib.Numerals.{add-one}
@@ -13,7 +13,8 @@ use Rattle.digits.proofs.Sums.{sum-same}
 use Rattle.table.specs.declared.Row.{Row}
 use Rattle.levels.specs.Table.{Shared}
 use Rattle.levels.specs.Places.{posOf}
-use Rattle.levels.specs.Order.{carries, before, placesOf, stuffedTo, countOf}
+use Rattle.levels.specs.declared.order.Action.{Action}
+use Rattle.levels.specs.Order.{stuffed, decisions, actions, isStuffed, bothCarry, carries, before, placesOf, stuffedTo, negativeTo, countOf}
 use Rattle.levels.proofs.Positions.{stands}
 use Rattle.levels.proofs.Columns.{columns, frame-start}
 use Rattle.levels.proofs.Inverse.{places-length}
@@ -27,7 +28,7 @@ module _ (row : Row) (sh : Shared row) (F j : ℕ) (jh : j < 4) where
     pub column-frame : posOf row (4 * x + j) .frame < F
     column-frame = lt-of-mul-lt-mul-right (row .digits) (omega (arith, column-place, stands row sh (4 * x + j) .sum))
 
-  module _ (d e : ℕ → Bool) (same : (f : ℕ) → f < F → d f ≡ e f) where
+  module _ (d e : ℕ → Action) (same : (f : ℕ) → f < F → d f ≡ e f) where
     pub carries-same : (x : ℕ) → x < F * columns row → carries row d (4 * x + j) ≡ carries row e (4 * x + j)
     unfolding carries
     carries-same x h = rw (same (posOf row (4 * x + j) .frame) (column-frame x h))
@@ -41,14 +42,23 @@ module _ (row : Row) (sh : Shared row) (F j : ℕ) (jh : j < 4) where
     before-same x h = sym (places-length row d j x) ∙ ap length (places-same x h) ∙ places-length row e j x
 
 -- the counts too
-stuffed-same : (d e : ℕ → Bool) (F : ℕ) → ((f : ℕ) → f < F → d f ≡ e f) → stuffedTo d F ≡ stuffedTo e F
-stuffed-same d e F same = sum-same F (λ (f : ℕ). cond (d f) 1 0) (λ (f : ℕ). cond (e f) 1 0) (λ f h. rw (same f h))
-
-pub count-same : (row : Row) (d e : ℕ → Bool) (F : ℕ) → ((f : ℕ) → f < F → d f ≡ e f) → countOf row d F ≡ countOf row e F
+pub count-same : (row : Row) (d e : ℕ → Action) (F : ℕ) → ((f : ℕ) → f < F → d f ≡ e f) → countOf row d F ≡ countOf row e F
 unfolding countOf
-count-same row d e F same = rw (stuffed-same d e F same)
+count-same row d e F same =
+    let stuffed-same : stuffedTo d F ≡ stuffedTo e F =
+    sum-same F (λ (f : ℕ). cond (isStuffed (d f)) 1 0) (λ (f : ℕ). cond (isStuffed (e f)) 1 0) (λ f h. rw (same f h)) in
+    let more = row .room - row .n in
+    let negative-same : negativeTo row d F ≡ negativeTo row e F =
+    sum-same F (λ (f : ℕ). cond (bothCarry (d f)) more 0) (λ (f : ℕ). cond (bothCarry (e f)) more 0) (λ f h. rw (same f h)) in
+    rw (stuffed-same, negative-same)
 
-module _ (row : Row) (d : ℕ → Bool) (j : ℕ) where
+-- what the frames do for tributary j goes by its votes, and by its bit of the vote before them
+pub actions-same : (row : Row) (x y : ℕ) (a b : List ℕ) (j F : ℕ) → stuffed x j ≡ stuffed y j → ((f : ℕ) → f < F → decisions a j f ≡ decisions b j f)
+    → (f : ℕ) → f < F → actions row x a j f ≡ actions row y b j f
+actions-same row x y a b j F first same zero h = rw (first, same 0 h)
+actions-same row x y a b j F first same (suc f) h = rw (same f (omega arith), same (suc f) h)
+
+module _ (row : Row) (d : ℕ → Action) (j : ℕ) where
   -- the digits that stand at the carrying places of the first x columns
   abbrev digitsAt : List ℕ → ℕ → List ℕ
   digitsAt ds x = map (λ (p : ℕ). getD ds p 0) (placesOf row d j x)

@@ -1,6 +1,6 @@
 -- Demand 3, last part: whatever is changed in one tributary's own places, of any line, the other three come out as before. What is read
 -- of tributary k is read from places with the remainder k, so that even every place with the remainder j may be changed.
-use mathlib.Core.Path.{_≡_, sym, _∙_, ap}
+use mathlib.Core.Path.{_≡_, refl, sym, _∙_, ap}
 use mathlib.Core.Logic.{_≢_}
 use mathlib.Core.List.{List}
 use Prim.Native.Nat.{ℕ, _+_, _*_, _%_, _<_}
@@ -12,7 +12,7 @@ use Rattle.levels.proofs.Groups.{group-same}
 use Rattle.table.specs.declared.Row.{Row}
 use Rattle.levels.specs.declared.vote.Vote.{Vote}
 use Rattle.levels.specs.Table.{Shared}
-use Rattle.levels.specs.Order.{decisions}
+use Rattle.levels.specs.Order.{actions}
 use Rattle.levels.specs.Vote.{voteOf}
 use Rattle.levels.proofs.Columns.{columns}
 use Rattle.reading.specs.Notes.{voteAt, notesOf}
@@ -20,9 +20,9 @@ use Rattle.extraction.specs.Quarters.{takenTo}
 use Rattle.promises.specs.Carried.{decisionRead, digitsRead, SameRead}
 use Rattle.promises.proofs.Sent.{control-place, in-line, whose}
 use Rattle.promises.proofs.Reading.{decisions-read}
-use Rattle.promises.proofs.Order.{column-place, places-same, count-same, digits-same}
+use Rattle.promises.proofs.Order.{column-place, places-same, count-same, actions-same, digits-same}
 
-module _ (row : Row) (sh : Shared row) (F j : ℕ) (ds es : List ℕ) (bin-ds : Binary ds) (bin-es : Binary es)
+module _ (row : Row) (sh : Shared row) (earlier F j : ℕ) (ds es : List ℕ) (bin-ds : Binary ds) (bin-es : Binary es)
     (same : (p : ℕ) → p < F * row .digits → p % 4 ≢ j → getD ds p 0 ≡ getD es p 0) (k : ℕ) (kh : k < 4) (other : k ≢ j) where
   same-at : (p : ℕ) → p < F * row .digits → p % 4 ≡ k → getD ds p 0 ≡ getD es p 0
   same-at p h m = same p h (λ e. other (sym m ∙ e))
@@ -43,18 +43,21 @@ module _ (row : Row) (sh : Shared row) (F j : ℕ) (ds es : List ℕ) (bin-ds : 
   same-decision f hf =
       decisions-read row ds bin-ds F f k hf kh ∙ ap (λ (v : Vote). v .stuffed) (same-vote f hf) ∙ sym (decisions-read row es bin-es F f k hf kh)
 
-  same-digits : digitsRead row F ds k ≡ digitsRead row F es k
+  same-acts : (f : ℕ) → f < F → actions row earlier (notesOf row ds F) k f ≡ actions row earlier (notesOf row es F) k f
+  same-acts = actions-same row earlier earlier (notesOf row ds F) (notesOf row es F) k F refl same-decision
+
+  same-digits : digitsRead row earlier F ds k ≡ digitsRead row earlier F es k
   unfolding takenTo
   same-digits =
-      rw (places-same row sh F k kh (decisions (notesOf row ds F) k) (decisions (notesOf row es F) k) same-decision (F * columns row) (omega arith))
-      (digits-same row (decisions (notesOf row es F) k) k ds es (F * columns row) (λ x h _. same-at (4 * x + k) (column-place row sh F k kh x h) (omega arith)))
+      rw (places-same row sh F k kh (actions row earlier (notesOf row ds F) k) (actions row earlier (notesOf row es F) k) same-acts (F * columns row) (omega arith))
+      (digits-same row (actions row earlier (notesOf row es F) k) k ds es (F * columns row) (λ x h _. same-at (4 * x + k) (column-place row sh F k kh x h) (omega arith)))
 
-  pub others-untouched : SameRead row F k ds es
+  pub others-untouched : SameRead row earlier F k ds es
   others-untouched =
       record {
         voted = same-vote;
         decided = same-decision;
-        counted = count-same row (decisions (notesOf row ds F) k) (decisions (notesOf row es F) k) F same-decision;
+        counted = count-same row (actions row earlier (notesOf row ds F) k) (actions row earlier (notesOf row es F) k) F same-acts;
         digits = same-digits;
         dissenting = sum-same F (λ (f : ℕ). voteAt row ds f k .dissent) (λ (f : ℕ). voteAt row es f k .dissent) (λ f hf. ap (λ (v : Vote). v .dissent) (same-vote f hf));
       }

@@ -11,45 +11,48 @@ use Rattle.digits.proofs.Sums.{sum-same}
 use Rattle.levels.proofs.Groups.{group-binary, differing-votes}
 use Rattle.table.specs.declared.Row.{Row}
 use Rattle.levels.specs.declared.vote.Vote.{Vote}
+use Rattle.levels.specs.declared.order.Action.{Action}
 use Rattle.levels.specs.declared.places.Kind.{Kind}
 use Rattle.levels.specs.declared.places.Kind.the-variants.{Word, Service, Control, Justification, Tributary}
 use Rattle.levels.specs.Table.{Shared}
 use Rattle.levels.specs.Places.{kindAt, posOf}
-use Rattle.levels.specs.Order.{decisions, carried, carries, before, countOf}
+use Rattle.levels.specs.Order.{decisions, actions, carried, carries, before, countOf}
 use Rattle.levels.specs.Vote.{votesFor}
 use Rattle.levels.proofs.Columns.{columns}
 use Rattle.levels.proofs.Counts.{line-count, count-room}
 use Rattle.levels.proofs.Majority.{group-length, vote-stands}
 use Rattle.reading.specs.Notes.{voteAt, notesOf, dissentTo}
 use Rattle.extraction.specs.Quarters.{takenTo}
-use Rattle.promises.specs.Damage.{kept, liberty, libertyAt, groupAt, Damage, controlsChanged, lineDigits}
+use Rattle.promises.specs.Damage.{at-will, kept, liberty, libertyAt, groupAt, Damage, controlsChanged, lineDigits}
 use Rattle.promises.specs.Carried.{digitsRead, digitsSent, countSent, Room, Returned}
 use Rattle.promises.proofs.Sent.{sent-group, sent-carried}
 use Rattle.promises.proofs.Reading.{decisions-read}
-use Rattle.promises.proofs.Order.{column-place, places-same, count-same, digits-back}
+use Rattle.promises.proofs.Order.{column-place, places-same, count-same, actions-same, digits-back}
 
 -- a place that carries a digit is kept
-carried-kept : (k : Kind) (st : Bool) → carried k st ≡ true → liberty k st ≡ kept
-carried-kept Word st c = absurd (false≢true c)
-carried-kept (Service s) st c = absurd (false≢true c)
-carried-kept Control st c = absurd (false≢true c)
-carried-kept Justification true c = absurd (false≢true c)
-carried-kept Justification false c = refl
-carried-kept Tributary st c = refl
+pub carried-kept : (k : Kind) (act : Action) → carried k act ≡ true → liberty k act ≡ kept
+carried-kept Word act c = absurd (false≢true c)
+carried-kept (Service s) act c = absurd (false≢true c)
+carried-kept Control act c = absurd (false≢true c)
+carried-kept (Justification sign) act c = rw c
+carried-kept Tributary act c = refl
 
 -- and no other
-pub kept-carries : (k : Kind) (st : Bool) → liberty k st ≡ kept → carried k st ≡ true
-kept-carries Word st e = cc
-kept-carries (Service s) st e = cc
-kept-carries Control st e = cc
-kept-carries Justification true e = cc
-kept-carries Justification false e = refl
-kept-carries Tributary st e = refl
+pub kept-carries : (k : Kind) (act : Action) → liberty k act ≡ kept → carried k act ≡ true
+kept-carries Word act e = cc
+kept-carries (Service s) act e = cc
+kept-carries Control act e = cc
+kept-carries (Justification sign) act e = go (carried (Justification sign) act) refl e
+  where
+    go : (t : Bool) → carried (Justification sign) act ≡ t → cond t kept at-will ≡ kept → carried (Justification sign) act ≡ true
+    go true c e = c
+    go false c e = cc
+kept-carries Tributary act e = refl
 
 module _ (row : Row) (sh : Shared row) (F : ℕ) where
-  module _ (notes : List ℕ) (tributary : ℕ → List ℕ) (ds : List ℕ) (damage : Damage row notes F (lineDigits row notes tributary F) ds) where
+  module _ (earlier : ℕ) (notes : List ℕ) (tributary : ℕ → List ℕ) (ds : List ℕ) (damage : Damage row earlier notes F (lineDigits row earlier notes tributary F) ds) where
     abbrev sent : List ℕ
-    sent = lineDigits row notes tributary F
+    sent = lineDigits row earlier notes tributary F
 
     -- a group's vote is the send's decision, and the digits that dissent are those that were changed
     pub vote-kept : (f j : ℕ) → f < F → j < 4
@@ -62,7 +65,7 @@ module _ (row : Row) (sh : Shared row) (F : ℕ) where
         let bin : Binary g = group-binary ds (damage .digits) place (row .set) (row .control) in
         let len : length g ≡ row .control = group-length ds place (row .set) (row .control) in
         let few = damage .few-controls f j hf hj in
-        let changed : votesFor (cond st 0 1) g ≡ differing (groupAt row sent f j) g = sym (differing-votes st g bin) ∙ rw (len, sent-group row sh notes tributary F f j hf hj) in
+        let changed : votesFor (cond st 0 1) g ≡ differing (groupAt row sent f j) g = sym (differing-votes st g bin) ∙ rw (len, sent-group row sh earlier notes tributary F f j hf hj) in
         rw (vote-stands st g bin (omega (arith, changed, sh .odd)), changed)
 
     pub decision-kept : (f j : ℕ) → f < F → j < 4 → decisions (notesOf row ds F) j f ≡ decisions notes j f
@@ -75,29 +78,32 @@ module _ (row : Row) (sh : Shared row) (F : ℕ) where
         (λ f hf. ap (λ (v : Vote). v .dissent) (vote-kept f j hf hj))
 
     -- a digit that a place of tributary j carries has come as it was sent
-    pub digit-kept : (j : ℕ) → j < 4 → (x : ℕ) → x < F * columns row → carries row (decisions notes j) (4 * x + j) ≡ true
-        → getD ds (4 * x + j) 0 ≡ getD (tributary j) (before row (decisions notes j) j x) 0
+    pub digit-kept : (j : ℕ) → j < 4 → (x : ℕ) → x < F * columns row → carries row (actions row earlier notes j) (4 * x + j) ≡ true
+        → getD ds (4 * x + j) 0 ≡ getD (tributary j) (before row (actions row earlier notes j) j x) 0
     unfolding carries
     digit-kept j hj x h c =
         let p = 4 * x + j in
         let in-line = column-place row sh F j hj x h in
         let w : p % 4 ≡ j = omega arith in
-        let free : libertyAt row notes p ≡ kept = rw w (carried-kept (kindAt row p) (decisions notes j (posOf row p .frame)) c) in
-        damage .others-kept p in-line free ∙ sent-carried row sh notes tributary F j x hj in-line c
+        let free : libertyAt row earlier notes p ≡ kept = rw w (carried-kept (kindAt row p) (actions row earlier notes j (posOf row p .frame)) c) in
+        damage .others-kept p in-line free ∙ sent-carried row sh earlier notes tributary F j x hj in-line c
 
-    pub damage-recovered : Room row F tributary → Returned row F notes tributary ds
+    acts-kept : (j : ℕ) → j < 4 → (f : ℕ) → f < F → actions row earlier (notesOf row ds F) j f ≡ actions row earlier notes j f
+    acts-kept j hj = actions-same row earlier earlier (notesOf row ds F) notes j F refl (λ f hf. decision-kept f j hf hj)
+
+    pub damage-recovered : Room row F tributary → Returned row earlier F notes tributary ds
     unfolding takenTo countOf
     damage-recovered room =
         record {
           decided = λ j f hj hf. decision-kept f j hf hj;
-          counted = λ j hj. count-same row (decisions (notesOf row ds F) j) (decisions notes j) F (λ f hf. decision-kept f j hf hj);
+          counted = λ j hj. count-same row (actions row earlier (notesOf row ds F) j) (actions row earlier notes j) F (acts-kept j hj);
           digits = back;
         }
       where
-        back : (j : ℕ) → j < 4 → digitsRead row F ds j ≡ digitsSent row F notes tributary j
+        back : (j : ℕ) → j < 4 → digitsRead row earlier F ds j ≡ digitsSent row earlier F notes tributary j
         back j hj =
-            let d = decisions notes j in
+            let d = actions row earlier notes j in
             let X = F * columns row in
-            let all : before row d j X ≡ countSent row F notes j = omega (arith, line-count row sh j hj d F) in
-            rw (places-same row sh F j hj (decisions (notesOf row ds F) j) d (λ f hf. decision-kept f j hf hj) X (omega arith))
+            let all : before row d j X ≡ countSent row earlier F notes j = omega (arith, line-count row sh j hj d F) in
+            rw (places-same row sh F j hj (actions row earlier (notesOf row ds F) j) d (acts-kept j hj) X (omega arith))
             (digits-back row d j ds (tributary j) X (digit-kept j hj) (omega (arith, all, count-room row sh j hj d F, room j hj)) ∙ ap (λ (n : ℕ). take n (tributary j)) all)

@@ -1,6 +1,6 @@
 -- The sent line, place by place: a law for each kind of place, and the control groups, which are all 1 or all 0.
 use mathlib.Core.Path.{_≡_, refl, _∙_}
-use mathlib.Core.Bool.{Bool, cond, true, false, not}
+use mathlib.Core.Bool.{cond, true}
 use mathlib.Core.List.{List}
 use Prim.Native.Nat.{ℕ, _+_, _*_, _-_, _/_, _%_, _^_, _≤_, _<_}
 use native.Mathlib.Omega.{arith}
@@ -8,20 +8,25 @@ use native.Mathlib.Nat.{zero-add, add-mul}
 use lib.ListN.{getD, replicate}
 use lib.Arith.{digits-lt}
 use Rattle.digits.proofs.Laws.{tab-at}
+use Rattle.digits.proofs.Lists.{of-four}
 use Rattle.levels.proofs.Groups.{group-all}
 use Rattle.table.specs.declared.Row.{Row}
 use Rattle.levels.specs.declared.places.Kind.the-variants.{Tributary}
 use Rattle.levels.specs.Table.{Shared}
-use Rattle.levels.specs.Places.{kindOf, kindAt, posOf}
-use Rattle.levels.specs.Order.{decisions, carries, before}
+use Rattle.levels.specs.Places.{notedDigit, notedOf, kindOf, kindAt, posOf}
+use Rattle.levels.specs.Order.{decisions, actions, carries, before}
 use Rattle.levels.specs.Word.{wordDigit}
 use Rattle.levels.proofs.Positions.{pos-of-sum, in-frame}
 use Rattle.levels.proofs.Sentences.{set-start}
 use Rattle.levels.proofs.Columns.{frame-start}
-use Rattle.levels.proofs.Ways.{kind-word, kind-control, kind-justification}
-use Rattle.multiplex.specs.Line.{digitBy, lineDigit}
-use Rattle.multiplex.proofs.Own.{digit-carried, service-bit}
+use Rattle.levels.proofs.Ways.{kind-word, kind-noted, kind-control}
+use Rattle.multiplex.specs.Line.{serviceBy, digitBy, lineDigit}
+use Rattle.multiplex.proofs.Own.{digit-carried}
 use Rattle.promises.specs.Damage.{lineDigits, groupAt}
+
+-- the service digits of a note in the order of its bits
+service-bit : (note k : ℕ) → k < 4 → serviceBy note (notedDigit k) ≡ note / 2 ^ (4 + k) % 2
+service-bit note = of-four (λ (k : ℕ). serviceBy note (notedDigit k) ≡ note / 2 ^ (4 + k) % 2) refl refl refl refl
 
 module _ (row : Row) (sh : Shared row) where
   -- place r of set s of frame f is a place of a line of F frames; whose it is goes by r alone
@@ -36,22 +41,22 @@ module _ (row : Row) (sh : Shared row) where
   pub control-place : (f j i : ℕ) → f * row .digits + (row .set + j) + i * row .set ≡ f * row .digits + ((i + 1) * row .set + j)
   control-place f j i = omega (arith, add-mul i 1 (row .set))
 
-  module _ (notes : List ℕ) (tributary : ℕ → List ℕ) (F : ℕ) where
+  module _ (earlier : ℕ) (notes : List ℕ) (tributary : ℕ → List ℕ) (F : ℕ) where
     abbrev line : List ℕ
-    line = lineDigits row notes tributary F
+    line = lineDigits row earlier notes tributary F
 
     -- the digit that a place of tributary j has to carry, if it carries one
     abbrev next : ℕ → ℕ → ℕ
-    next j p = getD (tributary j) (before row (decisions notes j) j (p / 4)) 0
+    next j p = getD (tributary j) (before row (actions row earlier notes j) j (p / 4)) 0
 
     pub sent-at : (p : ℕ) → p < F * row .digits
-        → getD line p 0 ≡ digitBy row (getD notes (posOf row p .frame) 0) (p % 4) (posOf row p .place) (next (p % 4) p) (kindAt row p)
+        → getD line p 0 ≡ digitBy row (getD notes (posOf row p .frame) 0) (actions row earlier notes (p % 4) (posOf row p .frame)) (p % 4) (posOf row p .place) (next (p % 4) p) (kindAt row p)
     unfolding lineDigit
-    sent-at p h = tab-at (F * row .digits) 0 (lineDigit row notes tributary) p h ∙ rw (zero-add p)
+    sent-at p h = tab-at (F * row .digits) 0 (lineDigit row earlier notes tributary) p h ∙ rw (zero-add p)
 
     -- the digit at place r of set s of frame f
     pub sent : (f s r j p : ℕ) → f < F → s < row .sets → r < row .set → r % 4 ≡ j → p ≡ f * row .digits + (s * row .set + r)
-        → getD line p 0 ≡ digitBy row (getD notes f 0) j r (next j p) (kindOf row s r)
+        → getD line p 0 ≡ digitBy row (getD notes f 0) (actions row earlier notes j f) j r (next j p) (kindOf row s r)
     sent f s r j p hf hs hr m e =
         let w : p % 4 ≡ j = whose f s r p e hs hr ∙ m in
         sent-at p (in-line f s r p e hs hr F hf) ∙ rw (pos-of-sum row sh p f s r e hs hr, w)
@@ -62,14 +67,12 @@ module _ (row : Row) (sh : Shared row) where
         ∙ rw (kind-word row sh r hr)
 
     -- the remote alarm digit and the national digits, by the note of their own frame
-    pub sent-service : (f k p : ℕ) → f < F → k ≤ row .nationals → p ≡ f * row .digits + (row .alarm + k) → getD line p 0 ≡ getD notes f 0 / 2 ^ (4 + k) % 2
+    pub sent-service : (f k p : ℕ) → f < F → k < notedOf row → p ≡ f * row .digits + (row .alarm + k) → getD line p 0 ≡ getD notes f 0 / 2 ^ (4 + k) % 2
     sent-service f k p hf hk e =
-        let r = row .alarm + k in
-        let past : r < row .first = omega (arith, sh .national-next, sh .first-next) in
-        let bit : 4 + (r - row .len) ≡ 4 + k = omega (arith, sh .alarm-next) in
-        sent f 0 r (r % 4) p hf (omega (arith, sh .later-set)) (omega (arith, sh .room)) refl (omega arith)
-        ∙ service-bit row sh (getD notes f 0) (r % 4) r (next (r % 4) p) (omega (arith, sh .alarm-next)) past
-        ∙ rw bit
+        let r = row .len + k in
+        let in-set : r < row .set = omega (arith, sh .room, sh .alarm-next, sh .national-next, sh .first-next) in
+        sent f 0 r (r % 4) p hf (omega (arith, sh .later-set)) in-set refl (omega (arith, sh .alarm-next))
+        ∙ rw (kind-noted row sh k hk) (service-bit (getD notes f 0) k (omega (arith, sh .few-alarm, sh .few-national)))
 
     pub sent-control : (f s j p : ℕ) → f < F → 0 < s → s < row .sets → j < 4 → p ≡ f * row .digits + (s * row .set + j)
         → getD line p 0 ≡ cond (decisions notes j f) 1 0
@@ -81,29 +84,16 @@ module _ (row : Row) (sh : Shared row) where
         group-all line (f * row .digits + (row .set + j)) (row .set) (cond (decisions notes j f) 1 0) (row .control)
         (λ i hi. sent-control f (i + 1) j (f * row .digits + (row .set + j) + i * row .set) hf (omega arith) (omega (arith, sh .group)) hj (control-place f j i))
 
-    -- 1 if stuffed, else the tributary's next digit
-    pub sent-justification : (f j p : ℕ) → f < F → j < 4 → p ≡ f * row .digits + ((row .sets - 1) * row .set + (4 + j))
-        → getD line p 0 ≡ cond (decisions notes j f) 1 (next j p)
-    sent-justification f j p hf hj e =
-        let s = row .sets - 1 in
-        let last : s + 1 ≡ row .sets = omega (arith, sh .later-set) in
-        let kind = kind-justification row sh s (omega (arith, sh .later-set)) last (4 + j) (omega (arith, sh .last-eight)) (omega (arith, sh .last-eight)) in
-        sent f s (4 + j) j p hf (omega (arith, sh .later-set)) (omega (arith, sh .room)) (omega arith) e ∙ rw kind (turned (decisions notes j f))
-      where
-        turned : (st : Bool) → cond (not st) (next j p) 1 ≡ cond st 1 (next j p)
-        turned true = refl
-        turned false = refl
-
     pub sent-tributary : (p : ℕ) → p < F * row .digits → kindAt row p ≡ Tributary → getD line p 0 ≡ next (p % 4) p
     sent-tributary p h k = sent-at p h ∙ rw k
 
     -- a place that carries a digit has the tributary's next one
-    pub sent-carried : (j x : ℕ) → j < 4 → 4 * x + j < F * row .digits → carries row (decisions notes j) (4 * x + j) ≡ true
-        → getD line (4 * x + j) 0 ≡ getD (tributary j) (before row (decisions notes j) j x) 0
+    pub sent-carried : (j x : ℕ) → j < 4 → 4 * x + j < F * row .digits → carries row (actions row earlier notes j) (4 * x + j) ≡ true
+        → getD line (4 * x + j) 0 ≡ getD (tributary j) (before row (actions row earlier notes j) j x) 0
     unfolding carries
     sent-carried j x hj h c =
         let w : (4 * x + j) % 4 ≡ j = omega arith in
         let q : (4 * x + j) / 4 ≡ x = omega arith in
         let at = posOf row (4 * x + j) in
         sent-at (4 * x + j) h
-        ∙ rw (w, q) (digit-carried row (getD notes (at .frame) 0) j (at .place) (getD (tributary j) (before row (decisions notes j) j x) 0) (kindAt row (4 * x + j)) c)
+        ∙ rw (w, q) (digit-carried row (getD notes (at .frame) 0) (actions row earlier notes j (at .frame)) j (at .place) (getD (tributary j) (before row (actions row earlier notes j) j x) 0) (kindAt row (4 * x + j)) c)

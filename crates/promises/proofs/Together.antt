@@ -1,10 +1,10 @@
 -- Demultiplexing split in two: the two calls in turn answer and leave what the one call did, on every input; but where it found only too little
--- room in the buffer (4), the notes are by then written.
+-- room in the buffer (4) or a bad earlier vote (5), the notes are by then written.
 use mathlib.Core.Path.{_≡_, refl, sym, _∙_, ap}
 use mathlib.Core.Logic.{_≢_}
 use mathlib.Core.Bool.{Bool, cond, true, false}
 use mathlib.Core.List.{List}
-use Prim.Native.Nat.{ℕ, _/_, _≤_}
+use Prim.Native.Nat.{ℕ, _/_, _≤_, _<_}
 use native.Mathlib.Omega.{arith}
 use native.Mathlib.Decide.{ℕ-discrete}
 use lib.Dec.{eqb, lit≤}
@@ -18,11 +18,11 @@ use Rattle.table.specs.declared.Level.the-variants.{Of, NoSuchLevel}
 use Rattle.table.specs.Table.{levelOf}
 use Rattle.levels.specs.Table.{Shared}
 use Rattle.levels.specs.Sizes.{badLine, badNotes, badBuffer, framesRefusal, sizeRefusal, Accepted}
-use Rattle.levels.specs.Judging.{fault, faultOf}
+use Rattle.levels.specs.Judging.{fault, badEarlier, faultOf}
 use Rattle.levels.proofs.Choice.{cond-by}
 use Rattle.levels.proofs.Rows.{shared-row}
 use Rattle.levels.proofs.Judged.{accepted}
-use Rattle.levels.proofs.Refusals.{NotesFit, fault-of-size, fit-faultless}
+use Rattle.levels.proofs.Refusals.{NotesFit, fault-of-size, fault-of-earlier, fit-faultless}
 use Rattle.reading.specs.Notes.{noteOf, notesOf}
 use Rattle.promises.specs.Together.{Outcome, together, togetherOn, inTurn, Split}
 use Rattle.promises.proofs.Reading.{note-fits}
@@ -34,7 +34,7 @@ frames-small row line notes =
     let small : ℕ → Type 0 = λ (n : ℕ). n ≤ 3 in
     cond-by small (badLine row line) (lit≤ tt) (cond-by small (badNotes row line notes) (lit≤ tt) (lit≤ tt))
 
-module _ (level : ℕ) (line notes buffer : List ℕ) (row : Row) (e : levelOf level ≡ Of row) where
+module _ (level earlier : ℕ) (line notes buffer : List ℕ) (row : Row) (e : levelOf level ≡ Of row) where
   abbrev F : ℕ
   F = length notes
 
@@ -60,76 +60,90 @@ module _ (level : ℕ) (line notes buffer : List ℕ) (row : Row) (e : levelOf l
   size-by z t e = rw (eq-eqb frames 0 z, e)
 
   -- refused for the line or the notes
-  refused-first : frames ≢ 0 → Split level line notes buffer
+  refused-first : frames ≢ 0 → Split level earlier line notes buffer
   refused-first n =
       let none = ne-eqb frames 0 n in
       let is = size-is none in
-      let told : together level line notes buffer .refusal ≡ frames = rw (e, is, none) in
+      let told : together level earlier line notes buffer .refusal ≡ frames = rw (e, is, none) in
       record {
         same = λ _. rw (e, is, none, none);
-        room = λ four. absurd (other (sym told ∙ four));
-        written = λ four. absurd (other (sym told ∙ four));
+        second-refused = λ late. absurd (other (rw told at late));
+        written = λ late. absurd (other (rw told at late));
       }
     where
-      other : frames ≡ 4 → ⊥
+      other : 4 ≤ frames → ⊥
       other h = omega (arith, frames-small row (length line) F)
 
-  -- refused for the buffer, when the notes are read
-  refused-second : frames ≡ 0 → size ≡ 4 → Split level line notes buffer
-  refused-second z four =
-      let told : together level line notes buffer .refusal ≡ 4 = rw (e, four) in
-      let short : sizeRefusal row (length line) (length read) (length buffer) ≡ 4 = ap (λ (k : ℕ). sizeRefusal row (length line) k (length buffer)) read-length ∙ four in
-      let found : fault 4 0 ≡ faultOf row (length line) read (length buffer) =
-      ap (λ (k : ℕ). fault k 0) (sym short) ∙ fault-of-size row (length line) read (length buffer) (λ h. some (sym short ∙ h)) in
+  -- refused for the buffer or the earlier vote, when the notes are read
+  refused-second : frames ≡ 0 → (number : ℕ) → 4 ≤ number → together level earlier line notes buffer .refusal ≡ number
+      → fault number 0 ≡ faultOf row earlier (length line) read (length buffer) → Split level earlier line notes buffer
+  refused-second z number high told found =
       record {
-        same = λ n. absurd (n told);
-        room = λ _. rw (e, z, ← found);
+        same = λ low. absurd (both (rw told at low));
+        second-refused = λ _. rw (told, e, z, ← found, ne-eqb number 0 (λ zero. omega arith));
         written = λ _. rw (e, z);
       }
+    where
+      both : number < 4 → ⊥
+      both low = omega arith
+
+  short-of-room : frames ≡ 0 → size ≡ 4 → Split level earlier line notes buffer
+  short-of-room z four =
+      let short : sizeRefusal row (length line) (length read) (length buffer) ≡ 4 = ap (λ (k : ℕ). sizeRefusal row (length line) k (length buffer)) read-length ∙ four in
+      refused-second z 4 (lit≤ tt) (rw (e, four))
+      (ap (λ (k : ℕ). fault k 0) (sym short) ∙ fault-of-size row earlier (length line) read (length buffer) (λ h. some (sym short ∙ h)))
     where
       some : _≡_ {A = ℕ} 4 0 → ⊥
       some e = omega arith
 
-  -- accepted
-  both-accepted : frames ≡ 0 → size ≡ 0 → Split level line notes buffer
-  both-accepted z ok =
-      let told : together level line notes buffer .refusal ≡ 0 = rw (e, ok) in
-      let sizes : Accepted row (length line) (length read) (length buffer) = rw read-length (accepted row (length line) F (length buffer) ok) in
-      let fits : NotesFit row read = λ f hf. note-fits row (digitsOf line) (digits-binary line) f (shared-row level row e) F (omega (arith, read-length)) in
-      let found = fit-faultless row (length line) read (length buffer) sizes fits in
-      record {
-        same = λ _. rw (e, z, ok, found, read-length);
-        room = λ four. absurd (some (sym told ∙ four));
-        written = λ four. absurd (some (sym told ∙ four));
-      }
-    where
-      some : _≡_ {A = ℕ} 0 4 → ⊥
-      some e = omega arith
+  -- the lengths are accepted: by the earlier vote
+  module _ (z : frames ≡ 0) (ok : size ≡ 0) where
+    whole : sizeRefusal row (length line) (length read) (length buffer) ≡ 0
+    whole = ap (λ (k : ℕ). sizeRefusal row (length line) k (length buffer)) read-length ∙ ok
 
-  on-row : Split level line notes buffer
+    bad-vote : badEarlier row earlier ≡ true → Split level earlier line notes buffer
+    bad-vote bad = refused-second z 5 (lit≤ tt) (rw (e, ok, bad)) (fault-of-earlier row earlier (length line) read (length buffer) whole bad)
+
+    both-accepted : badEarlier row earlier ≡ false → Split level earlier line notes buffer
+    both-accepted good =
+        let told : together level earlier line notes buffer .refusal ≡ 0 = rw (e, ok, good) in
+        let sizes : Accepted row (length line) (length read) (length buffer) = rw read-length (accepted row (length line) F (length buffer) ok) in
+        let fits : NotesFit row read = λ f hf. note-fits row (digitsOf line) (digits-binary line) f (shared-row level row e) F (omega (arith, read-length)) in
+        let found = fit-faultless row earlier (length line) read (length buffer) sizes good fits in
+        record {
+          same = λ _. rw (e, z, ok, good, found, read-length);
+          second-refused = λ late. absurd (some (rw told at late));
+          written = λ late. absurd (some (rw told at late));
+        }
+      where
+        some : _≤_ 4 0 → ⊥
+        some e = omega arith
+
+  on-row : Split level earlier line notes buffer
   on-row =
       elim (ℕ-discrete frames 0) [
-        | yes z ↦ ways z (badBuffer row (length line) (length buffer)) refl
+        | yes z ↦ ways z (badBuffer row (length line) (length buffer)) refl (badEarlier row earlier) refl
         | no n ↦ refused-first n
       ]
     where
-      ways : frames ≡ 0 → (t : Bool) → badBuffer row (length line) (length buffer) ≡ t → Split level line notes buffer
-      ways z true t = refused-second z (size-by z true t)
-      ways z false t = both-accepted z (size-by z false t)
+      ways : frames ≡ 0 → (t : Bool) → badBuffer row (length line) (length buffer) ≡ t → (b : Bool) → badEarlier row earlier ≡ b → Split level earlier line notes buffer
+      ways z true t b v = short-of-room z (size-by z true t)
+      ways z false t true v = bad-vote z (size-by z false t) v
+      ways z false t false v = both-accepted z (size-by z false t) v
 
 -- on every input
-pub split : (level : ℕ) (line notes buffer : List ℕ) → Split level line notes buffer
-split level line notes buffer = go (levelOf level) refl
+pub split : (level earlier : ℕ) (line notes buffer : List ℕ) → Split level earlier line notes buffer
+split level earlier line notes buffer = go (levelOf level) refl
   where
-    go : (l : Level) → levelOf level ≡ l → Split level line notes buffer
-    go (Of row) e = on-row level line notes buffer row e
+    go : (l : Level) → levelOf level ≡ l → Split level earlier line notes buffer
+    go (Of row) e = on-row level earlier line notes buffer row e
     go NoSuchLevel e =
-        let told : together level line notes buffer .refusal ≡ 1 = rw e in
+        let told : together level earlier line notes buffer .refusal ≡ 1 = rw e in
         record {
           same = λ _. rw e;
-          room = λ four. absurd (some (sym told ∙ four));
-          written = λ four. absurd (some (sym told ∙ four));
+          second-refused = λ late. absurd (some (rw told at late));
+          written = λ late. absurd (some (rw told at late));
         }
       where
-        some : _≡_ {A = ℕ} 1 4 → ⊥
+        some : _≤_ 4 1 → ⊥
         some e = omega arith

@@ -23,9 +23,9 @@ inverted at-will change d = 1 - d
 inverted counted change d = cond change (1 - d) d
 inverted kept change d = d
 
-abbrev pub spoilt : Row → List ℕ → (ℕ → Bool) → ℕ → List ℕ → List ℕ
-spoilt row notes change F sent =
-    tab (F * row .digits) 0 (λ (p : ℕ). inverted (libertyAt row notes p) (change (posOf row p .set)) (getD sent p 0))
+abbrev pub spoilt : Row → ℕ → List ℕ → (ℕ → Bool) → ℕ → List ℕ → List ℕ
+spoilt row earlier notes change F sent =
+    tab (F * row .digits) 0 (λ (p : ℕ). inverted (libertyAt row earlier notes p) (change (posOf row p .set)) (getD sent p 0))
 
 -- how many of the k sets after the first are changed
 abbrev pub changes : (ℕ → Bool) → ℕ → ℕ
@@ -38,7 +38,7 @@ early row s = leb s (allowed row)
 abbrev pub late : Row → ℕ → Bool
 late row s = not (early row s)
 
--- two sends of F frames that differ in every decision: no frame stuffed, every frame stuffed for all four; all digits are 0
+-- two sends of F frames, after one earlier vote, that differ in every decision: no frame stuffed, every frame stuffed for all four; all digits are 0
 abbrev pub noneStuffed : ℕ → List ℕ
 noneStuffed F = replicate F 0
 
@@ -51,14 +51,14 @@ idle row F j = replicate (F * row .room) 0
 -- the border: both are sound sends, they differ in every decision, and there is a line that comes from the one by damage and from the other by
 -- one control digit more of each group. Dissent is counted from the majority and not from what was sent: it is the number of digits that were changed
 -- of the one, and the other had more changed
-pub record Border (row : Row) (F : ℕ) : Type 0 where
+pub record Border (row : Row) (earlier F : ℕ) : Type 0 where
   pub line : List ℕ
   pub sound-one : Sound row F (noneStuffed F) (idle row F)
   pub sound-other : Sound row F (allStuffed F) (idle row F)
-  pub from-one : Damage row (noneStuffed F) F (lineDigits row (noneStuffed F) (idle row F) F) line
-  pub from-other : DamageUpTo (allowed row + 1) row (allStuffed F) F (lineDigits row (allStuffed F) (idle row F) F) line
+  pub from-one : Damage row earlier (noneStuffed F) F (lineDigits row earlier (noneStuffed F) (idle row F) F) line
+  pub from-other : DamageUpTo (allowed row + 1) row earlier (allStuffed F) F (lineDigits row earlier (allStuffed F) (idle row F) F) line
   pub dissenting : (j : ℕ) → j < 4 → dissentTo row line j F ≡ F * allowed row
-  pub changed-other : (j : ℕ) → j < 4 → controlsChanged row F (lineDigits row (allStuffed F) (idle row F) F) line j ≡ F * (allowed row + 1)
+  pub changed-other : (j : ℕ) → j < 4 → controlsChanged row F (lineDigits row earlier (allStuffed F) (idle row F) F) line j ≡ F * (allowed row + 1)
   pub differ : (j f : ℕ) → j < 4 → f < F → decisions (noneStuffed F) j f ≢ decisions (allStuffed F) j f
 
 -- one frame at 8448 kbit/s, stuffed for tributary 1, whose digit 154 is 1, all others 0: the line that is left, and that line damaged in every
@@ -80,12 +80,12 @@ exampleRead = record { line = exampleDamaged; notes = 0xFF ∷ []; buffer = repl
 -- ten digits of the word, two service digits, four control digits and a stuffing digit differ: all the send's decision leaves free. The
 -- reading counts the ten, and a dissenting digit of each tributary; its note has the send's decision, and the service digits as they came; its buffer is the send's
 pub record Example : Type 0 where
-  pub accepted : SendAccepted 2 exampleSend
-  pub leaves : sentLine 2 exampleSend ≡ exampleLine
-  pub damaged : DamageAt 2 (exampleSend .notes) (sentLine 2 exampleSend) exampleDamaged
+  pub accepted : SendAccepted 2 0 exampleSend
+  pub leaves : sentLine 2 0 exampleSend ≡ exampleLine
+  pub damaged : DamageAt 2 0 (exampleSend .notes) (sentLine 2 0 exampleSend) exampleDamaged
   pub seventeen : differing (digitsOf exampleLine) (digitsOf exampleDamaged) ≡ 17
-  pub returned : SendReturned 2 exampleSend exampleRead
-  pub answers : outcome 2 exampleRead
+  pub returned : SendReturned 2 0 exampleSend exampleRead
+  pub answers : outcome 2 0 exampleRead
       ≡ record {
         refusal = 0;
         frame = 0;

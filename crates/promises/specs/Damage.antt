@@ -1,4 +1,5 @@
--- Demand 3 in definitions: what damage may change in a sent line, and which places are one tributary's own.
+-- Demand 3 in definitions: what damage may change in a sent line, and which places are one tributary's own. A send has notes and the vote
+-- before them, which document 02, request 10, gives to it as a further input.
 -- The letter: "Change each line: alignment, service and stuffing digits at will, and in each tributary's control group of each frame at
 -- most one of three digits, or two of five at 139264." Lines are lists of digits here; a line of F frames has F * N of them.
 use mathlib.Core.Path.{_≡_}
@@ -10,10 +11,11 @@ use lib.ListN.{length, getD}
 use Rattle.digits.specs.Digits.{tab, Binary, differing}
 use Rattle.digits.specs.Sums.{sumTo}
 use Rattle.table.specs.declared.Row.{Row}
+use Rattle.levels.specs.declared.order.Action.{Action}
 use Rattle.levels.specs.declared.places.Kind.{Kind}
 use Rattle.levels.specs.declared.places.Kind.the-variants.{Word, Service, Control, Justification, Tributary}
 use Rattle.levels.specs.Places.{kindAt, posOf, isOwn}
-use Rattle.levels.specs.Order.{decisions}
+use Rattle.levels.specs.Order.{actions, carried}
 use Rattle.levels.specs.Vote.{groupOf}
 use Rattle.multiplex.specs.Line.{lineDigit}
 
@@ -21,16 +23,17 @@ use Rattle.multiplex.specs.Line.{lineDigit}
 pub data Liberty : Type 0 where
   at-will counted kept : Liberty
 
--- by the kind of its place, and by the send's own decision: a justification digit of a stuffed frame is a stuffing digit
-abbrev pub liberty : Kind → Bool → Liberty
-liberty Word st = at-will
-liberty (Service s) st = at-will
-liberty Control st = counted
-liberty Justification st = cond st at-will kept
-liberty Tributary st = kept
+-- by the kind of its place, and by what the send's frame does for its tributary: a justification place that carries no digit has a stuffing
+-- digit. "Negative places are justification and own places, an unused one a stuffing digit to demand 3"
+abbrev pub liberty : Kind → Action → Liberty
+liberty Word act = at-will
+liberty (Service s) act = at-will
+liberty Control act = counted
+liberty (Justification sign) act = cond (carried (Justification sign) act) kept at-will
+liberty Tributary act = kept
 
-abbrev pub libertyAt : Row → List ℕ → ℕ → Liberty
-libertyAt row notes p = liberty (kindAt row p) (decisions notes (p % 4) (posOf row p .frame))
+abbrev pub libertyAt : Row → ℕ → List ℕ → ℕ → Liberty
+libertyAt row earlier notes p = liberty (kindAt row p) (actions row earlier notes (p % 4) (posOf row p .frame))
 
 -- the control group of tributary j (from 0) in frame f
 abbrev pub groupAt : Row → List ℕ → ℕ → ℕ → List ℕ
@@ -40,24 +43,24 @@ groupAt row ds f j = groupOf ds (f * row .digits + (row .set + j)) (row .set) (r
 abbrev pub allowed : Row → ℕ
 allowed row = row .control / 2
 
--- received comes from sent, a line of F frames sent with these notes, by changes of at most so many digits of each control group
-pub record DamageUpTo (most : ℕ) (row : Row) (notes : List ℕ) (F : ℕ) (sent received : List ℕ) : Type 0 where
+-- received comes from sent, a line of F frames sent with these notes and the vote before them, by changes of at most so many digits of each control group
+pub record DamageUpTo (most : ℕ) (row : Row) (earlier : ℕ) (notes : List ℕ) (F : ℕ) (sent received : List ℕ) : Type 0 where
   pub digits : Binary received
   pub size : length received ≡ F * row .digits
-  pub others-kept : (p : ℕ) → p < F * row .digits → libertyAt row notes p ≡ kept → getD received p 0 ≡ getD sent p 0
+  pub others-kept : (p : ℕ) → p < F * row .digits → libertyAt row earlier notes p ≡ kept → getD received p 0 ≡ getD sent p 0
   pub few-controls : (f j : ℕ) → f < F → j < 4 → differing (groupAt row sent f j) (groupAt row received f j) ≤ most
 
 -- by damage
-abbrev pub Damage : Row → List ℕ → ℕ → List ℕ → List ℕ → Type 0
+abbrev pub Damage : Row → ℕ → List ℕ → ℕ → List ℕ → List ℕ → Type 0
 Damage row = DamageUpTo (allowed row) row
 
 -- how many control digits of tributary j (from 0) differ between two lines of F frames
 abbrev pub controlsChanged : Row → ℕ → List ℕ → List ℕ → ℕ → ℕ
 controlsChanged row F sent received j = sumTo F (λ (f : ℕ). differing (groupAt row sent f j) (groupAt row received f j))
 
--- the digits of the line that is sent with these notes and these tributaries' digits, F frames
-abbrev pub lineDigits : Row → List ℕ → (ℕ → List ℕ) → ℕ → List ℕ
-lineDigits row notes tributary F = tab (F * row .digits) 0 (lineDigit row notes tributary)
+-- the digits of the line that is sent with these notes, the vote before them and these tributaries' digits, F frames
+abbrev pub lineDigits : Row → ℕ → List ℕ → (ℕ → List ℕ) → ℕ → List ℕ
+lineDigits row earlier notes tributary F = tab (F * row .digits) 0 (lineDigit row earlier notes tributary)
 
 -- "A tributary's own places are its control, justification and tributary digits, stuffed or not."
 abbrev pub ownPlace : Row → ℕ → ℕ → Bool

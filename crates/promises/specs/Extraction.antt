@@ -20,15 +20,15 @@ use Rattle.promises.specs.Damage.{ownPlace}
 use Rattle.promises.specs.Calls.{Lent, sentCounts, sentDigits}
 
 -- it was accepted; the counts it answers; the digits of tributary j that it leaves and counts
-abbrev pub ExtractAccepted : ℕ → Lent → Type 0
-ExtractAccepted level c = answered level (length (c .line)) (c .notes) (length (c .buffer)) .refusal ≡ 0
+abbrev pub ExtractAccepted : ℕ → ℕ → Lent → Type 0
+ExtractAccepted level earlier c = answered level earlier (length (c .line)) (c .notes) (length (c .buffer)) .refusal ≡ 0
 
-abbrev pub extractCounts : ℕ → Lent → List ℕ
-extractCounts level c = answered level (length (c .line)) (c .notes) (length (c .buffer)) .counts
+abbrev pub extractCounts : ℕ → ℕ → Lent → List ℕ
+extractCounts level earlier c = answered level earlier (length (c .line)) (c .notes) (length (c .buffer)) .counts
 
-abbrev pub extractDigits : ℕ → Lent → ℕ → List ℕ
-extractDigits level c j =
-    take (getD (extractCounts level c) j 0) (digitsOf (quarterOf (bufferAfter level (c .line) (c .notes) (c .buffer)) j))
+abbrev pub extractDigits : ℕ → ℕ → Lent → ℕ → List ℕ
+extractDigits level earlier c j =
+    take (getD (extractCounts level earlier c) j 0) (digitsOf (quarterOf (bufferAfter level earlier (c .line) (c .notes) (c .buffer)) j))
 
 -- the same digits at tributary k's own places
 abbrev pub SameOwn : Row → ℕ → List ℕ → List ℕ → Type 0
@@ -42,7 +42,7 @@ abbrev pub bears : Kind → Bool
 bears Word = false
 bears (Service s) = false
 bears Control = false
-bears Justification = true
+bears (Justification sign) = true
 bears Tributary = true
 
 abbrev pub SameBearing : Row → ℕ → List ℕ → List ℕ → Type 0
@@ -51,33 +51,36 @@ SameBearing row k ds es = (p : ℕ) → p < length ds → eqb (p % 4) k && bears
 abbrev pub SameBearingAt : ℕ → ℕ → List ℕ → List ℕ → Type 0
 SameBearingAt level k line other = onLevel (levelOf level) (λ (row : Row). SameBearing row k (digitsOf line) (digitsOf other)) ⊥
 
--- as many notes, each with the same bit for tributary k
-pub record SameBit (k : ℕ) (notes other : List ℕ) : Type 0 where
+-- as many notes, each with the same bit for tributary k, and so the votes before them
+pub record SameBit (k earlier other-earlier : ℕ) (notes other : List ℕ) : Type 0 where
+  pub before : stuffed earlier k ≡ stuffed other-earlier k
   pub frames : length notes ≡ length other
   pub bit : (f : ℕ) → f < length notes → decisions notes k f ≡ decisions other k f
 
--- tributary k comes out of two extractions as one
-pub record ExtractsSame (level k : ℕ) (a b : Lent) : Type 0 where
-  pub counted : getD (extractCounts level a) k 0 ≡ getD (extractCounts level b) k 0
-  pub digits : extractDigits level a k ≡ extractDigits level b k
+-- tributary k comes out of two extractions as one, each with the vote before its notes
+pub record ExtractsSame (level earlier other-earlier k : ℕ) (a b : Lent) : Type 0 where
+  pub counted : getD (extractCounts level earlier a) k 0 ≡ getD (extractCounts level other-earlier b) k 0
+  pub digits : extractDigits level earlier a k ≡ extractDigits level other-earlier b k
 
 -- extraction returns what was sent
-pub record Extracted (level : ℕ) (send c : Lent) : Type 0 where
-  pub accepted : ExtractAccepted level c
-  pub counted : extractCounts level c ≡ sentCounts level send
-  pub digits : (j : ℕ) → j < 4 → extractDigits level c j ≡ sentDigits level send j
+pub record Extracted (level earlier : ℕ) (send c : Lent) : Type 0 where
+  pub accepted : ExtractAccepted level earlier c
+  pub counted : extractCounts level earlier c ≡ sentCounts level earlier send
+  pub digits : (j : ℕ) → j < 4 → extractDigits level earlier c j ≡ sentDigits level earlier send j
 
 -- "the same ones shifted by a frame": each frame goes by the note of the frame before, the first by one that is given; or by that of the frame
 -- after, and the last by one that is given
-abbrev pub later : ℕ → List ℕ → List ℕ
-later note notes = take (length notes) (note ∷ notes)
+abbrev pub frameBefore : ℕ → List ℕ → List ℕ
+frameBefore note notes = take (length notes) (note ∷ notes)
 
-abbrev pub earlier : ℕ → List ℕ → List ℕ
-earlier note notes = drop 1 (notes ++ (note ∷ []))
+abbrev pub frameAfter : ℕ → List ℕ → List ℕ
+frameAfter note notes = drop 1 (notes ++ (note ∷ []))
 
 abbrev pub byNotes : Lent → List ℕ → Lent
 byNotes c notes = record { line = c .line; notes = notes; buffer = c .buffer }
 
--- tributary k's decision does not change from frame to frame, and the note that is given has it too
-abbrev pub Steady : ℕ → ℕ → List ℕ → Type 0
-Steady k note notes = (f : ℕ) → f < length notes → decisions notes k f ≡ stuffed note k
+-- tributary k's decision does not change from frame to frame, and the note that is given and the votes before the notes have it too
+pub record Steady (k note earlier shifted : ℕ) (notes : List ℕ) : Type 0 where
+  pub before : stuffed earlier k ≡ stuffed note k
+  pub before-shifted : stuffed shifted k ≡ stuffed note k
+  pub bit : (f : ℕ) → f < length notes → decisions notes k f ≡ stuffed note k

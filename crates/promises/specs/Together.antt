@@ -1,10 +1,9 @@
--- Demultiplexing as it was in one call, before document 02's request 7 split it: what it answered and left, as a definition of its own; and what
--- the two calls in turn answer and leave. proofs/Together.antt has what the one says of the other.
+-- Demultiplexing as it was in one call, before document 02's request 7 split it: what it answered and left, as a definition of its own, with the
+-- vote before frame 0 that request 10 adds to extraction; and what the two calls in turn answer and leave. proofs/Together.antt has what the one says of the other.
 use mathlib.Core.Path.{_≡_}
-use mathlib.Core.Logic.{_≢_}
 use mathlib.Core.Bool.{cond}
 use mathlib.Core.List.{List, [], _∷_}
-use Prim.Native.Nat.{ℕ, _/_}
+use Prim.Native.Nat.{ℕ, _/_, _≤_, _<_}
 use lib.Dec.{eqb}
 use lib.ListN.{length}
 use Rattle.digits.specs.Digits.{digitsOf}
@@ -13,7 +12,7 @@ use Rattle.levels.specs.declared.judging.Counted.{Counted}
 use Rattle.table.specs.Table.{levelOf}
 use Rattle.levels.specs.Sizes.{onLevel, sizeRefusal}
 use Rattle.levels.specs.Order.{countsOf}
-use Rattle.levels.specs.Judging.{answered}
+use Rattle.levels.specs.Judging.{badEarlier, answered}
 use Rattle.reading.specs.declared.Noted.{Noted}
 use Rattle.reading.specs.Notes.{notesOf, alignmentTo, dissentsOf}
 use Rattle.reading.specs.Reading.{noted, notesAfter}
@@ -39,26 +38,26 @@ refusedWhole refusal notes buffer =
     record { refusal = refusal; frame = 0; counts = zeros; alignment = 0; dissent = zeros; notes = notes; buffer = buffer }
 
 -- accepted: the notes that are read from F frames, and the quarters of q bytes that are extracted by them
-abbrev pub readWhole : Row → List ℕ → ℕ → ℕ → Outcome
-readWhole row line F q =
+abbrev pub readWhole : Row → ℕ → List ℕ → ℕ → ℕ → Outcome
+readWhole row earlier line F q =
     record {
       refusal = 0;
       frame = 0;
-      counts = countsOf row (notesOf row (digitsOf line) F) F;
+      counts = countsOf row earlier (notesOf row (digitsOf line) F) F;
       alignment = alignmentTo row (digitsOf line) F;
       dissent = dissentsOf row (digitsOf line) F;
       notes = notesOf row (digitsOf line) F;
-      buffer = quartersFrom row (notesOf row (digitsOf line) F) line q;
+      buffer = quartersFrom row earlier (notesOf row (digitsOf line) F) line q;
     }
 
-abbrev pub togetherOn : Row → List ℕ → List ℕ → List ℕ → Outcome
-togetherOn row line notes buffer =
+abbrev pub togetherOn : Row → ℕ → List ℕ → List ℕ → List ℕ → Outcome
+togetherOn row earlier line notes buffer =
     cond (eqb (sizeRefusal row (length line) (length notes) (length buffer)) 0)
-    (readWhole row line (length notes) (length buffer / 4))
+    (cond (badEarlier row earlier) (refusedWhole 5 notes buffer) (readWhole row earlier line (length notes) (length buffer / 4)))
     (refusedWhole (sizeRefusal row (length line) (length notes) (length buffer)) notes buffer)
 
-abbrev pub together : ℕ → List ℕ → List ℕ → List ℕ → Outcome
-together level line notes buffer = onLevel (levelOf level) (λ (row : Row). togetherOn row line notes buffer) (refusedWhole 1 notes buffer)
+abbrev pub together : ℕ → ℕ → List ℕ → List ℕ → List ℕ → Outcome
+together level earlier line notes buffer = onLevel (levelOf level) (λ (row : Row). togetherOn row earlier line notes buffer) (refusedWhole 1 notes buffer)
 
 -- the two calls in turn: the second is lent the notes as the first leaves them
 abbrev pub second : Noted → Counted → List ℕ → List ℕ → Outcome
@@ -73,22 +72,27 @@ second first answer notes buffer =
       buffer = buffer;
     }
 
+-- the first was accepted, and the second refused with this number
+abbrev pub refusedSecond : Noted → ℕ → List ℕ → List ℕ → Outcome
+refusedSecond first refusal notes buffer = second first (record { refusal = refusal; frame = 0; counts = zeros }) notes buffer
+
 -- "If the first refuses, the second is not called"
 abbrev pub firstOnly : Noted → List ℕ → List ℕ → Outcome
 firstOnly first notes buffer =
     record { refusal = first .refusal; frame = 0; counts = zeros; alignment = first .alignment; dissent = first .dissent; notes = notes; buffer = buffer }
 
-abbrev pub inTurn : ℕ → List ℕ → List ℕ → List ℕ → Outcome
-inTurn level line notes buffer =
+abbrev pub inTurn : ℕ → ℕ → List ℕ → List ℕ → List ℕ → Outcome
+inTurn level earlier line notes buffer =
     cond (eqb (noted level line (length notes) .refusal) 0)
-    (second (noted level line (length notes)) (answered level (length line) (notesAfter level line notes) (length buffer)) (notesAfter level line notes)
-    (bufferAfter level line (notesAfter level line notes) buffer))
+    (second (noted level line (length notes)) (answered level earlier (length line) (notesAfter level line notes) (length buffer)) (notesAfter level line notes)
+    (bufferAfter level earlier line (notesAfter level line notes) buffer))
     (firstOnly (noted level line (length notes)) (notesAfter level line notes) buffer)
 
--- "On every input that it accepted the two answer as it did; where only the buffer is at fault (4), the notes are by then written": and where it
--- refused with another number, so do they, and leave all as it was
-pub record Split (level : ℕ) (line notes buffer : List ℕ) : Type 0 where
-  pub same : together level line notes buffer .refusal ≢ 4 → inTurn level line notes buffer ≡ together level line notes buffer
-  pub room : together level line notes buffer .refusal ≡ 4 → inTurn level line notes buffer
-      ≡ second (noted level line (length notes)) (record { refusal = 4; frame = 0; counts = zeros }) (notesAfter level line notes) buffer
-  pub written : together level line notes buffer .refusal ≡ 4 → noted level line (length notes) .refusal ≡ 0
+-- "On every input that it accepted the two answer as it did; where only the buffer is at fault (4), the notes are by then written", and so where
+-- the earlier vote is (5): and where it refused with another number, so do they, and leave all as it was
+pub record Split (level earlier : ℕ) (line notes buffer : List ℕ) : Type 0 where
+  pub same : together level earlier line notes buffer .refusal < 4 → inTurn level earlier line notes buffer ≡ together level earlier line notes buffer
+  pub second-refused : 4 ≤ together level earlier line notes buffer .refusal
+      → inTurn level earlier line notes buffer
+      ≡ refusedSecond (noted level line (length notes)) (together level earlier line notes buffer .refusal) (notesAfter level line notes) buffer
+  pub written : 4 ≤ together level earlier line notes buffer .refusal → noted level line (length notes) .refusal ≡ 0

@@ -5,6 +5,7 @@ use native.Mathlib.Omega.{arith}
 use native.Mathlib.Nat.{add-mul, mul-left-comm, mul-le-mul-right}
 use Rattle.table.specs.declared.Row.{Row}
 use Rattle.levels.specs.Table.{Shared}
+use Rattle.levels.specs.Places.{notedOf}
 use Rattle.levels.proofs.Positions.{in-frame}
 
 module _ (row : Row) (sh : Shared row) where
@@ -30,9 +31,10 @@ module _ (row : Row) (sh : Shared row) where
         → (row .control ≤ 5) × (bytes ≤ 65536) × ((k : ℕ) → k < row .control → f * row .digits + (row .set + j) + k * row .set < 8 * bytes)
     group-asks j hj short = (omega (arith, sh .group, sh .few-sets), short, λ k hk. control-inside j k hj hk)
 
-    pub service-inside : (k : ℕ) → k ≤ row .nationals → f * row .digits + (row .alarm + k) < 8 * bytes
+    pub service-inside : (k : ℕ) → k < notedOf row → f * row .digits + (row .alarm + k) < 8 * bytes
     service-inside k h =
         omega (arith, in-line 0 (row .alarm + k) (omega (arith, sh .later-set)) (omega (arith, sh .national-next, sh .first-next, sh .room)))
 
     pub word-inside : f * row .digits + row .len ≤ 8 * bytes
-    word-inside = omega (arith, service-inside 0 (omega arith), sh .alarm-next)
+    word-inside =
+        omega (arith, in-line 0 (row .len) (omega (arith, sh .later-set)) (omega (arith, sh .alarm-next, sh .national-next, sh .first-next, sh .room)))

@@ -3,17 +3,18 @@
 use mathlib.Core.Path.{_≡_, refl, _∙_, ap}
 use mathlib.Core.Bool.{Bool, true, false}
 use mathlib.Core.List.{List, [], _∷_, _++_}
-use Prim.Native.Nat.{ℕ, zero, suc, _+_, _*_, _/_, _%_, _^_, _<_}
+use Prim.Native.Nat.{ℕ, zero, suc, _+_, _*_, _/_, _%_, _^_, _≤_, _<_}
 use native.Mathlib.Omega.{arith}
 use native.Mathlib.Nat.{zero-div, zero-add}
-use lib.Dec.{eqb, leb, lit<}
+use lib.Dec.{eqb, ltb, lit<}
 use lib.ListN.{getD, List·getD-append}
 use lib.Seq.{getD-append-add}
 use lib.Pow.{shr-shr}
-use borrow.Author.Tests.{lt-leb}
+use borrow.Author.Tests.{le-ltb}
 use Rattle.digits.specs.Digits.{Binary, tab}
 use Rattle.digits.proofs.Laws.{tab-at, tab-binary, binary-append}
 use Rattle.table.specs.declared.Row.{Row}
+use Rattle.levels.specs.Places.{notedOf}
 use Rattle.levels.specs.Order.{stuffed}
 use Rattle.levels.proofs.Choice.{cond-by}
 use Rattle.reading.specs.Notes.{bitOf, voteAt, serviceAt, noteOf}
@@ -44,7 +45,7 @@ module _ (row : Row) (ds : List ℕ) (bin : Binary ds) (f : ℕ) where
 
   service-binary : (k : ℕ) → service k < 2
   unfolding serviceAt
-  service-binary k = cond-by (λ (d : ℕ). d < 2) (leb k (row .nationals)) (bin (f * row .digits + (row .alarm + k))) (lit< tt)
+  service-binary k = cond-by (λ (d : ℕ). d < 2) (ltb k (notedOf row)) (bin (f * row .digits + (row .alarm + k))) (lit< tt)
 
   bits-binary : Binary bits
   bits-binary =
@@ -74,10 +75,14 @@ module _ (row : Row) (ds : List ℕ) (bin : Binary ds) (f : ℕ) where
   note-service k h =
       note-bit (4 + k) ∙ getD-append-add (tab 4 0 decision) (tab 4 0 service) k 0 ∙ tab-at 4 0 service k h ∙ ap service (zero-add k)
 
-  -- "level 4 only", "bits 6 and 7 zero at levels 2 and 3": where the level has one national digit, and so of any number of them
-  pub note-further : (k : ℕ) → k < 4 → row .nationals < k → noteOf row ds f / 2 ^ (4 + k) % 2 ≡ 0
+  -- "level 4 only", "bits 6 and 7 zero at levels 2 and 3", and at levels 12 and 14 "the rest zero": where a note of the level has two service
+  -- digits or none, and so of any number of them
+  pub note-further : (k : ℕ) → k < 4 → notedOf row ≤ k → noteOf row ds f / 2 ^ (4 + k) % 2 ≡ 0
   unfolding serviceAt
-  note-further k h few = note-service k h ∙ rw (lt-leb k (row .nationals) few)
+  note-further k h few = note-service k h ∙ rw (le-ltb k (notedOf row) few)
 
-  pub bits-six-and-seven : row .nationals ≡ 1 → (noteOf row ds f / 2 ^ 6 % 2 ≡ 0) × (noteOf row ds f / 2 ^ 7 % 2 ≡ 0)
-  bits-six-and-seven one = (note-further 2 (lit< tt) (omega arith), note-further 3 (lit< tt) (omega arith))
+  pub bits-six-and-seven : notedOf row ≤ 2 → (noteOf row ds f / 2 ^ 6 % 2 ≡ 0) × (noteOf row ds f / 2 ^ 7 % 2 ≡ 0)
+  bits-six-and-seven few = (note-further 2 (lit< tt) few, note-further 3 (lit< tt) (omega arith))
+
+  pub votes-alone : notedOf row ≡ 0 → (k : ℕ) → k < 4 → noteOf row ds f / 2 ^ (4 + k) % 2 ≡ 0
+  votes-alone none k h = note-further k h (omega arith)

@@ -4,12 +4,13 @@
 use mathlib.Core.Bool.{Bool, cond}
 use mathlib.Core.List.{List, [], _∷_}
 use Prim.Native.Nat.{ℕ, _+_, _*_}
-use lib.Dec.{leb}
+use lib.Dec.{ltb}
 use lib.ListN.{getD}
 use Rattle.digits.specs.Digits.{tab}
 use Rattle.digits.specs.Sums.{sumTo}
 use Rattle.table.specs.declared.Row.{Row}
 use Rattle.levels.specs.declared.vote.Vote.{Vote}
+use Rattle.levels.specs.Places.{notedOf}
 use Rattle.levels.specs.Vote.{voteOf, groupOf}
 use Rattle.levels.specs.Word.{wrongDigits}
 
@@ -17,9 +18,9 @@ use Rattle.levels.specs.Word.{wrongDigits}
 unfoldable pub voteAt : Row → List ℕ → ℕ → ℕ → Vote
 voteAt row ds f j = voteOf (groupOf ds (f * row .digits + (row .set + j)) (row .set) (row .control))
 
--- service digit k of frame f as it came, the remote alarm digit first, then the national digits; 0 where the level has not so many
+-- service digit k of frame f as it came, the remote alarm digit first, then the national digits; 0 where a note of the level has not so many
 unfoldable pub serviceAt : Row → List ℕ → ℕ → ℕ → ℕ
-serviceAt row ds f k = cond (leb k (row .nationals)) (getD ds (f * row .digits + (row .alarm + k)) 0) 0
+serviceAt row ds f k = cond (ltb k (notedOf row)) (getD ds (f * row .digits + (row .alarm + k)) 0) 0
 
 abbrev pub bitOf : Bool → ℕ
 bitOf t = cond t 1 0

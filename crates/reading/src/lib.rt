@@ -49,12 +49,12 @@ fn vote_at(row: Row, line: &[u8], f: usize, j: usize) -> Vote
     vote::group_vote(line, first, row.set, row.control)
 }
 
-// Service digit k of frame f: the remote alarm digit first, then the national digits; 0 where the level has not so many.
+// Service digit k of frame f: the remote alarm digit first, then the national digits; 0 where a note of the level has not so many.
 fn service_at(row: Row, line: &[u8], f: usize, k: usize) -> u8
     requires { ⌜ Shared row × (length (now line) ≤ 65536) × ((f + 1) * row .bytes ≤ length (now line)) ⌝ }
     ensures { λ r. ⌜ (r ≡ serviceAt row (digitsOf (now (line .entry))) f k) × (r < 2) ⌝ }
 {
-    if k <= row.nationals {
+    if k < row.alarms + row.nationals {
         let p = FramePlace(f * row.digits + (row.alarm + k));
         return lent::line_digit(line, p);
     }

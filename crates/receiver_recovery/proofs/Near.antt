@@ -1,7 +1,8 @@
--- How near the sharper bound is: 7 N + L - 2 digits, that is 5,944, 10,760 and 20,506. Here are, at each level, a valid state and a line with which it takes
--- 7 N + 3 = 5,939 and 10,755, and 7 N + 4 = 20,500. The window ends with the word's first digits, up to the 1 behind its first 0; the line begins with all but
--- one of the zeros that end the word, and then a 0 that is no word's; and a check is due there. Window and line together make a false word at that very
--- check, one digit after a true one. So four frames pass until it is lost, the next true word comes N - 1 digits after that, and two frames more.
+-- How near the sharper bound is: 7 N + L - 2 digits, that is 5,944, 10,760, 20,506, at level 12 7,398 and at level 14 15,240. Here are, at each level, a valid
+-- state and a line with which it takes 7 N + 3 = 5,939, 10,755 and 15,235, 7 N + 4 = 20,500, and 7 N = 7,392. The window ends with the word's first digits, up
+-- to its last 1; the line begins with all but one of the zeros that end the word, and then a 0 that is no word's; and a check is due there. Window and line
+-- together make a false word at that very check, one digit after a true one. So four frames pass until it is lost, the next true word comes N - 1 digits after
+-- that, and two frames more.
 use mathlib.Core.Path.{_≡_, refl, sym}
 use mathlib.Core.Bool.{true≢false}
 use Prim.Native.Nat.{ℕ, _+_, _^_, _<_}
@@ -10,7 +11,7 @@ use lib.ListN.{replicate}
 use Rattle.digits.specs.Digits.{written, tab}
 use Rattle.digits.specs.Runs as runs
 use Rattle.table.specs.declared.Row.{Row}
-use Rattle.table.specs.Table.{row2, row3, row4}
+use Rattle.table.specs.Table.{row2, row3, row4, row12, row14}
 use Rattle.receiver.specs.declared.Mode.the-variants.{TwoFound, Aligned}
 use Rattle.receiver.specs.declared.State.{State}
 use Rattle.receiver.specs.Alarm.{freshStretch}
@@ -42,3 +43,11 @@ near-at-34368 = (late-valid row3 3 0b111101 1532 (omega arith) (omega arith), re
 pub near-at-139264 : Takes row4 (late 4 0b1111101 12 2923) 8 20499
 unfolding runs.heard afterOf stepOf afterDigit windowOf seenOf good asks placeAfter written tab
 near-at-139264 = (late-valid row4 4 0b1111101 2923 (omega arith) (omega arith), refl, refl)
+
+pub near-at-level-12 : Takes row12 (late 12 0b1110011 8 1055) 8 7391
+unfolding runs.heard afterOf stepOf afterDigit windowOf seenOf good asks placeAfter written tab
+near-at-level-12 = (late-valid row12 12 0b1110011 1055 (omega arith) (omega arith), refl, refl)
+
+pub near-at-level-14 : Takes row14 (late 14 0b111101 10 2172) 7 15234
+unfolding runs.heard afterOf stepOf afterDigit windowOf seenOf good asks placeAfter written tab
+near-at-level-14 = (late-valid row14 14 0b111101 2172 (omega arith) (omega arith), refl, refl)

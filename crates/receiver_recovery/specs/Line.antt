@@ -1,10 +1,15 @@
 -- A line of correct frames, begun anywhere, and what it is to be aligned with it. Document 02, request 8.
 use mathlib.Core.Path.{_≡_}
+use mathlib.Core.Bool.{Bool, cond, true, false}
 use mathlib.Core.List.{List}
 use Prim.Native.Nat.{ℕ, _+_, _-_, _%_, _≤_}
 use lib.ListN.{length, getD, take, drop}
 use Rattle.digits.specs.Digits.{Binary, written, tab}
 use Rattle.table.specs.declared.Row.{Row}
+use Rattle.levels.specs.declared.places.Kind.{Kind}
+use Rattle.levels.specs.declared.places.Kind.the-variants.{Word, Service, Control, Justification, Tributary}
+use Rattle.levels.specs.declared.places.ServiceDigit.the-variants.{RemoteAlarm, FirstNational, SecondNational, ThirdNational, Fixed}
+use Rattle.levels.specs.Places.{kindAt}
 use Rattle.receiver.specs.declared.Mode.the-variants.{Aligned}
 use Rattle.receiver.specs.declared.State.{State}
 use Rattle.receiver_promises.specs.Line.{inFrame, Framed}
@@ -34,9 +39,31 @@ pub record AlignedAfter (row : Row) (o k : ℕ) (s : State) : Type 0 where
   pub mode : s .mode ≡ Aligned 0
   pub place : s .place ≡ truePlace row o k
 
--- such a line, n digits of it: the words, and 0 at every other place (proofs/ZeroLines.antt). Multiplexing makes it of zeros (proofs/Multiplexed.antt)
+-- n digits of a line whose frames have these digits at their places, begun at place o
+abbrev pub framesOf : Row → (ℕ → ℕ) → ℕ → ℕ → List ℕ
+framesOf row digit o n = tab n 0 (λ i. digit (inFrame row o i))
+
+-- such a line: the words, and 0 at every other place (proofs/ZeroLines.antt)
 abbrev pub zeroDigit : Row → ℕ → ℕ
 zeroDigit row place = getD (wordOf row) place 0
 
 abbrev pub zeroLine : Row → ℕ → ℕ → List ℕ
-zeroLine row o n = tab n 0 (λ i. zeroDigit row (inFrame row o i))
+zeroLine row o n = framesOf row (zeroDigit row) o n
+
+-- and another, which multiplexing makes of zeros (proofs/Multiplexed.antt): the words, 1 at the service places that no note has, and 0 at every other place
+abbrev pub isFixed : Kind → Bool
+isFixed Word = false
+isFixed (Service RemoteAlarm) = false
+isFixed (Service FirstNational) = false
+isFixed (Service SecondNational) = false
+isFixed (Service ThirdNational) = false
+isFixed (Service Fixed) = true
+isFixed Control = false
+isFixed (Justification sign) = false
+isFixed Tributary = false
+
+abbrev pub idleDigit : Row → ℕ → ℕ
+idleDigit row place = cond (isFixed (kindAt row place)) 1 (zeroDigit row place)
+
+abbrev pub idleLine : Row → ℕ → ℕ → List ℕ
+idleLine row o n = framesOf row (idleDigit row) o n

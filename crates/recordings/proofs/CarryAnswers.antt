@@ -8,6 +8,7 @@ use mathlib.Core.Path.{_≡_, sym, _∙_, ap, ap₂}
 use mathlib.Core.List.{List}
 use Prim.Native.Nat.{ℕ}
 use lib.ListN.{getD}
+use Rattle.table.specs.declared.Row.{Row}
 use Rattle.recordings.specs.declared.carry.Kept.{Kept}
 use Rattle.recordings.specs.declared.carry.Joined.{Joined}
 use Rattle.recordings.specs.Carry.{CopyMet, FollowMet, JoinMet, StuffedFramesMet}
@@ -54,10 +55,10 @@ pub join-met : (κs : Lfts 2) (a : ArgsD join.signature κs) (r : ResD join.sign
     → JoinMet (now (a .0)) (a .1 .0) (now (a .1 .1 .0)) (a .1 .1 .1 .0) (a .1 .1 .1 .1 .0) r (now (e .0))
 join-met κs a r e met = met
 
-pub stuffed-frames-once : (notes : List ℕ) (j a b : ℕ) → StuffedFramesMet notes j a → StuffedFramesMet notes j b → a ≡ b
-stuffed-frames-once notes j a b x y = x .0 ∙ sym (y .0)
+pub stuffed-frames-once : (row : Row) (earlier : ℕ) (notes : List ℕ) (j a b : ℕ) → StuffedFramesMet row earlier notes j a → StuffedFramesMet row earlier notes j b → a ≡ b
+stuffed-frames-once row earlier notes j a b x y = x .0 ∙ sym (y .0)
 
 pub stuffed-frames-met : (κs : Lfts 1) (a : ArgsD stuffed_frames.signature κs) (r : ResD stuffed_frames.signature κs) (e : AtExit stuffed_frames.ended κs)
     → stuffed_frames.Reads.Learnt κs a r e
-    → StuffedFramesMet (now (a .0)) (a .1 .0) r
+    → StuffedFramesMet (a .0) (a .1 .0) (now (a .1 .1 .0)) (a .1 .1 .1 .0) r
 stuffed-frames-met κs a r e met = met

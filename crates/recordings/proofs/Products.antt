@@ -13,5 +13,5 @@ module _ (row : Row) (sh : Shared row) where
   pub frame-at-most : (f : ℕ) → f * row .bytes ≤ 366 * f
   frame-at-most f = at-most 366 f (row .bytes) (omega (arith, sh .packed, sh .short))
 
-  pub digits-at-most : (f : ℕ) → f * row .n ≤ 733 * f
-  digits-at-most f = at-most 733 f (row .n) (omega (arith, sh .counted, sh .short))
+  pub digits-at-most : (f : ℕ) → f * row .room ≤ 733 * f
+  digits-at-most f = at-most 733 f (row .room) (omega (arith, sh .counted, sh .most, sh .short))

@@ -7,7 +7,8 @@ use Prim.Native.Nat.{ℕ, _+_, _-_, _*_, _/_, _%_, _≤_}
 use lib.Dec.{ltb, leb}
 use lib.ListN.{length, getD, take, drop}
 use Rattle.digits.specs.Digits.{eight, digitsOf, bytesOf, tab}
-use Rattle.levels.specs.Order.{decisions, stuffedTo}
+use Rattle.table.specs.declared.Row.{Row}
+use Rattle.levels.specs.Order.{actions, stuffedTo}
 use Rattle.recordings.specs.declared.carry.Kept.{Kept}
 use Rattle.recordings.specs.declared.carry.Joined.{Joined}
 
@@ -49,6 +50,6 @@ JoinMet out kept from first count answer left =
     × (answer .kept .digits ≡ (kept .digits + count) % 8)
     × (answer .kept .byte ≡ getD left (answer .whole) 0)
 
--- in how many of these frames tributary j (from 0) is stuffed: in no more than there are
-abbrev pub StuffedFramesMet : List ℕ → ℕ → ℕ → Type 0
-StuffedFramesMet notes j answer = (answer ≡ stuffedTo (decisions notes j) (length notes)) × (answer ≤ length notes)
+-- in how many of these frames tributary j (from 0) is stuffed, by their notes and the vote before them: in no more than there are
+abbrev pub StuffedFramesMet : Row → ℕ → List ℕ → ℕ → ℕ → Type 0
+StuffedFramesMet row earlier notes j answer = (answer ≡ stuffedTo (actions row earlier notes j) (length notes)) × (answer ≤ length notes)

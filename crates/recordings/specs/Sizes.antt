@@ -22,11 +22,11 @@ FrameBytesMet row frames answer = (answer ≡ frames * row .bytes) × (answer �
 
 -- the digits that so many frames can take of a tributary; at most 733 a frame
 abbrev pub TributaryDigitsMet : Row → ℕ → ℕ → Type 0
-TributaryDigitsMet row frames answer = (answer ≡ frames * row .n) × (answer ≤ 733 * frames)
+TributaryDigitsMet row frames answer = (answer ≡ frames * row .room) × (answer ≤ 733 * frames)
 
 -- the bytes of a quarter with room for these digits
 abbrev pub QuarterBytesMet : Row → ℕ → ℕ → Type 0
-QuarterBytesMet row frames answer = (answer ≡ (frames * row .n + 7) / 8) × (answer ≤ 92 * frames + 1)
+QuarterBytesMet row frames answer = (answer ≡ (frames * row .room + 7) / 8) × (answer ≤ 92 * frames + 1)
 
 -- where quarter j (from 0) begins, if quarters are so long
 abbrev pub QuarterStartMet : ℕ → ℕ → ℕ → Type 0
@@ -34,7 +34,7 @@ QuarterStartMet quarter j answer = (answer ≡ quarter * j) × (answer ≤ 4 * q
 
 -- of the digits from digit `done` on, f frames' worth: the bytes in which they stand, as far as the quarter has them
 abbrev pub BytesWantedMet : Row → ℕ → ℕ → ℕ → ℕ → Type 0
-BytesWantedMet row f quarter done answer = (answer ≡ min ((done % 8 + f * row .n + 7) / 8) (quarter - done / 8)) × (answer ≤ 8192)
+BytesWantedMet row f quarter done answer = (answer ≡ min ((done % 8 + f * row .room + 7) / 8) (quarter - done / 8)) × (answer ≤ 8192)
 
 -- the sum, or the largest number where it is larger still
 abbrev pub PlusMet : ℕ → ℕ → ℕ → Type 0

@@ -3,10 +3,13 @@
 use crate::sizes::least;
 use digits::digit_or_zero;
 use levels::order;
+use levels::order::Action;
+use table::Row;
 ghost use mathlib.Core.Path.{_≡_};
 ghost use mathlib.Core.Bool.{cond};
 ghost use Prim.Native.Nat.{_<_, _≤_};
 ghost use lib.ListN.{length, getD};
+ghost use Rattle.levels.specs.Order.{actions, isStuffed};
 ghost use Rattle.recordings.specs.Carry.{CopyMet, FollowMet, JoinMet, StuffedFramesMet};
 
 // The digits of a tributary that do not fill a byte yet: the first so many of the byte, and zeros after them.
@@ -79,15 +82,34 @@ pub fn join(out: &mut [u8], kept: Kept, from: &[u8], first: usize, count: usize)
     }
 }
 
+fn is_stuffed(act: Action) -> bool
+    ensures { λ r. ⌜ r ≡ isStuffed act ⌝ }
+{
+    match act {
+        Action::Stuffed => true,
+        Action::PositiveCarries => false,
+        Action::BothCarry => false,
+    }
+}
+
+// Whether tributary j (from 0) is stuffed in frame f, by the notes and the vote before them.
+fn stuffed_in(row: Row, earlier: u64, notes: &[u8], j: usize, f: usize) -> bool
+    requires { ⌜ (j < 4) × (f < length (now notes)) ⌝ }
+    ensures { λ r. ⌜ r ≡ isStuffed (actions row earlier (now (notes .entry)) j f) ⌝ }
+{
+    let preceding = order::preceding_of(earlier, notes, f);
+    is_stuffed(order::action_of(row, preceding, notes[f], j))
+}
+
 // In how many of these frames tributary j (from 0) is stuffed.
-pub fn stuffed_frames(notes: &[u8], j: usize) -> usize
+pub fn stuffed_frames(row: Row, earlier: u64, notes: &[u8], j: usize) -> usize
     requires { ⌜ j < 4 ⌝ }
-    ensures { λ r. ⌜ StuffedFramesMet (now (notes .entry)) j r ⌝ }
+    ensures { λ r. ⌜ StuffedFramesMet row earlier (now (notes .entry)) j r ⌝ }
 {
     let mut stuffed: usize = 0;
     let mut f: usize = 0;
     while f < notes.len() {
-        stuffed += digits::digit_of(order::is_stuffed(notes[f], j)) as usize;
+        stuffed += digits::digit_of(stuffed_in(row, earlier, notes, j, f)) as usize;
         f += 1;
     }
     stuffed

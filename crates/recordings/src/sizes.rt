@@ -40,7 +40,7 @@ pub fn tributary_digits(row: Row, frames: usize) -> usize
     requires { ⌜ Shared row × (frames ≤ longest) ⌝ }
     ensures { λ r. ⌜ TributaryDigitsMet row frames r ⌝ }
 {
-    frames * row.n
+    frames * row.room
 }
 
 // How many bytes a quarter with room for so many frames has.

@@ -33,17 +33,17 @@ use Rattle.spritbobbin.proofs.spritbobbin_multiframe_apart.Reads as mul
 
 -- ---- no second answer
 
-pub multiplex-one-answer : (level : ℕ) (line notes buffer : List ℕ) (r s : ℕ) (l m a b : List ℕ)
-    → MultiplexMet level line notes buffer r l a → MultiplexMet level line notes buffer s m b → (r ≡ s) × (l ≡ m) × (a ≡ b)
-multiplex-one-answer level line notes buffer r s l m a b x y = (cc, cc, cc)
+pub multiplex-one-answer : (level earlier : ℕ) (line notes buffer : List ℕ) (r s : ℕ) (l m a b : List ℕ)
+    → MultiplexMet level earlier line notes buffer r l a → MultiplexMet level earlier line notes buffer s m b → (r ≡ s) × (l ≡ m) × (a ≡ b)
+multiplex-one-answer level earlier line notes buffer r s l m a b x y = (cc, cc, cc)
 
 pub read-notes-one-answer : (level : ℕ) (line notes : List ℕ) (r s : ℕ) (n m a b : List ℕ)
     → ReadNotesMet level line notes r n a → ReadNotesMet level line notes s m b → (r ≡ s) × (n ≡ m) × (a ≡ b)
 read-notes-one-answer level line notes r s n m a b x y = (cc, cc, cc)
 
-pub extract-one-answer : (level : ℕ) (line notes buffer : List ℕ) (r s : ℕ) (c d a b : List ℕ)
-    → ExtractMet level line notes buffer r c a → ExtractMet level line notes buffer s d b → (r ≡ s) × (c ≡ d) × (a ≡ b)
-extract-one-answer level line notes buffer r s c d a b x y = (cc, cc, cc)
+pub extract-one-answer : (level earlier : ℕ) (line notes buffer : List ℕ) (r s : ℕ) (c d a b : List ℕ)
+    → ExtractMet level earlier line notes buffer r c a → ExtractMet level earlier line notes buffer s d b → (r ≡ s) × (c ≡ d) × (a ≡ b)
+extract-one-answer level earlier line notes buffer r s c d a b x y = (cc, cc, cc)
 
 pub fresh-one-answer : (level r s : ℕ) (t u f g : List ℕ) → FreshMet level r t f → FreshMet level s u g → (r ≡ s) × (t ≡ u) × (f ≡ g)
 fresh-one-answer level r s t u f g x y = (cc, cc, cc)
@@ -76,7 +76,7 @@ multiframe-apart-one-answer multiframe channels signalling spare r r′ c s x c�
 
 pub multiplex-met : (κs : Lfts 4) (a : ArgsD multiplex.signature κs) (r : ResD multiplex.signature κs) (e : AtExit multiplex.ended κs)
     → multiplex-reads.Learnt κs a r e
-    → MultiplexMet (a .0) (now (a .1 .0)) (now (a .1 .1 .0)) (now (a .1 .1 .1 .0)) r (now (e .1 .0)) (now (e .1 .1 .1 .1 .0))
+    → MultiplexMet (a .0) (a .1 .0) (now (a .1 .1 .0)) (now (a .1 .1 .1 .0)) (now (a .1 .1 .1 .1 .0)) r (now (e .1 .1 .0)) (now (e .1 .1 .1 .1 .1 .0))
 multiplex-met κs a r e met = met
 
 pub read-notes-met : (κs : Lfts 3) (a : ArgsD read-notes.signature κs) (r : ResD read-notes.signature κs) (e : AtExit read-notes.ended κs)
@@ -85,7 +85,7 @@ read-notes-met κs a r e met = met
 
 pub extract-met : (κs : Lfts 4) (a : ArgsD extract.signature κs) (r : ResD extract.signature κs) (e : AtExit extract.ended κs)
     → extract-reads.Learnt κs a r e
-    → ExtractMet (a .0) (now (a .1 .0)) (now (a .1 .1 .0)) (now (a .1 .1 .1 .0)) r (now (e .1 .1 .1 .0)) (now (e .1 .1 .1 .1 .0))
+    → ExtractMet (a .0) (a .1 .0) (now (a .1 .1 .0)) (now (a .1 .1 .1 .0)) (now (a .1 .1 .1 .1 .0)) r (now (e .1 .1 .1 .1 .0)) (now (e .1 .1 .1 .1 .1 .0))
 extract-met κs a r e met = met
 
 pub fresh-met : (κs : Lfts 2) (a : ArgsD fresh.signature κs) (r : ResD fresh.signature κs) (e : AtExit fresh.ended κs) → fresh-reads.Learnt κs a r e

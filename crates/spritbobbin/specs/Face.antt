@@ -86,10 +86,10 @@ builtAnswer b = b .channel ∷ []
 -- ---- the whole statement of each call: what it is given, the number that it returns, and what it leaves in everything lent for writing
 
 -- spritbobbin_multiplex returns the refusal number, and leaves the line and the answer
-abbrev pub MultiplexMet : ℕ → List ℕ → List ℕ → List ℕ → ℕ → List ℕ → List ℕ → Type 0
-MultiplexMet level line notes buffer returned lineLeft answerLeft =
-    let m = answered level (length line) notes (length buffer) in
-    (returned ≡ m .refusal) × (lineLeft ≡ lineAfter level line notes buffer) × (answerLeft ≡ countedAnswer m)
+abbrev pub MultiplexMet : ℕ → ℕ → List ℕ → List ℕ → List ℕ → ℕ → List ℕ → List ℕ → Type 0
+MultiplexMet level earlier line notes buffer returned lineLeft answerLeft =
+    let m = answered level earlier (length line) notes (length buffer) in
+    (returned ≡ m .refusal) × (lineLeft ≡ lineAfter level earlier line notes buffer) × (answerLeft ≡ countedAnswer m)
 
 -- spritbobbin_read_notes returns the refusal number, and leaves the notes and the answer
 abbrev pub ReadNotesMet : ℕ → List ℕ → List ℕ → ℕ → List ℕ → List ℕ → Type 0
@@ -98,10 +98,10 @@ ReadNotesMet level line notes returned notesLeft answerLeft =
     (returned ≡ n .refusal) × (notesLeft ≡ notesAfter level line notes) × (answerLeft ≡ notedAnswer n)
 
 -- spritbobbin_extract returns the refusal number, and leaves the buffer and the answer
-abbrev pub ExtractMet : ℕ → List ℕ → List ℕ → List ℕ → ℕ → List ℕ → List ℕ → Type 0
-ExtractMet level line notes buffer returned bufferLeft answerLeft =
-    let m = answered level (length line) notes (length buffer) in
-    (returned ≡ m .refusal) × (bufferLeft ≡ bufferAfter level line notes buffer) × (answerLeft ≡ countedAnswer m)
+abbrev pub ExtractMet : ℕ → ℕ → List ℕ → List ℕ → List ℕ → ℕ → List ℕ → List ℕ → Type 0
+ExtractMet level earlier line notes buffer returned bufferLeft answerLeft =
+    let m = answered level earlier (length line) notes (length buffer) in
+    (returned ≡ m .refusal) × (bufferLeft ≡ bufferAfter level earlier line notes buffer) × (answerLeft ≡ countedAnswer m)
 
 -- spritbobbin_receiver_fresh returns the refusal number, and leaves the state's numbers and its frame
 abbrev pub FreshMet : ℕ → ℕ → List ℕ → List ℕ → Type 0

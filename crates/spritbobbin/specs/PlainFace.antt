@@ -16,10 +16,10 @@ abbrev pub notesReadAnswer : NotesRead → List ℕ
 notesReadAnswer n = n .alignment ∷ getD (n .dissent) 0 0 ∷ getD (n .dissent) 1 0 ∷ getD (n .dissent) 2 0 ∷ getD (n .dissent) 3 0 ∷ []
 
 -- spritbobbin_plain_multiplex returns the refusal number, and leaves the line and the answer
-abbrev pub PlainMultiplexMet : ℕ → List ℕ → List ℕ → List ℕ → ℕ → List ℕ → List ℕ → Type 0
-PlainMultiplexMet level line notes buffer returned lineLeft answerLeft =
-    let a = multiplexed level line notes buffer in
-    (returned ≡ a .refusal) × (lineLeft ≡ lineAfter level line notes buffer) × (answerLeft ≡ answeredAnswer a)
+abbrev pub PlainMultiplexMet : ℕ → ℕ → List ℕ → List ℕ → List ℕ → ℕ → List ℕ → List ℕ → Type 0
+PlainMultiplexMet level earlier line notes buffer returned lineLeft answerLeft =
+    let a = multiplexed level earlier line notes buffer in
+    (returned ≡ a .refusal) × (lineLeft ≡ lineAfter level earlier line notes buffer) × (answerLeft ≡ answeredAnswer a)
 
 -- spritbobbin_plain_read_notes returns the refusal number, and leaves the notes and the answer
 abbrev pub PlainReadNotesMet : ℕ → List ℕ → List ℕ → ℕ → List ℕ → List ℕ → Type 0
@@ -28,7 +28,7 @@ PlainReadNotesMet level line notes returned notesLeft answerLeft =
     (returned ≡ n .refusal) × (notesLeft ≡ notesAfter level line notes) × (answerLeft ≡ notesReadAnswer n)
 
 -- spritbobbin_plain_extract returns the refusal number, and leaves the buffer and the answer
-abbrev pub PlainExtractMet : ℕ → List ℕ → List ℕ → List ℕ → ℕ → List ℕ → List ℕ → Type 0
-PlainExtractMet level line notes buffer returned bufferLeft answerLeft =
-    let a = extracted level line notes buffer in
-    (returned ≡ a .refusal) × (bufferLeft ≡ bufferAfter level line notes buffer) × (answerLeft ≡ answeredAnswer a)
+abbrev pub PlainExtractMet : ℕ → ℕ → List ℕ → List ℕ → List ℕ → ℕ → List ℕ → List ℕ → Type 0
+PlainExtractMet level earlier line notes buffer returned bufferLeft answerLeft =
+    let a = extracted level earlier line notes buffer in
+    (returned ≡ a .refusal) × (bufferLeft ≡ bufferAfter level earlier line notes buffer) × (answerLeft ≡ answeredAnswer a)

@@ -33,18 +33,19 @@ fn counted_numbers(m: Counted) -> [u64; 5]
     ]
 }
 
-// Multiplexes; answer: four digit counts, named frame. Returns the refusal number.
+// Multiplexes after an earlier vote; answer: four digit counts, named frame. Returns the refusal number.
 #[no_mangle]
 pub extern "C" fn spritbobbin_multiplex(
     level: u64,
+    earlier: u64,
     line: &mut [u8],
     notes: &[u8],
     buffer: &[u8],
     answer: &mut [u64; 5],
 ) -> u64
-    ensures { λ r. ⌜ MultiplexMet level (now (line .entry)) (now (notes .entry)) (now (buffer .entry)) r (now (line .exit)) (now (answer .exit)) ⌝ }
+    ensures { λ r. ⌜ MultiplexMet level earlier (now (line .entry)) (now (notes .entry)) (now (buffer .entry)) r (now (line .exit)) (now (answer .exit)) ⌝ }
 {
-    let sent = multiplex::multiplex(level, line, notes, buffer);
+    let sent = multiplex::multiplex(level, earlier, line, notes, buffer);
     *answer = counted_numbers(sent);
     sent.refusal
 }
@@ -77,18 +78,19 @@ pub extern "C" fn spritbobbin_read_notes(
     read.refusal
 }
 
-// Extracts by notes; answer: four digit counts, named frame.
+// Extracts by notes and the vote before them; answer: four digit counts, named frame.
 #[no_mangle]
 pub extern "C" fn spritbobbin_extract(
     level: u64,
+    earlier: u64,
     line: &[u8],
     notes: &[u8],
     buffer: &mut [u8],
     answer: &mut [u64; 5],
 ) -> u64
-    ensures { λ r. ⌜ ExtractMet level (now (line .entry)) (now (notes .entry)) (now (buffer .entry)) r (now (buffer .exit)) (now (answer .exit)) ⌝ }
+    ensures { λ r. ⌜ ExtractMet level earlier (now (line .entry)) (now (notes .entry)) (now (buffer .entry)) r (now (buffer .exit)) (now (answer .exit)) ⌝ }
 {
-    let taken = extraction::extract(level, line, notes, buffer);
+    let taken = extraction::extract(level, earlier, line, notes, buffer);
     *answer = counted_numbers(taken);
     taken.refusal
 }

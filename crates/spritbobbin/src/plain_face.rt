@@ -34,14 +34,15 @@ fn notes_read_numbers(n: NotesRead) -> [u64; 5]
 #[no_mangle]
 pub extern "C" fn spritbobbin_plain_multiplex(
     level: u64,
+    earlier: u64,
     line: &mut [u8],
     notes: &[u8],
     buffer: &[u8],
     answer: &mut [u64; 5],
 ) -> u64
-    ensures { λ r. ⌜ PlainMultiplexMet level (now (line .entry)) (now (notes .entry)) (now (buffer .entry)) r (now (line .exit)) (now (answer .exit)) ⌝ }
+    ensures { λ r. ⌜ PlainMultiplexMet level earlier (now (line .entry)) (now (notes .entry)) (now (buffer .entry)) r (now (line .exit)) (now (answer .exit)) ⌝ }
 {
-    let sent = plain::multiplex(level, line, notes, buffer);
+    let sent = plain::multiplex(level, earlier, line, notes, buffer);
     *answer = answered_numbers(sent);
     sent.refusal
 }
@@ -65,14 +66,15 @@ pub extern "C" fn spritbobbin_plain_read_notes(
 #[no_mangle]
 pub extern "C" fn spritbobbin_plain_extract(
     level: u64,
+    earlier: u64,
     line: &[u8],
     notes: &[u8],
     buffer: &mut [u8],
     answer: &mut [u64; 5],
 ) -> u64
-    ensures { λ r. ⌜ PlainExtractMet level (now (line .entry)) (now (notes .entry)) (now (buffer .entry)) r (now (buffer .exit)) (now (answer .exit)) ⌝ }
+    ensures { λ r. ⌜ PlainExtractMet level earlier (now (line .entry)) (now (notes .entry)) (now (buffer .entry)) r (now (buffer .exit)) (now (answer .exit)) ⌝ }
 {
-    let taken = plain::extract(level, line, notes, buffer);
+    let taken = plain::extract(level, earlier, line, notes, buffer);
     *answer = answered_numbers(taken);
     taken.refusal
 }

@@ -282,7 +282,7 @@ pub fn case_11(size: u64) {
 fn send_zeros(line: &mut [u8; 106]) {
     let notes = [0u8; 1];
     let buffer = [0u8; 104];
-    multiplex::multiplex(2, line, &notes, &buffer);
+    multiplex::multiplex(2, 0, line, &notes, &buffer);
 }
 
 fn repeat(line: &mut [u8; 424], one: &[u8; 106]) {

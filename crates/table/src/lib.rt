@@ -1,4 +1,4 @@
-// The level table of document 01, a row to a level, and the one function that finds a level's row.
+// The level table of document 01 and of document 02, request 10, a row to a level, and the one function that finds a level's row.
 // specs/Table.antt has the same table for a reader; that the two are equal is what `level_of` ensures.
 ghost use mathlib.Core.Path.{_≡_};
 ghost use Rattle.table.specs.Table.{levelOf};
@@ -14,8 +14,9 @@ pub struct Row {
     // alignment word, its L digits
     pub word: u16,
     pub len: usize,
-    // remote alarm place
+    // remote alarm place, how many: one or none
     pub alarm: usize,
+    pub alarms: usize,
     // first national place, how many
     pub national: usize,
     pub nationals: usize,
@@ -25,9 +26,9 @@ pub struct Row {
     pub last: usize,
     // control digits in a group
     pub control: usize,
-    // digits per tributary n, none stuffed
+    // digits per tributary n, none stuffed and no negative place used
     pub n: usize,
-    // room per tributary, in digits
+    // room per tributary, in digits: one more than n where the level has negative places
     pub room: usize,
     // zeros that are few in N digits: alarm indication
     pub limit: usize,
@@ -38,8 +39,10 @@ pub enum Level {
     NoSuchLevel,
 }
 
-// The head of the first set: the last digit of the word and the service places, where the word has ten digits and
-// where it has twelve. The table and the patterns of levels/src/places.rt both read these.
+// The head of the first set: the last digit of the word and the service places, where the word has eight digits, ten and
+// twelve. The table and the patterns of levels/src/places.rt both read these.
+pub const EIGHT_END: usize = 7;
+
 pub const TEN_END: usize = 9;
 
 pub const TEN_ALARM: usize = 10;
@@ -56,14 +59,19 @@ pub const TWELVE_SECOND: usize = 14;
 
 pub const TWELVE_THIRD: usize = 15;
 
-// The head of a later set: the control digits, and in the last set the justification digits after them.
+// The head of a later set: the control digits, then four places and in the last set of some levels four more. The second four are service
+// places in a set between, negative places in the last set where eight follow the control digits, positive places where four do.
 pub const CONTROL_END: usize = 3;
 
-pub const JUSTIFICATION: usize = 4;
+pub const SECOND: usize = 4;
 
-pub const JUSTIFICATION_END: usize = 7;
+pub const SECOND_END: usize = 7;
 
-const TABLE: [Row; 3] = [
+pub const THIRD: usize = 8;
+
+pub const THIRD_END: usize = 11;
+
+const TABLE: [Row; 5] = [
     Row {
         digits: 848,
         bytes: 106,
@@ -72,11 +80,12 @@ const TABLE: [Row; 3] = [
         word: 0b1111010000,
         len: TEN_END + 1,
         alarm: TEN_ALARM,
+        alarms: 1,
         national: TEN_NATIONAL,
         nationals: 1,
         first: TEN_NATIONAL + 1,
         middle: CONTROL_END + 1,
-        last: JUSTIFICATION_END + 1,
+        last: SECOND_END + 1,
         control: 3,
         n: 206,
         room: 206,
@@ -90,11 +99,12 @@ const TABLE: [Row; 3] = [
         word: 0b1111010000,
         len: TEN_END + 1,
         alarm: TEN_ALARM,
+        alarms: 1,
         national: TEN_NATIONAL,
         nationals: 1,
         first: TEN_NATIONAL + 1,
         middle: CONTROL_END + 1,
-        last: JUSTIFICATION_END + 1,
+        last: SECOND_END + 1,
         control: 3,
         n: 378,
         room: 378,
@@ -108,15 +118,54 @@ const TABLE: [Row; 3] = [
         word: 0b111110100000,
         len: TWELVE_END + 1,
         alarm: TWELVE_ALARM,
+        alarms: 1,
         national: TWELVE_NATIONAL,
         nationals: 3,
         first: TWELVE_THIRD + 1,
         middle: CONTROL_END + 1,
-        last: JUSTIFICATION_END + 1,
+        last: SECOND_END + 1,
         control: 5,
         n: 723,
         room: 723,
         limit: 5,
+    },
+    Row {
+        digits: 1056,
+        bytes: 132,
+        sets: 4,
+        set: 264,
+        word: 0b11100110,
+        len: EIGHT_END + 1,
+        alarm: EIGHT_END + 1,
+        alarms: 0,
+        national: EIGHT_END + 1,
+        nationals: 0,
+        first: EIGHT_END + 1,
+        middle: SECOND_END + 1,
+        last: THIRD_END + 1,
+        control: 3,
+        n: 256,
+        room: 257,
+        limit: 2,
+    },
+    Row {
+        digits: 2176,
+        bytes: 272,
+        sets: 4,
+        set: 544,
+        word: 0b1111010000,
+        len: TEN_END + 1,
+        alarm: TEN_ALARM,
+        alarms: 0,
+        national: TEN_ALARM,
+        nationals: 0,
+        first: TEN_NATIONAL + 1,
+        middle: CONTROL_END + 1,
+        last: THIRD_END + 1,
+        control: 3,
+        n: 537,
+        room: 538,
+        limit: 4,
     },
 ];
 
@@ -128,6 +177,8 @@ pub fn level_of(level: u64) -> Level
         2 => Level::Of(TABLE[0]),
         3 => Level::Of(TABLE[1]),
         4 => Level::Of(TABLE[2]),
+        12 => Level::Of(TABLE[3]),
+        14 => Level::Of(TABLE[4]),
         _ => Level::NoSuchLevel,
     }
 }

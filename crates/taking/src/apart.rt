@@ -11,32 +11,29 @@ use reading::Noted;
 use recordings::carry;
 use recordings::carry::Kept;
 use recordings::sizes;
+use table::Row;
 ghost use Prim.Native.Nat.{_<_, _≤_};
 ghost use lib.ListN.{length};
 
 // Takes these frames apart by the notes that are read from them. `notes` is a byte for each, `buffer` has four quarters with room for them.
-pub fn run(level: u64, line: &[u8], notes: &mut [u8], buffer: &mut [u8], t: Passage) -> Passage
+pub fn run(
+    row: Row,
+    level: u64,
+    line: &[u8],
+    notes: &mut [u8],
+    buffer: &mut [u8],
+    t: Passage,
+) -> Passage
     requires { ⌜ length (now buffer) ≤ 65536 ⌝ }
 {
     let read = by::read_notes(t.plain, level, line, notes);
     let u = write_notes(notes, t);
-    extract(read, level, line, notes, buffer, u)
+    extract(read, row, level, line, notes, buffer, u)
 }
 
 // Takes these frames apart by notes that are given.
-pub fn run_by(level: u64, line: &[u8], notes: &[u8], buffer: &mut [u8], t: Passage) -> Passage
-    requires { ⌜ length (now buffer) ≤ 65536 ⌝ }
-{
-    let unread = Noted {
-        refusal: 0,
-        alignment: 0,
-        dissent: [0; 4],
-    };
-    extract(unread, level, line, notes, buffer, t)
-}
-
-fn extract(
-    read: Noted,
+pub fn run_by(
+    row: Row,
     level: u64,
     line: &[u8],
     notes: &[u8],
@@ -45,19 +42,47 @@ fn extract(
 ) -> Passage
     requires { ⌜ length (now buffer) ≤ 65536 ⌝ }
 {
-    let taken = by::extract(t.plain, level, line, notes, buffer);
-    add(read, taken, notes, buffer, t)
+    let unread = Noted {
+        refusal: 0,
+        alignment: 0,
+        dissent: [0; 4],
+    };
+    extract(unread, row, level, line, notes, buffer, t)
+}
+
+fn extract(
+    read: Noted,
+    row: Row,
+    level: u64,
+    line: &[u8],
+    notes: &[u8],
+    buffer: &mut [u8],
+    t: Passage,
+) -> Passage
+    requires { ⌜ length (now buffer) ≤ 65536 ⌝ }
+{
+    let taken = by::extract(t.plain, level, t.earlier, line, notes, buffer);
+    add(read, taken, row, notes, buffer, t)
 }
 
 // Adds up what these frames gave, and writes it.
-fn add(read: Noted, taken: Counted, notes: &[u8], buffer: &[u8], t: Passage) -> Passage
+fn add(read: Noted, taken: Counted, row: Row, notes: &[u8], buffer: &[u8], t: Passage) -> Passage
     requires { ⌜ length (now buffer) ≤ 65536 ⌝ }
 {
     let counts = taken.counts;
     let mut u = write(buffer, counts, t);
     let before = u.totals;
     let dissent = read.dissent;
-    u.totals = passage::add(before, notes, counts, read.alignment, dissent);
+    u.totals = passage::add(
+        before,
+        row,
+        t.earlier,
+        notes,
+        counts,
+        read.alignment,
+        dissent,
+    );
+    u.earlier = passage::last_vote(notes, t.earlier);
     u.refusal = taken.refusal;
     u.frame = sizes::plus(before.frames, taken.frame);
     passage::only_if(read.refusal == 0 && taken.refusal == 0, passage::LINE, u)

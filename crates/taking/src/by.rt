@@ -19,15 +19,28 @@ fn read_plainly(level: u64, line: &[u8], notes: &mut [u8]) -> Noted {
     }
 }
 
-pub fn extract(plain: bool, level: u64, line: &[u8], notes: &[u8], buffer: &mut [u8]) -> Counted {
+pub fn extract(
+    plain: bool,
+    level: u64,
+    earlier: u64,
+    line: &[u8],
+    notes: &[u8],
+    buffer: &mut [u8],
+) -> Counted {
     if plain {
-        return extract_plainly(level, line, notes, buffer);
+        return extract_plainly(level, earlier, line, notes, buffer);
     }
-    extraction::extract(level, line, notes, buffer)
+    extraction::extract(level, earlier, line, notes, buffer)
 }
 
-fn extract_plainly(level: u64, line: &[u8], notes: &[u8], buffer: &mut [u8]) -> Counted {
-    let r = plain::extract(level, line, notes, buffer);
+fn extract_plainly(
+    level: u64,
+    earlier: u64,
+    line: &[u8],
+    notes: &[u8],
+    buffer: &mut [u8],
+) -> Counted {
+    let r = plain::extract(level, earlier, line, notes, buffer);
     let counts = r.counts;
     Counted {
         refusal: r.refusal,

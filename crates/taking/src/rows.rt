@@ -2,6 +2,7 @@
 use crate::apart;
 use console::say;
 use levels::order;
+use levels::order::Action;
 use passages::passage;
 use passages::passage::Passage;
 use reading::Noted;
@@ -11,7 +12,12 @@ ghost use Prim.Native.Nat.{_<_, _≤_};
 ghost use lib.ListN.{length};
 ghost use Rattle.levels.specs.Table.{Shared};
 
-pub fn say_head() {
+// Where the level has negative places a vote does not yet say what the frame does.
+pub fn say_head(row: Row) {
+    if order::has_negative(row) {
+        say::text(b"    frame    votes  acts     dissent 1 2 3 4  alignment\n");
+        return;
+    }
     say::text(b"    frame  stuffed  service  dissent 1 2 3 4  alignment\n");
 }
 
@@ -49,21 +55,48 @@ fn one(row: Row, level: u64, line: &[u8], notes: &mut [u8], f: usize, t: Passage
 fn said(row: Row, r: Noted, note: u8, t: Passage) -> Passage {
     let before = t.totals;
     let dissent = r.dissent;
-    say_note(row, before.frames, note);
+    say_note(row, before.frames, note, t.earlier);
     say_errors(dissent, r.alignment);
     let one = [note];
     let mut u = t;
-    u.totals = passage::add(before, &one, [0; 4], r.alignment, dissent);
+    u.totals = passage::add(before, row, t.earlier, &one, [0; 4], r.alignment, dissent);
+    u.earlier = note as u64;
     passage::only_if(r.refusal == 0, passage::LINE, u)
 }
 
-fn say_note(row: Row, frame: usize, note: u8) {
+fn say_note(row: Row, frame: usize, note: u8, preceding: u64) {
     say::right(9, frame);
     say::text(b"  ");
     say_stuffed(note);
     say::text(b"     ");
-    say_services(note, row.nationals);
+    say_rest(row, note, preceding);
     say::text(b"           ");
+}
+
+// What a note says beside the votes: where the level has negative places, with the vote before, what the frame does.
+fn say_rest(row: Row, note: u8, preceding: u64) {
+    if order::has_negative(row) {
+        say_acts(row, note, preceding);
+        return;
+    }
+    say_services(note, row.nationals);
+}
+
+// What the frame does for each tributary: + its positive place is stuffed, - its negative place carries a digit, 0 neither.
+fn say_acts(row: Row, note: u8, preceding: u64) {
+    say_act(order::action_of(row, preceding, note, 0));
+    say_act(order::action_of(row, preceding, note, 1));
+    say_act(order::action_of(row, preceding, note, 2));
+    say_act(order::action_of(row, preceding, note, 3));
+    say::text(b" ");
+}
+
+fn say_act(act: Action) {
+    match act {
+        Action::Stuffed => say::text(b"+"),
+        Action::PositiveCarries => say::text(b"0"),
+        Action::BothCarry => say::text(b"-"),
+    }
 }
 
 // The tributaries that are stuffed, each at its place.

@@ -74,19 +74,27 @@ fn one_way(
         return rows::run(row, level, line, notes, u);
     }
     if way == BY_NOTES {
-        return by_notes(level, line, notes, buffer, u);
+        return by_notes(row, level, line, notes, buffer, u);
     }
-    apart::run(level, line, notes, buffer, u)
+    apart::run(row, level, line, notes, buffer, u)
 }
 
 // By the notes of these frames, which stand in their file behind those of the frames before.
-fn by_notes(level: u64, line: &[u8], notes: &mut [u8], buffer: &mut [u8], t: Passage) -> Passage
+fn by_notes(
+    row: Row,
+    level: u64,
+    line: &[u8],
+    notes: &mut [u8],
+    buffer: &mut [u8],
+    t: Passage,
+) -> Passage
     requires { ⌜ length (now buffer) ≤ 65536 ⌝ }
 {
     let from = t.open;
     let totals = t.totals;
     let read = files::read_at(from.notes, notes, totals.frames);
     apart::run_by(
+        row,
         level,
         line,
         notes,

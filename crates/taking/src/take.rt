@@ -29,7 +29,7 @@ pub struct Source {
     pub tributaries: usize,
 }
 
-pub fn run(row: Row, level: u64, plain: bool)
+pub fn run(row: Row, level: u64, earlier: u64, plain: bool)
     requires { ⌜ Shared row ⌝ }
 {
     let line = files::open(LINE);
@@ -48,11 +48,11 @@ pub fn run(row: Row, level: u64, plain: bool)
         notes: NOTES,
         tributaries: TRIBUTARIES,
     };
-    run_from(row, level, plain, whole);
+    run_from(row, level, earlier, plain, whole);
 }
 
 // The same with a line that has whole frames, wherever in a file it begins.
-pub fn run_from(row: Row, level: u64, plain: bool, from: Source)
+pub fn run_from(row: Row, level: u64, earlier: u64, plain: bool, from: Source)
     requires { ⌜ Shared row × (from .bytes ≤ longest) ⌝ }
 {
     let notes = files::create(from.notes, b"");
@@ -72,7 +72,7 @@ pub fn run_from(row: Row, level: u64, plain: bool, from: Source)
         tributaries,
         quarter: sizes::quarter_bytes(row, frames),
     };
-    let start = passage::start_by(to, plain);
+    let start = passage::start_by(row, earlier, to, plain);
     end(
         level,
         from,

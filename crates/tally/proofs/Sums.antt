@@ -20,7 +20,7 @@ use Rattle.table.specs.declared.Row.{Row}
 use Rattle.levels.specs.declared.places.Kind.{Kind}
 use Rattle.levels.specs.declared.places.Kind.the-variants.{Word, Service, Control, Justification, Tributary}
 use Rattle.levels.specs.declared.places.ServiceDigit.{ServiceDigit}
-use Rattle.levels.specs.declared.places.ServiceDigit.the-variants.{RemoteAlarm, FirstNational, SecondNational, ThirdNational}
+use Rattle.levels.specs.declared.places.ServiceDigit.the-variants.{RemoteAlarm, FirstNational, SecondNational, ThirdNational, Fixed}
 use Rattle.levels.specs.Table.{Shared}
 use Rattle.levels.specs.Places.{kindAt, posOf}
 use Rattle.tally.specs.Tally.{serviceNumber, sumNumber, numberAt, allOf, sumOf, sumsOf, oneMore}
@@ -41,12 +41,13 @@ service-in RemoteAlarm = omega arith
 service-in FirstNational = omega arith
 service-in SecondNational = omega arith
 service-in ThirdNational = omega arith
+service-in Fixed = omega arith
 
 number-in : (k : Kind) (j : ℕ) → j < 4 → sumNumber k j < 15
 number-in Word j h = omega arith
 number-in (Service s) j h = service-in s
 number-in Control j h = omega arith
-number-in Justification j h = omega arith
+number-in (Justification sign) j h = omega arith
 number-in Tributary j h = omega arith
 
 pub number-at-in : (row : Row) (p : ℕ) → numberAt row p < 15

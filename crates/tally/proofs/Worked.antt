@@ -1,7 +1,7 @@
--- A place of each kind and tributary, and which sum it counts in: level 2, and the national places of level 4.
+-- A place of each kind and tributary, and which sum it counts in: level 2, the national places of level 4, and what levels 12 and 14 add.
 use mathlib.Core.Path.{_≡_, refl}
 use Prim.Native.Nat.{_*_, _+_}
-use Rattle.table.specs.Table.{row2, row4}
+use Rattle.table.specs.Table.{row2, row4, row12, row14}
 use Rattle.levels.specs.Places.{kindOf, firstSet, middleSet, lastSet, posOf}
 use Rattle.tally.specs.Tally.{numberAt}
 
@@ -19,3 +19,15 @@ pub worked-4 : (numberAt row4 (2928 + 12) ≡ 1) × (numberAt row4 (2928 + 13) �
     × (numberAt row4 (2928 + 16) ≡ 5)
 unfolding numberAt kindOf firstSet middleSet lastSet posOf
 worked-4 = (refl, refl, refl, refl, refl)
+
+-- service places that no note has are national: level 12 has them in groups II and III, level 14 in group I
+pub worked-service : (numberAt row12 (264 + 4) ≡ 2) × (numberAt row12 (528 + 7) ≡ 2) × (numberAt row12 8 ≡ 5) × (numberAt row14 10 ≡ 2) × (numberAt row14 11 ≡ 2)
+    × (numberAt row14 12 ≡ 5)
+unfolding numberAt kindOf firstSet middleSet lastSet posOf
+worked-service = (refl, refl, refl, refl, refl, refl)
+
+-- negative and positive places are justification, of tributary 1 and of 4
+pub worked-signs : (numberAt row12 (792 + 4) ≡ 4) × (numberAt row12 (792 + 7) ≡ 13) × (numberAt row12 (792 + 8) ≡ 4) × (numberAt row12 (792 + 11) ≡ 13)
+    × (numberAt row12 (792 + 12) ≡ 5) × (numberAt row14 (1632 + 4) ≡ 4) × (numberAt row14 (1632 + 11) ≡ 13)
+unfolding numberAt kindOf firstSet middleSet lastSet posOf
+worked-signs = (refl, refl, refl, refl, refl, refl, refl)

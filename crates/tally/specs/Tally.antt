@@ -12,22 +12,23 @@ use Rattle.table.specs.declared.Row.{Row}
 use Rattle.levels.specs.declared.places.Kind.{Kind}
 use Rattle.levels.specs.declared.places.Kind.the-variants.{Word, Service, Control, Justification, Tributary}
 use Rattle.levels.specs.declared.places.ServiceDigit.{ServiceDigit}
-use Rattle.levels.specs.declared.places.ServiceDigit.the-variants.{RemoteAlarm, FirstNational, SecondNational, ThirdNational}
+use Rattle.levels.specs.declared.places.ServiceDigit.the-variants.{RemoteAlarm, FirstNational, SecondNational, ThirdNational, Fixed}
 use Rattle.levels.specs.Places.{kindAt}
 
--- remote alarm is sum 1, national is sum 2
+-- remote alarm is sum 1, national is sum 2; request 10: "request 6 counts service places as national"
 abbrev pub serviceNumber : ServiceDigit → ℕ
 serviceNumber RemoteAlarm = 1
 serviceNumber FirstNational = 2
 serviceNumber SecondNational = 2
 serviceNumber ThirdNational = 2
+serviceNumber Fixed = 2
 
 -- which of the fifteen sums, from 0, a place of this kind counts in; tributary j is counted from 0 here
 abbrev pub sumNumber : Kind → ℕ → ℕ
 sumNumber Word j = 0
 sumNumber (Service s) j = serviceNumber s
 sumNumber Control j = 3 + 3 * j
-sumNumber Justification j = 4 + 3 * j
+sumNumber (Justification sign) j = 4 + 3 * j
 sumNumber Tributary j = 5 + 3 * j
 
 -- which sum place p of a line counts in: by what the place is, and whose

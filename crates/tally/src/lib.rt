@@ -19,6 +19,7 @@ fn service_number(s: ServiceDigit) -> usize
         ServiceDigit::FirstNational => 2,
         ServiceDigit::SecondNational => 2,
         ServiceDigit::ThirdNational => 2,
+        ServiceDigit::Fixed => 2,
     }
 }
 
@@ -31,7 +32,7 @@ fn sum_number(kind: Kind, j: usize) -> usize
         Kind::Word => 0,
         Kind::Service(s) => service_number(s),
         Kind::Control => 3 + 3 * j,
-        Kind::Justification => 4 + 3 * j,
+        Kind::Justification(_) => 4 + 3 * j,
         Kind::Tributary => 5 + 3 * j,
     }
 }

@@ -1,6 +1,7 @@
 -- Runs of columns under way: from some column on, k of them are handed out; and what the head of a set hands out.
 use mathlib.Core.Path.{_≡_, refl, sym, ap, _∙_}
 use mathlib.Core.Logic.{_≢_}
+use mathlib.Core.Bool.{true, false}
 use mathlib.Core.List.{List, [], _∷_, _++_}
 use Prim.Native.Nat.{ℕ, zero, suc, _+_, _-_, _*_, _≤_, _<_}
 use native.Mathlib.Omega.{arith}
@@ -8,10 +9,13 @@ use native.Mathlib.Nat.{mul-le-mul-right}
 use lib.ListN.{length, getD, length-append}
 use borrow.Author.Tests.{eq-eqb, ne-eqb}
 use Rattle.table.specs.declared.Row.{Row}
+use Rattle.levels.specs.declared.order.Action.{Action}
+use Rattle.levels.specs.declared.places.Sign.the-variants.{Negative, Positive}
 use Rattle.levels.specs.Table.{Shared}
 use Rattle.levels.specs.Places.{headEnd}
+use Rattle.levels.specs.Order.{hasNegative}
 use Rattle.unweave.specs.declared.Writers.{Writers}
-use Rattle.unweave.specs.Lanes.{picked, runDigits, justificationDigits, headDigits}
+use Rattle.unweave.specs.Lanes.{picked, runDigits, justificationDigits, negativeDigits, headDigits}
 use Rattle.unweave.specs.Quarters.{Roomy, Grown}
 use Rattle.unweave.proofs.Lanes.{picked-cat}
 use Rattle.unweave.proofs.Four.{roomy-after, grown-as, grown-none, grown-more}
@@ -21,12 +25,21 @@ unfolding picked
 picked-length zero ds p = refl
 picked-length (suc n) ds p = length-append (picked n ds p) (getD ds (p + 4 * n) 0 ∷ []) ∙ rw (picked-length n ds p) (omega arith)
 
--- what a head hands out: that of the last set its justification column, the others nothing
-module _ (row : Row) (ds : List ℕ) (p s note : ℕ) where
-  pub head-justified : {end : ℕ} → s ≡ row .sets - 1 → end ≡ headEnd row s → (j : ℕ) → justificationDigits ds (p + (end - 4)) note j ≡ headDigits row ds p s note j
-  head-justified e end j = rw (eq-eqb s (row .sets - 1) e, end)
+-- the negative places hand out their column where the level has them
+module _ (row : Row) (ds : List ℕ) (p : ℕ) (acts : ℕ → Action) where
+  pub negative-some : hasNegative row ≡ true → (j : ℕ) → justificationDigits ds (p + 4) Negative acts j ≡ negativeDigits row ds p acts j
+  negative-some e j = rw e
 
-  pub head-none : s ≢ row .sets - 1 → (j : ℕ) → [] ≡ headDigits row ds p s note j
+  pub negative-none : hasNegative row ≡ false → (j : ℕ) → [] ≡ negativeDigits row ds p acts j
+  negative-none e j = rw e
+
+-- what a head hands out: that of the last set its justification columns, the others nothing
+module _ (row : Row) (ds : List ℕ) (p s : ℕ) (acts : ℕ → Action) where
+  pub head-justified : s ≡ row .sets - 1 → (j : ℕ)
+      → negativeDigits row ds p acts j ++ justificationDigits ds (p + (row .last - 4)) Positive acts j ≡ headDigits row ds p s acts j
+  head-justified e j = rw (eq-eqb s (row .sets - 1) e)
+
+  pub head-none : s ≢ row .sets - 1 → (j : ℕ) → [] ≡ headDigits row ds p s acts j
   head-none e j = rw (ne-eqb s (row .sets - 1) e)
 
 module _ (row : Row) (sh : Shared row) where

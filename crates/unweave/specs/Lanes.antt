@@ -1,13 +1,17 @@
 -- Columns of four digits taken apart: each tributary's digits as a number, four numbers in the four lanes of a word. Tributary j (from 0)
 -- has the digits at places p + j, p + j + 4 and so on, in the order of their places.
-use mathlib.Core.Bool.{cond}
+use mathlib.Core.Bool.{Bool, cond}
 use mathlib.Core.List.{List, [], _∷_, _++_}
 use Prim.Native.Nat.{ℕ, zero, suc, _+_, _*_, _-_, _/_, _%_, _^_}
 use lib.Dec.{eqb}
 use lib.ListN.{getD}
 use Rattle.table.specs.declared.Row.{Row}
+use Rattle.levels.specs.declared.order.Action.{Action}
+use Rattle.levels.specs.declared.places.Sign.{Sign}
+use Rattle.levels.specs.declared.places.Sign.the-variants.{Negative, Positive}
+use Rattle.levels.specs.declared.places.Kind.the-variants.{Justification}
 use Rattle.levels.specs.Places.{headEnd}
-use Rattle.levels.specs.Order.{stuffed}
+use Rattle.levels.specs.Order.{stuffed, hasNegative, actionOf, carried}
 
 -- every fourth digit from place p on, k of them
 unfoldable pub picked : ℕ → List ℕ → ℕ → List ℕ
@@ -18,17 +22,30 @@ picked (suc k) ds p = picked k ds p ++ (getD ds (p + 4 * k) 0 ∷ [])
 abbrev pub runDigits : List ℕ → ℕ → ℕ → ℕ → List ℕ
 runDigits ds p n j = picked n ds (p + j)
 
--- what the justification column from place p on hands to tributary j, in a frame with this note: its digit, or none where it is stuffed
-abbrev pub justificationDigits : List ℕ → ℕ → ℕ → ℕ → List ℕ
-justificationDigits ds p note j = cond (stuffed note j) [] (getD ds (p + j) 0 ∷ [])
+-- what a frame with this note, after one with the preceding note, does for tributary j
+abbrev pub actsBy : Row → ℕ → ℕ → ℕ → Action
+actsBy row preceding note j = actionOf row (stuffed preceding j) (stuffed note j)
 
--- what set s hands to tributary j, from place p on, in a frame with this note: the last four digits of the last set's head are its
--- justification digits; behind its head every set has a run
-abbrev pub headDigits : Row → List ℕ → ℕ → ℕ → ℕ → ℕ → List ℕ
-headDigits row ds p s note j = cond (eqb s (row .sets - 1)) (justificationDigits ds (p + (headEnd row s - 4)) note j) []
+-- what a column from place p on hands to tributary j, whose place in it carries or not: its digit, or none
+abbrev pub columnDigits : List ℕ → ℕ → Bool → ℕ → List ℕ
+columnDigits ds p carries j = cond carries (getD ds (p + j) 0 ∷ []) []
 
-abbrev pub setDigits : Row → List ℕ → ℕ → ℕ → ℕ → ℕ → List ℕ
-setDigits row ds p s note j = headDigits row ds p s note j ++ runDigits ds (p + headEnd row s) ((row .set - headEnd row s) / 4) j
+-- so the justification column of a sign, in a frame that acts so for each tributary
+abbrev pub justificationDigits : List ℕ → ℕ → Sign → (ℕ → Action) → ℕ → List ℕ
+justificationDigits ds p sign acts j = columnDigits ds p (carried (Justification sign) (acts j)) j
+
+-- that of the negative places, where the level has them: they come next to the control digits
+abbrev pub negativeDigits : Row → List ℕ → ℕ → (ℕ → Action) → ℕ → List ℕ
+negativeDigits row ds p acts j = cond (hasNegative row) (justificationDigits ds (p + 4) Negative acts j) []
+
+-- what set s hands to tributary j, from place p on, in a frame that acts so: the last set's head ends with the negative places, then the positive ones,
+-- so that the negative place has the earlier digit; behind its head every set has a run
+abbrev pub headDigits : Row → List ℕ → ℕ → ℕ → (ℕ → Action) → ℕ → List ℕ
+headDigits row ds p s acts j =
+    cond (eqb s (row .sets - 1)) (negativeDigits row ds p acts j ++ justificationDigits ds (p + (row .last - 4)) Positive acts j) []
+
+abbrev pub setDigits : Row → List ℕ → ℕ → ℕ → (ℕ → Action) → ℕ → List ℕ
+setDigits row ds p s acts j = headDigits row ds p s acts j ++ runDigits ds (p + headEnd row s) ((row .set - headEnd row s) / 4) j
 
 -- tributary j's digits of k columns, as a number; x is the number that the columns' digits make
 unfoldable pub laneOf : ℕ → ℕ → ℕ → ℕ

@@ -1,4 +1,4 @@
-// A line taken apart, whole bytes at a time: the columns between two heads, up to 32 a turn, and the justification column. Each tributary has
+// A line taken apart, whole bytes at a time: the columns between two heads, up to 32 a turn, and the justification columns. Each tributary has
 // a writer of its own, to which its quarter of the buffer is lent.
 pub mod sorting;
 
@@ -6,6 +6,8 @@ use levels::lent;
 use levels::order;
 use levels::places;
 use levels::places::FramePlace;
+use levels::places::Kind;
+use levels::places::Sign;
 use table::Row;
 use words::Writer;
 ghost use mathlib.Core.Path.{_≡_};
@@ -13,7 +15,7 @@ ghost use Prim.Native.Nat.{ℕ, _+_, _*_, _-_, _/_, _%_, _^_, _<_, _≤_};
 ghost use lib.ListN.{length};
 ghost use Rattle.digits.specs.Digits.{digitsOf, tab, written};
 ghost use Rattle.levels.specs.Table.{Shared};
-ghost use Rattle.unweave.specs.Lanes.{lanesOf, runDigits, justificationDigits, headDigits, setDigits};
+ghost use Rattle.unweave.specs.Lanes.{lanesOf, runDigits, actsBy, columnDigits, justificationDigits, negativeDigits, headDigits, setDigits};
 ghost use Rattle.unweave.specs.Quarters.{writerOf, numberOf, Below, Within, Roomy, Put, Grown};
 
 // The tributaries' writers, in order.
@@ -199,11 +201,11 @@ fn receive_columns(
     receive_narrow(table, line, p + 4 * many, buffer, q, v, rest)
 }
 
-// The justification place of tributary j (from 0), in the column from place p on: its digit, or none where the note says that it is stuffed.
-fn receive_unstuffed(
+// The place of tributary j (from 0) in the column from place p on: its digit where the place carries one, or none.
+fn receive_place(
     line: &[u8],
     p: usize,
-    note: u8,
+    carries: bool,
     buffer: &mut [u8],
     q: usize,
     j: usize,
@@ -214,21 +216,24 @@ fn receive_unstuffed(
         × (p < 2 ^ 31)
         × (4 * q ≤ length (now buffer))
         × (j < 4)
-        × Within q (length (justificationDigits (digitsOf (now line)) p note j)) w
+        × Within q (length (columnDigits (digitsOf (now line)) p carries j)) w
         ⌝ }
-    ensures { λ r. ⌜ Put q j (now (buffer .entry)) (now (buffer .exit)) w r (justificationDigits (digitsOf (now (line .entry))) p note j) ⌝ }
+    ensures { λ r. ⌜ Put q j (now (buffer .entry)) (now (buffer .exit)) w r (columnDigits (digitsOf (now (line .entry))) p carries j) ⌝ }
 {
-    if order::is_stuffed(note, j) {
-        return w;
+    if carries {
+        let d = lent::line_digit(line, FramePlace(p + j));
+        return put_quarter(buffer, q, j, w, d as u64, 1);
     }
-    let d = lent::line_digit(line, FramePlace(p + j));
-    put_quarter(buffer, q, j, w, d as u64, 1)
+    w
 }
 
-// The justification column of a frame with this note, from place p of the line on.
+// The justification column of a sign, from place p of the line on, of a frame with this note after one with the preceding note.
 fn receive_justification(
+    row: Row,
     line: &[u8],
     p: usize,
+    sign: Sign,
+    preceding: u64,
     note: u8,
     buffer: &mut [u8],
     q: usize,
@@ -238,27 +243,72 @@ fn receive_justification(
         (p + 4 ≤ 8 * length (now line))
         × (p < 2 ^ 31)
         × (4 * q ≤ length (now buffer))
-        × Roomy q (λ (j : ℕ). length (justificationDigits (digitsOf (now line)) p note j)) w
+        × Roomy q (λ (j : ℕ). length (justificationDigits (digitsOf (now line)) p sign (actsBy row preceding note) j)) w
         ⌝ }
-    ensures { λ r. ⌜ Grown q (now (buffer .entry)) (now (buffer .exit)) w r (justificationDigits (digitsOf (now (line .entry))) p note) ⌝ }
+    ensures { λ r. ⌜
+        Grown q (now (buffer .entry)) (now (buffer .exit)) w r (justificationDigits (digitsOf (now (line .entry))) p sign (actsBy row preceding note))
+        ⌝ }
 {
+    let kind = Kind::Justification(sign);
     let a0 = w.a;
     let b0 = w.b;
     let c0 = w.c;
     let d0 = w.d;
-    let a = receive_unstuffed(line, p, note, buffer, q, 0, a0);
-    let b = receive_unstuffed(line, p, note, buffer, q, 1, b0);
-    let c = receive_unstuffed(line, p, note, buffer, q, 2, c0);
-    let d = receive_unstuffed(line, p, note, buffer, q, 3, d0);
+    let at_a = order::carries_digit(row, kind, preceding, note, 0);
+    let at_b = order::carries_digit(row, kind, preceding, note, 1);
+    let at_c = order::carries_digit(row, kind, preceding, note, 2);
+    let at_d = order::carries_digit(row, kind, preceding, note, 3);
+    let a = receive_place(line, p, at_a, buffer, q, 0, a0);
+    let b = receive_place(line, p, at_b, buffer, q, 1, b0);
+    let c = receive_place(line, p, at_c, buffer, q, 2, c0);
+    let d = receive_place(line, p, at_d, buffer, q, 3, d0);
     Writers { a, b, c, d }
 }
 
-// The head of set s, from place p of the line on: that of the last set ends with the justification column.
+// The negative places of the last set, which begins at place p of the line: a level that has none hands nothing out.
+fn receive_negative(
+    row: Row,
+    line: &[u8],
+    p: usize,
+    preceding: u64,
+    note: u8,
+    buffer: &mut [u8],
+    q: usize,
+    w: Writers,
+) -> Writers
+    requires { ⌜
+        (p + 8 ≤ 8 * length (now line))
+        × (p < 2 ^ 30)
+        × (4 * q ≤ length (now buffer))
+        × Roomy q (λ (j : ℕ). length (negativeDigits row (digitsOf (now line)) p (actsBy row preceding note) j)) w
+        ⌝ }
+    ensures { λ r. ⌜
+        Grown q (now (buffer .entry)) (now (buffer .exit)) w r (negativeDigits row (digitsOf (now (line .entry))) p (actsBy row preceding note))
+        ⌝ }
+{
+    if order::has_negative(row) {
+        return receive_justification(
+            row,
+            line,
+            p + 4,
+            Sign::Negative,
+            preceding,
+            note,
+            buffer,
+            q,
+            w,
+        );
+    }
+    w
+}
+
+// The head of set s, from place p of the line on: that of the last set ends with the negative places, then the positive ones.
 fn receive_head(
     row: Row,
     line: &[u8],
     p: usize,
     s: usize,
+    preceding: u64,
     note: u8,
     buffer: &mut [u8],
     q: usize,
@@ -269,23 +319,28 @@ fn receive_head(
         × (p + row .set ≤ 8 * length (now line))
         × (p < 2 ^ 30)
         × (4 * q ≤ length (now buffer))
-        × Roomy q (λ (j : ℕ). length (headDigits row (digitsOf (now line)) p s note j)) w
+        × Roomy q (λ (j : ℕ). length (headDigits row (digitsOf (now line)) p s (actsBy row preceding note) j)) w
         ⌝ }
-    ensures { λ r. ⌜ Grown q (now (buffer .entry)) (now (buffer .exit)) w r (headDigits row (digitsOf (now (line .entry))) p s note) ⌝ }
+    ensures { λ r. ⌜
+        Grown q (now (buffer .entry)) (now (buffer .exit)) w r (headDigits row (digitsOf (now (line .entry))) p s (actsBy row preceding note))
+        ⌝ }
 {
-    if s == row.sets - 1 {
-        return receive_justification(line, p + (places::head_end(row, s) - 4), note, buffer, q, w);
+    if s != row.sets - 1 {
+        return w;
     }
-    w
+    let v = receive_negative(row, line, p, preceding, note, buffer, q, w);
+    let at = p + (row.last - 4);
+    receive_justification(row, line, at, Sign::Positive, preceding, note, buffer, q, v)
 }
 
-// Set s, from place p of the line on, of a frame with this note: its head, then its run, up to the next head.
+// Set s, from place p of the line on, of a frame with this note after one with the preceding note: its head, then its run, up to the next head.
 pub fn receive_set(
     table: &[u64; 256],
     row: Row,
     line: &[u8],
     p: usize,
     s: usize,
+    preceding: u64,
     note: u8,
     buffer: &mut [u8],
     q: usize,
@@ -297,12 +352,14 @@ pub fn receive_set(
         × (p + row .set ≤ 8 * length (now line))
         × (p < 2 ^ 30)
         × (4 * q ≤ length (now buffer))
-        × Roomy q (λ (j : ℕ). length (setDigits row (digitsOf (now line)) p s note j)) w
+        × Roomy q (λ (j : ℕ). length (setDigits row (digitsOf (now line)) p s (actsBy row preceding note) j)) w
         ⌝ }
-    ensures { λ r. ⌜ Grown q (now (buffer .entry)) (now (buffer .exit)) w r (setDigits row (digitsOf (now (line .entry))) p s note) ⌝ }
+    ensures { λ r. ⌜
+        Grown q (now (buffer .entry)) (now (buffer .exit)) w r (setDigits row (digitsOf (now (line .entry))) p s (actsBy row preceding note))
+        ⌝ }
 {
     let end = places::head_end(row, s);
-    let v = receive_head(row, line, p, s, note, buffer, q, w);
+    let v = receive_head(row, line, p, s, preceding, note, buffer, q, w);
     receive_columns(table, line, p + end, buffer, q, v, (row.set - end) / 4)
 }
 

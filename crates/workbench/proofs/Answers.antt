@@ -27,12 +27,13 @@ use Rattle.workbench.proofs.picture.run_end
 
 -- ---- the late multiplexer, and the digits that are sent
 
-pub late-line-once : (level : ℕ) (line said notes late buffer : List ℕ) (a b : Counted) (k l m n : List ℕ)
-    → LateLineMet level line said notes late buffer a k m → LateLineMet level line said notes late buffer b l n → (a ≡ b) × (k ≡ l) × (m ≡ n)
-late-line-once level line said notes late buffer a b k l m n x y = (x .0 ∙ sym (y .0), x .1 ∙ sym (y .1), x .2 ∙ sym (y .2))
+pub late-line-once : (level earlier : ℕ) (line said notes late buffer : List ℕ) (a b : Counted) (k l m n : List ℕ)
+    → LateLineMet level earlier line said notes late buffer a k m → LateLineMet level earlier line said notes late buffer b l n → (a ≡ b) × (k ≡ l) × (m ≡ n)
+late-line-once level earlier line said notes late buffer a b k l m n x y = (x .0 ∙ sym (y .0), x .1 ∙ sym (y .1), x .2 ∙ sym (y .2))
 
 pub late-line-met : (κs : Lfts 5) (a : ArgsD late_line.signature κs) (r : ResD late_line.signature κs) (e : AtExit late_line.ended κs) → late_line.Reads.Learnt κs a r e
-    → LateLineMet (a .0) (now (a .1 .0)) (now (a .1 .1 .0)) (now (a .1 .1 .1 .0)) (now (a .1 .1 .1 .1 .0)) (now (a .1 .1 .1 .1 .1 .0)) r (now (e .1 .1 .0)) (now (e .1 .0))
+    → LateLineMet (a .0) (a .1 .0) (now (a .1 .1 .0)) (now (a .1 .1 .1 .0)) (now (a .1 .1 .1 .1 .0)) (now (a .1 .1 .1 .1 .1 .0)) (now (a .1 .1 .1 .1 .1 .1 .0)) r
+    (now (e .1 .1 .1 .0)) (now (e .1 .1 .0))
 late-line-met κs a r e met = met
 
 pub delay-once : (late notes : List ℕ) (before : ℕ) (l m : List ℕ) → DelayMet late notes before l → DelayMet late notes before m → l ≡ m

@@ -9,24 +9,30 @@ use native.Mathlib.Decide.{decLt}
 use Rattle.table.specs.declared.Row.{Row}
 use Rattle.levels.specs.declared.places.Kind.{Kind}
 use Rattle.levels.specs.declared.places.Kind.the-variants.{Word, Service, Control, Justification, Tributary}
-use Rattle.levels.specs.declared.places.ServiceDigit.the-variants.{RemoteAlarm, FirstNational, SecondNational, ThirdNational}
+use Rattle.levels.specs.declared.places.ServiceDigit.the-variants.{RemoteAlarm, FirstNational, SecondNational, ThirdNational, Fixed}
+use Rattle.levels.specs.declared.places.Sign.the-variants.{Negative, Positive}
 use Rattle.levels.specs.Places.{kindAt}
 use Rattle.workbench.specs.Bench.{kindNumber}
 
 -- the kinds in the order of their numbers
 kinds : List Kind
-kinds = Word ∷ Control ∷ Justification ∷ Tributary ∷ Service RemoteAlarm ∷ Service FirstNational ∷ Service SecondNational ∷ Service ThirdNational ∷ []
+kinds =
+    Word ∷ Control ∷ Justification Positive ∷ Tributary
+    ∷ Service RemoteAlarm ∷ Service FirstNational ∷ Service SecondNational ∷ Service ThirdNational ∷ Service Fixed
+    ∷ Justification Negative ∷ []
 
 kind-back : (k : Kind) → getD kinds (kindNumber k) Word ≡ k
 unfolding kinds
 kind-back Word = refl
 kind-back Control = refl
-kind-back Justification = refl
+kind-back (Justification Positive) = refl
+kind-back (Justification Negative) = refl
 kind-back Tributary = refl
 kind-back (Service RemoteAlarm) = refl
 kind-back (Service FirstNational) = refl
 kind-back (Service SecondNational) = refl
 kind-back (Service ThirdNational) = refl
+kind-back (Service Fixed) = refl
 
 kind-told : (k l : Kind) → kindNumber k ≡ kindNumber l → k ≡ l
 kind-told k l e = sym (kind-back k) ∙ ap (λ (n : ℕ). getD kinds n Word) e ∙ kind-back l

@@ -12,7 +12,9 @@ use Rattle.table.specs.declared.Row.{Row}
 use Rattle.levels.specs.declared.places.Kind.{Kind}
 use Rattle.levels.specs.declared.places.Kind.the-variants.{Word, Service, Control, Justification, Tributary}
 use Rattle.levels.specs.declared.places.ServiceDigit.{ServiceDigit}
-use Rattle.levels.specs.declared.places.ServiceDigit.the-variants.{RemoteAlarm, FirstNational, SecondNational, ThirdNational}
+use Rattle.levels.specs.declared.places.ServiceDigit.the-variants.{RemoteAlarm, FirstNational, SecondNational, ThirdNational, Fixed}
+use Rattle.levels.specs.declared.places.Sign.{Sign}
+use Rattle.levels.specs.declared.places.Sign.the-variants.{Negative, Positive}
 use Rattle.levels.specs.Places.{kindAt}
 use Rattle.table.specs.Table.{levelOf}
 use Rattle.levels.specs.Sizes.{onLevel, quarterOf}
@@ -25,7 +27,7 @@ abbrev pub isControl : Kind → Bool
 isControl Word = false
 isControl (Service s) = false
 isControl Control = true
-isControl Justification = false
+isControl (Justification sign) = false
 isControl Tributary = false
 
 -- place p of a line whose control digits are those of one line and whose other digits are those of another
@@ -38,19 +40,19 @@ mixedLine row said line = bytesOf (length line) (tab (8 * length line) 0 (mixed 
 
 -- the late multiplexer's line at the end: refused, as it was; else the line that the late notes make, with the control digits of the line
 -- that the notes make
-abbrev pub lateLine : ℕ → List ℕ → List ℕ → List ℕ → List ℕ → List ℕ → List ℕ
-lateLine level line said notes late buffer =
+abbrev pub lateLine : ℕ → ℕ → List ℕ → List ℕ → List ℕ → List ℕ → List ℕ → List ℕ
+lateLine level earlier line said notes late buffer =
     onLevel (levelOf level)
     (λ (row : Row).
-    leftOn row (length line) late (length buffer) (mixedLine row (lineOn row said notes buffer) (lineOn row line late buffer)) line)
+    leftOn row earlier (length line) late (length buffer) (mixedLine row (lineOn row earlier said notes buffer) (lineOn row earlier line late buffer)) line)
     line
 
 -- `late_line`: its answer is that of multiplexing by the late notes, `said` is left as the line of a right multiplexer, and the line as above
-abbrev pub LateLineMet : ℕ → List ℕ → List ℕ → List ℕ → List ℕ → List ℕ → Counted → List ℕ → List ℕ → Type 0
-LateLineMet level line said notes late buffer answer saidLeft lineLeft =
-    (answer ≡ answered level (length line) late (length buffer))
-    × (saidLeft ≡ lineAfter level said notes buffer)
-    × (lineLeft ≡ lateLine level line said notes late buffer)
+abbrev pub LateLineMet : ℕ → ℕ → List ℕ → List ℕ → List ℕ → List ℕ → List ℕ → Counted → List ℕ → List ℕ → Type 0
+LateLineMet level earlier line said notes late buffer answer saidLeft lineLeft =
+    (answer ≡ answered level earlier (length line) late (length buffer))
+    × (saidLeft ≡ lineAfter level earlier said notes buffer)
+    × (lineLeft ≡ lateLine level earlier line said notes late buffer)
 
 -- a note with the decisions of one note, bits 0 to 3, and the service digits of another
 abbrev pub decidedBy : ℕ → ℕ → ℕ
@@ -113,11 +115,16 @@ serviceNumber RemoteAlarm = 4
 serviceNumber FirstNational = 5
 serviceNumber SecondNational = 6
 serviceNumber ThirdNational = 7
+serviceNumber Fixed = 8
+
+abbrev pub signNumber : Sign → ℕ
+signNumber Positive = 2
+signNumber Negative = 9
 
 abbrev pub kindNumber : Kind → ℕ
 kindNumber Word = 0
 kindNumber Control = 1
-kindNumber Justification = 2
+kindNumber (Justification sign) = signNumber sign
 kindNumber Tributary = 3
 kindNumber (Service s) = serviceNumber s
 

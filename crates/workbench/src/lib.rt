@@ -111,7 +111,7 @@ fn is_control(kind: Kind) -> bool
         Kind::Word => false,
         Kind::Service(_) => false,
         Kind::Control => true,
-        Kind::Justification => false,
+        Kind::Justification(_) => false,
         Kind::Tributary => false,
     }
 }
@@ -155,9 +155,11 @@ fn say_controls_at(level: u64, line: &mut [u8], said: &[u8])
 }
 
 // The line of a multiplexer whose control digits say the notes and whose justification digits follow the late notes. `said` is left as the
-// line of a right multiplexer. The answer is that of multiplexing by the late notes; refused, the line stays as it was.
+// line of a right multiplexer. Both know the same vote before frame 0. The answer is that of multiplexing by the late notes; refused, the line
+// stays as it was.
 pub fn late_line(
     level: u64,
+    earlier: u64,
     line: &mut [u8],
     said: &mut [u8],
     notes: &[u8],
@@ -165,12 +167,12 @@ pub fn late_line(
     buffer: &[u8],
 ) -> Counted
     ensures { λ r. ⌜
-        LateLineMet level (now (line .entry)) (now (said .entry)) (now (notes .entry)) (now (late .entry)) (now (buffer .entry))
+        LateLineMet level earlier (now (line .entry)) (now (said .entry)) (now (notes .entry)) (now (late .entry)) (now (buffer .entry))
         r (now (said .exit)) (now (line .exit))
         ⌝ }
 {
-    multiplex::multiplex(level, said, notes, buffer);
-    let r = multiplex::multiplex(level, line, late, buffer);
+    multiplex::multiplex(level, earlier, said, notes, buffer);
+    let r = multiplex::multiplex(level, earlier, line, late, buffer);
     if r.refusal != 0 {
         return r;
     }

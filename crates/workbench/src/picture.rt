@@ -3,11 +3,12 @@ use levels::places;
 use levels::places::FramePlace;
 use levels::places::Kind;
 use levels::places::ServiceDigit;
+use levels::places::Sign;
 use table::Row;
 ghost use mathlib.Core.Path.{_≡_};
 ghost use Prim.Native.Nat.{_<_};
 ghost use Rattle.levels.specs.Table.{Shared};
-ghost use Rattle.workbench.specs.Bench.{serviceNumber, kindNumber, KindNumberMet, KindRun};
+ghost use Rattle.workbench.specs.Bench.{serviceNumber, signNumber, kindNumber, KindNumberMet, KindRun};
 
 pub const WORD: u8 = 0;
 
@@ -19,6 +20,11 @@ pub const TRIBUTARY: u8 = 3;
 
 pub const REMOTE_ALARM: u8 = 4;
 
+// A service place that no note has, and a negative place: a run of either is a run of its own.
+pub const FIXED: u8 = 8;
+
+pub const NEGATIVE: u8 = 9;
+
 fn service_number(s: ServiceDigit) -> u8
     ensures { λ r. ⌜ r ≡ serviceNumber s ⌝ }
 {
@@ -27,6 +33,16 @@ fn service_number(s: ServiceDigit) -> u8
         ServiceDigit::FirstNational => 5,
         ServiceDigit::SecondNational => 6,
         ServiceDigit::ThirdNational => 7,
+        ServiceDigit::Fixed => FIXED,
+    }
+}
+
+fn sign_number(sign: Sign) -> u8
+    ensures { λ r. ⌜ r ≡ signNumber sign ⌝ }
+{
+    match sign {
+        Sign::Negative => NEGATIVE,
+        Sign::Positive => JUSTIFICATION,
     }
 }
 
@@ -36,7 +52,7 @@ fn kind_number(kind: Kind) -> u8
     match kind {
         Kind::Word => WORD,
         Kind::Control => CONTROL,
-        Kind::Justification => JUSTIFICATION,
+        Kind::Justification(sign) => sign_number(sign),
         Kind::Tributary => TRIBUTARY,
         Kind::Service(s) => service_number(s),
     }

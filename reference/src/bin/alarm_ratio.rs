@@ -13,7 +13,7 @@
 //! - framed ones that go on: how often an alarm begins.
 
 use reference::alarm::Stretches;
-use reference::level::{row, Row};
+use reference::level::{row, Row, LEVELS};
 use reference::random::Random;
 use std::process::exit;
 
@@ -152,7 +152,7 @@ fn main() {
         "{:>5}{:>14}{:>14}{:>14}{:>14}{:>14}{:>16}",
         "level", "seen: mean", "seen: worst", "missed in 8", "ends", "without", "framed: begins"
     );
-    for number in 2..=4 {
+    for number in LEVELS {
         row(number).into_iter().for_each(|row| level(row, &run));
     }
 }

@@ -1,5 +1,5 @@
 //! Prints what a program on the cases below must write, a line to a case: worked cases 9,
-//! 10 and 11, a capture of case 1, frames of 2048 kbit/s that are found and lost, each refusal
+//! 10 and 11, two frames each of levels 12 and 14, a capture of case 1, frames of 2048 kbit/s that are found and lost, each refusal
 //! at its border, and each pair of faults that tells the order.
 //!
 //! The text is made so that a program in any language can write it: fixed words, single
@@ -8,7 +8,8 @@
 //! - the line of a multiplex call, the notes that are read and the buffer of an extract call hold
 //!   165 in every byte beforehand, so that a byte left alone can be told from a byte cleared;
 //! - byte i of a multiplex call's buffer is i modulo 256;
-//! - a multiplex call's notes are 0 before frame `from`, and `note` from that frame on;
+//! - a multiplex call's notes are 0 before frame `from`, and `note` from that frame on, and the vote
+//!   before frame 0 is 0; where an earlier vote is named, it is that one, and the notes are those named;
 //! - the line that a multiplex call leaves is then extracted by the same notes;
 //! - every byte of a line whose notes are read is `fill`, and it is then extracted by the notes that
 //!   the reading leaves;
@@ -36,6 +37,8 @@ const MAX: u64 = u64::MAX;
 
 /// level, line bytes, notes, note, from, buffer bytes
 type Sending = (u64, usize, usize, u8, usize, usize);
+/// level, earlier vote, line bytes, notes, buffer bytes
+type Voting = (u64, u64, usize, [u8; 2], usize);
 /// level, line bytes, fill, notes, buffer bytes
 type Receiving = (u64, usize, u8, usize, usize);
 /// level, window, seen, mode, place, slice bytes, first, count
@@ -102,6 +105,18 @@ const SENDINGS: [Sending; 27] = [
     (2, 105, 2, 64, 0, 103),
     (2, 106, 2, 64, 0, 103),
     (2, 106, 1, 64, 0, 103),
+];
+
+const VOTINGS: [Voting; 6] = [
+    // Each tributary does something else in each frame: plain, plain, stuffed, negative; then
+    // negative, plain, stuffed, plain.
+    (12, 5, 264, [0x06, 0x0C], 260),
+    (14, 5, 544, [0x06, 0x0C], 540),
+    // Refused with 5: the earlier vote, naming frame 0, and a note.
+    (12, 16, 264, [0x06, 0x0C], 260),
+    (14, 16, 544, [0x06, 0x0C], 540),
+    (12, 5, 264, [0x06, 0x10], 260),
+    (14, 5, 544, [0x06, 0x10], 540),
 ];
 
 const RECEIVINGS: [Receiving; 10] = [
@@ -274,13 +289,31 @@ fn counted(answer: &Counted, bytes: &[u8]) -> String {
 fn sending((level, line, notes, note, from, buffer): Sending) {
     let mut bytes = vec![BEFORE; line];
     let list: Vec<u8> = (0..notes).map(|k| if k < from { 0 } else { note }).collect();
-    let quarters: Vec<u8> = (0..buffer).map(|i| (i % 256) as u8).collect();
+    let quarters = count_up(buffer);
     let with =
         format!("level {level} line {line} notes {notes} note {note} from {from} buffer {buffer}");
-    let answer = multiplex(level, &mut bytes, &list, &quarters);
-    println!("multiplex {with}: {}", counted(&answer, &bytes));
-    let mut back = vec![BEFORE; buffer];
-    let answer = extract(level, &bytes, &list, &mut back);
+    there_and_back(&with, level, 0, &mut bytes, &list, &quarters);
+}
+
+fn voting((level, earlier, line, notes, buffer): Voting) {
+    let [one, two] = notes;
+    let with =
+        format!("level {level} earlier {earlier} line {line} notes {one} {two} buffer {buffer}");
+    there_and_back(&with, level, earlier, &mut vec![BEFORE; line], &notes, &count_up(buffer));
+}
+
+fn there_and_back(
+    with: &str,
+    level: u64,
+    earlier: u64,
+    line: &mut [u8],
+    notes: &[u8],
+    quarters: &[u8],
+) {
+    let answer = multiplex(level, earlier, line, notes, quarters);
+    println!("multiplex {with}: {}", counted(&answer, line));
+    let mut back = vec![BEFORE; quarters.len()];
+    let answer = extract(level, earlier, line, notes, &mut back);
     println!("extract {with}: {}", counted(&answer, &back));
 }
 
@@ -296,7 +329,7 @@ fn receiving((level, line, fill, notes, buffer): Receiving) {
         counts(answer.dissent),
         sum(&list),
     );
-    let answer = extract(level, &bytes, &list, &mut quarters);
+    let answer = extract(level, 0, &bytes, &list, &mut quarters);
     println!("extract {with} buffer {buffer}: {}", counted(&answer, &quarters));
 }
 
@@ -396,7 +429,7 @@ fn stretched((level, digits, zeros, few, alarm, fill, first, count): Stretched) 
 /// the frame's 106 bytes.
 fn case_11(size: u64) {
     let mut line = [0; 106];
-    multiplex(2, &mut line, &[0], &[0; 104]);
+    multiplex(2, 0, &mut line, &[0], &[0; 104]);
     let four = line.repeat(4);
     let (mut state, mut first) = (fresh(2).1, 0);
     while first < 3392 {
@@ -413,7 +446,7 @@ fn case_11(size: u64) {
 /// The capture of case 1 without a label: all its bytes.
 fn example() {
     let (mut line, mut file) = ([0; 106], [0; 113]);
-    multiplex(2, &mut line, &[0], &[0; 104]);
+    multiplex(2, 0, &mut line, &[0], &[0; 104]);
     let answer = write_capture(2, &line, None, &mut file);
     let bytes: String = file.iter().map(|byte| format!(" {byte}")).collect();
     println!("case 1 kept: refusal {} bytes {}{bytes}", answer.refusal, answer.bytes);
@@ -494,6 +527,7 @@ fn making((m, n, s, x, signal, at, other): Making) {
 
 fn main() {
     SENDINGS.into_iter().for_each(sending);
+    VOTINGS.into_iter().for_each(voting);
     RECEIVINGS.into_iter().for_each(receiving);
     FEEDINGS.into_iter().for_each(feeding);
     STRETCHES.into_iter().for_each(stretched);

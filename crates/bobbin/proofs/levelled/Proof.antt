@@ -5,12 +5,12 @@ use borrow.Author.Needs.{needs}
 use Rattle.bobbin.proofs.levelled.Statement.{statement}
 use Rattle.bobbin.proofs.levelled.Tie as tie
 
-started-requires : tie.Need-started-requires
-started-requires c κs = shared-row _ _ (sym (c .before .before .before .level-of .ensures) ∙ c .before .found .given .1)
+voted-requires : tie.Need-voted-requires
+voted-requires c κs = shared-row _ _ (sym (c .before .before .before .level-of .ensures) ∙ c .before .found .given .1)
 
 pub levelled-spec : {M : Type 1} → statement M
 levelled-spec =
     tie.close
     (tie.spec (λ c κs. search needs) (λ c. search needs) (λ c κs. search needs) (λ c. search needs) (λ c. search needs)
-    (λ c κs. search needs) (λ c κs. search needs) (λ c. search needs) started-requires (λ c. search needs) (λ c. search needs)
+    (λ c κs. search needs) (λ c κs. search needs) (λ c. search needs) voted-requires (λ c. search needs) (λ c. search needs)
     (λ c. search needs) (λ c κs. search needs) (λ c. search needs) (λ c. search needs))

@@ -11,10 +11,10 @@ use Rattle.extraction.proofs.extract_all.Statement.{statement}
 use Rattle.extraction.proofs.extract_all.Tie as tie
 
 abbrev Inv-loop : tie.InvT-loop
-Inv-loop line notes buffer₀ q w counts₀ j₀ buffer counts j = (j ≤ 4) × Ended q w buffer₀ j counts buffer
+Inv-loop earlier line notes buffer₀ q w counts₀ j₀ buffer counts j = (j ≤ 4) × Ended q w buffer₀ j counts buffer
 
 abbrev μ-loop : tie.MeasureT-loop
-μ-loop line notes buffer₀ q w counts₀ j₀ buffer counts j = 4 - j
+μ-loop earlier line notes buffer₀ q w counts₀ j₀ buffer counts j = 4 - j
 
 extract-frames-requires : tie.Need-extract-frames-requires Inv-loop μ-loop
 extract-frames-requires c κs =
@@ -30,14 +30,14 @@ mul-a c =
     let c1 = c .before in
     let c4 = c1 .before .before .before in
     let c11 = c4 .before .before .before .before .before .before .before in
-    omega (arith, c4 .extract-frames .kept .1 .1 .1 .1 .0, c11 .good .1 .1 .1 .0, quarter-inside (c1 .loop .inv .1) (omega (arith, c4 .extract-frames .ensures .size)) (c .loop-test .taken))
+    omega (arith, c4 .extract-frames .kept .1 .1 .1 .1 .1 .0, c11 .good .1 .1 .1 .1 .0, quarter-inside (c1 .loop .inv .1) (omega (arith, c4 .extract-frames .ensures .size)) (c .loop-test .taken))
 
 add-e : tie.Need-add-e Inv-loop μ-loop
 add-e c =
     let c1 = c .before in
     let c4 = c1 .before .before .before in
     let c11 = c4 .before .before .before .before .before .before .before in
-    omega (arith, c4 .extract-frames .kept .1 .1 .1 .1 .0, c11 .good .1 .1 .1 .0, quarter-inside (c1 .loop .inv .1) (omega (arith, c4 .extract-frames .ensures .size)) (c .loop-test .taken))
+    omega (arith, c4 .extract-frames .kept .1 .1 .1 .1 .1 .0, c11 .good .1 .1 .1 .1 .0, quarter-inside (c1 .loop .inv .1) (omega (arith, c4 .extract-frames .ensures .size)) (c .loop-test .taken))
 
 sub-finish-quarter : tie.Need-sub-finish-quarter Inv-loop μ-loop
 sub-finish-quarter c = omega arith
@@ -93,7 +93,7 @@ same-length : tie.Need-same-length Inv-loop μ-loop
 same-length c =
     let c1 = c .before in
     let c4 = c1 .before .before .before in
-    c1 .loop .inv .1 .size ∙ c4 .extract-frames .kept .1 .1 .1 .1 .0
+    c1 .loop .inv .1 .size ∙ c4 .extract-frames .kept .1 .1 .1 .1 .1 .0
 
 returns : tie.Need-returns Inv-loop μ-loop
 returns c =

@@ -16,21 +16,22 @@ number : {f g : Fault} → f ≡ g → f .refusal ≡ g .refusal
 number e = ap (λ (found : Fault). found .refusal) e
 
 -- the buffer that is extracted
-abbrev buffer : Row → List ℕ → List ℕ → List ℕ → List ℕ
-buffer row line notes old = quartersFrom row notes line (length old / 4)
+abbrev buffer : Row → ℕ → List ℕ → List ℕ → List ℕ → List ℕ
+buffer row earlier line notes old = quartersFrom row earlier notes line (length old / 4)
 
 returns : tie.Need-returns
 returns c =
     let a = c .before .before .before .before .before .before .before .args in
     let f = c .before .before .before .fault-of .ensures in
-    let both = refused-kept (a .row) (length (a .line .now)) (a .notes .now) (length (a .buffer .now)) (buffer (a .row) (a .line .now) (a .notes .now) (a .buffer .now)) (a .buffer .now)
+    let new = buffer (a .row) (a .earlier) (a .line .now) (a .notes .now) (a .buffer .now) in
+    let both = refused-kept (a .row) (a .earlier) (length (a .line .now)) (a .notes .now) (length (a .buffer .now)) new (a .buffer .now)
     (λ z. c .before .if1 .taken (number f ∙ z)) in
     (c .refused .ensures ∙ ap refusedWith f ∙ both .0, both .1)
 
 extract-all-requires : tie.Need-extract-all-requires
 extract-all-requires c κs =
     let b = c .before .before .before .before .before .before .before in
-    (b .pre, faultless _ _ _ _ (sym (number (c .before .before .before .fault-of .ensures)) ∙ c .before .if1 .left) .0)
+    (b .pre, faultless _ _ _ _ _ (sym (number (c .before .before .before .fault-of .ensures)) ∙ c .before .if1 .left) .0)
 
 returns-2 : tie.Need-returns-2
 returns-2 c =
@@ -38,7 +39,8 @@ returns-2 c =
     let a = c6 .before .before .before .before .args in
     let all = c .before .before .extract-all in
     let z = sym (number (c6 .fault-of .ensures)) ∙ c .before .before .before .before .if1 .left in
-    let both = accepted-new (a .row) (length (a .line .now)) (a .notes .now) (length (a .buffer .now)) (buffer (a .row) (a .line .now) (a .notes .now) (a .buffer .now)) (a .buffer .now)
+    let new = buffer (a .row) (a .earlier) (a .line .now) (a .notes .now) (a .buffer .now) in
+    let both = accepted-new (a .row) (a .earlier) (length (a .line .now)) (a .notes .now) (length (a .buffer .now)) new (a .buffer .now)
     (all .result) z (all .ensures .0) in
     (both .0, rw (all .ensures .1) (both .1))
 

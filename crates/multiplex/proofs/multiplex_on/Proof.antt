@@ -17,21 +17,22 @@ number : {f g : Fault} → f ≡ g → f .refusal ≡ g .refusal
 number e = ap (λ (found : Fault). found .refusal) e
 
 -- the line that is sent
-abbrev line : Row → List ℕ → List ℕ → List ℕ → List ℕ
-line row old notes buffer = lineOf row notes (tributaryOf buffer) (length old)
+abbrev line : Row → ℕ → List ℕ → List ℕ → List ℕ → List ℕ
+line row earlier old notes buffer = lineOf row earlier notes (tributaryOf buffer) (length old)
 
 returns : tie.Need-returns
 returns c =
     let a = c .before .before .before .before .before .before .before .args in
     let f = c .before .before .before .fault-of .ensures in
-    let both = refused-kept (a .row) (length (a .line .now)) (a .notes .now) (length (a .buffer .now)) (line (a .row) (a .line .now) (a .notes .now) (a .buffer .now)) (a .line .now)
+    let new = line (a .row) (a .earlier) (a .line .now) (a .notes .now) (a .buffer .now) in
+    let both = refused-kept (a .row) (a .earlier) (length (a .line .now)) (a .notes .now) (length (a .buffer .now)) new (a .line .now)
     (λ z. c .before .if1 .taken (number f ∙ z)) in
     (c .refused .ensures ∙ ap refusedWith f ∙ both .0, both .1)
 
 send-frames-requires : tie.Need-send-frames-requires
 send-frames-requires c κs =
     let b = c .before .before .before .before .before .before .before in
-    (b .pre, faultless _ _ _ _ (sym (number (c .before .before .before .fault-of .ensures)) ∙ c .before .if1 .left) .0)
+    (b .pre, faultless _ _ _ _ _ (sym (number (c .before .before .before .fault-of .ensures)) ∙ c .before .if1 .left) .0)
 
 returns-2 : tie.Need-returns-2
 returns-2 c =
@@ -39,7 +40,8 @@ returns-2 c =
     let a = c6 .before .before .before .before .args in
     let all = c .before .before .send-frames in
     let z = sym (number (c6 .fault-of .ensures)) ∙ c .before .before .before .before .if1 .left in
-    let both = accepted-new (a .row) (length (a .line .now)) (a .notes .now) (length (a .buffer .now)) (line (a .row) (a .line .now) (a .notes .now) (a .buffer .now)) (a .line .now)
+    let new = line (a .row) (a .earlier) (a .line .now) (a .notes .now) (a .buffer .now) in
+    let both = accepted-new (a .row) (a .earlier) (length (a .line .now)) (a .notes .now) (length (a .buffer .now)) new (a .line .now)
     (all .result) z (all .ensures .counted) in
     (both .0, rw (all .ensures .line) (both .1))
 

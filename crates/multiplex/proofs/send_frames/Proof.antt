@@ -12,17 +12,17 @@ use Rattle.multiplex.proofs.send_frames.Statement.{statement}
 use Rattle.multiplex.proofs.send_frames.Tie as tie
 
 abbrev Inv-loop : tie.InvT-loop
-Inv-loop row line₀ notes buffer table next₀ w₀ f₀ line next w f =
-    (f ≤ length notes) × (table ≡ tab 256 0 (spreadOf 8)) × (length line ≡ length line₀) × Sending row notes buffer (f * row .digits) line w next
+Inv-loop row earlier line₀ notes buffer table next₀ w₀ f₀ line next w f =
+    (f ≤ length notes) × (table ≡ tab 256 0 (spreadOf 8)) × (length line ≡ length line₀) × Sending row earlier notes buffer (f * row .digits) line w next
 
 abbrev μ-loop : tie.MeasureT-loop
-μ-loop row line₀ notes buffer table next₀ w₀ f₀ line next w f = length notes - f
+μ-loop row earlier line₀ notes buffer table next₀ w₀ f₀ line next w f = length notes - f
 
 loop-holds : tie.Need-loop-holds Inv-loop μ-loop
 loop-holds c =
     let b = c .before .before .before .before .args in
     let pre = c .before .before .before .before .pre in
-    (omega arith, c .spread-table .ensures, refl, sending-start (b .row) (pre .0) (b .notes .now) (b .buffer .now) (b .line .now) (pre .1))
+    (omega arith, c .spread-table .ensures, refl, sending-start (b .row) (pre .0) (b .earlier) (b .notes .now) (b .buffer .now) (b .line .now) (pre .1))
 
 send-frame-requires : tie.Need-send-frame-requires Inv-loop μ-loop
 send-frame-requires c κs =
@@ -45,7 +45,7 @@ loop-again c =
     let test = c .before .before .before .before .before .before .loop-test in
     let l = c .before .before .before .before .before .before .before .loop in
     let send-frame = c .before .before .send-frame in
-    (omega (arith, test .taken), l .inv .1, send-frame .kept .1 .1 .0 ∙ l .inv .2, send-frame .ensures)
+    (omega (arith, test .taken), l .inv .1, send-frame .kept .1 .1 .1 .0 ∙ l .inv .2, send-frame .ensures)
 
 finish-requires : tie.Need-finish-requires Inv-loop μ-loop
 finish-requires c κs =
@@ -68,7 +68,7 @@ returns c =
     let b = c .before .before .before .before .before .before .before .before .before .before .args in
     let end : l .f ≡ length (b .notes .now) = omega (arith, l .inv .0, test .left) in
     let bytes : Bytes (finish .last .0) = λ i. omega (arith, c .slice-known3 .given i) in
-    all-sent (b .row) (pre .0) (b .notes .now) (b .buffer .now) (b .line .now) (pre .1) (l .line) _ (l .w) _ (l .next) (l .inv .2) (rw end at (l .inv .3))
+    all-sent (b .row) (pre .0) (b .earlier) (b .notes .now) (b .buffer .now) (b .line .now) (pre .1) (l .line) _ (l .w) _ (l .next) (l .inv .2) (rw end at (l .inv .3))
     (finish .ensures) (finish .kept .0) bytes
 
 pub send-frames-spec : {M : Type 1} → statement M

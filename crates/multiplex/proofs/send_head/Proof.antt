@@ -1,5 +1,6 @@
 -- `send_head`: the places so far as a number (Placing).
 use mathlib.Core.Path.{_≡_}
+use mathlib.Core.List.{_∷_}
 use Prim.Native.Nat.{_+_, _*_, _-_, _≤_, _<_}
 use native.Mathlib.Omega.{arith}
 use borrow.Author.Needs.{needs}
@@ -14,57 +15,62 @@ use Rattle.multiplex.proofs.send_head.Statement.{statement}
 use Rattle.multiplex.proofs.send_head.Tie as tie
 
 abbrev Inv-loop : tie.InvT-loop
-Inv-loop row line notes buffer next₀ w f set note end word₀ r₀ next word r =
-    (r ≤ end) × (end ≡ headEnd row set) × (note ≡ getD notes f 0) × Headed row notes buffer (f * row .digits + set * row .set) (outFrom 0 line w) r word next
+Inv-loop row earlier line notes buffer next₀ w f set note preceding end word₀ r₀ next word r =
+    (r ≤ end) × (end ≡ headEnd row set) × (note ≡ getD notes f 0) × (preceding ≡ getD (earlier ∷ notes) f 0)
+    × Headed row earlier notes buffer (f * row .digits + set * row .set) (outFrom 0 line w) r word next
 
 abbrev μ-loop : tie.MeasureT-loop
-μ-loop row line notes buffer next₀ w f set note end word₀ r₀ next word r = end - r
+μ-loop row earlier line notes buffer next₀ w f set note preceding end word₀ r₀ next word r = end - r
 
 note-of-requires : tie.Need-note-of-requires Inv-loop μ-loop
 note-of-requires c κs = c .before .before .before .pre .0
 
+preceding-of-requires : tie.Need-preceding-of-requires Inv-loop μ-loop
+preceding-of-requires c κs = c .before .before .before .before .pre .0
+
 head-end-requires : tie.Need-head-end-requires Inv-loop μ-loop
-head-end-requires c κs = c .before .before .before .before .pre .3 .fits .shared
+head-end-requires c κs = c .before .before .before .before .before .pre .3 .fits .shared
 
 loop-holds : tie.Need-loop-holds Inv-loop μ-loop
 loop-holds c =
-    let pre = c .before .before .before .before .before .pre in
-    (omega arith, c .head-end .ensures, c .before .note-of .ensures, headed-start _ _ _ _ _ _ (pre .3 .sent))
+    let pre = c .before .before .before .before .before .before .pre in
+    (omega arith, c .head-end .ensures, c .before .before .note-of .ensures, c .before .preceding-of .ensures, headed-start _ _ _ _ _ _ _ (pre .3 .sent))
 
 mul-word : tie.Need-mul-word Inv-loop μ-loop
 mul-word c =
-    let pre = c .before .before .before .before .before .before .before .pre in
-    let b = c .before .before .before .before .before .before .before .args in
+    let pre = c .before .before .before .before .before .before .before .before .pre in
+    let b = c .before .before .before .before .before .before .before .before .args in
     let l = c .before .loop in
-    omega (arith, l .inv .3 .few, pow-mono {i = l .r} {j = 16} (omega (arith, l .inv .0, l .inv .1, head-end-short _ (pre .3 .fits .shared) (b .set))))
+    omega (arith, l .inv .4 .few, pow-mono {i = l .r} {j = 16} (omega (arith, l .inv .0, l .inv .1, head-end-short _ (pre .3 .fits .shared) (b .set))))
 
 place-digit-requires : tie.Need-place-digit-requires Inv-loop μ-loop
 place-digit-requires c κs =
-    let pre = c .before .before .before .before .before .before .before .before .pre in
-    let note-of = c .before .before .before .before .note-of in
+    let pre = c .before .before .before .before .before .before .before .before .before .pre in
+    let note-of = c .before .before .before .before .before .note-of in
+    let preceding-of = c .before .before .before .before .preceding-of in
     let l = c .before .before .loop in
-    let b = c .before .before .before .before .before .before .before .before .args in
+    let b = c .before .before .before .before .before .before .before .before .before .args in
     let h = pre .3 in
     let inside : l .r < b .row .set = omega (arith, c .before .loop-test .taken, l .inv .1, head-end-in _ (h .fits .shared) (b .set)) in
     let rely =
     place-rely (b .row) (h .fits .shared) (b .f) (b .set) (l .r) (b .f * b .row .digits + b .set * b .row .set + l .r) (omega arith) (pre .1) inside
-    (b .notes .now) (note-of .result) (l .inv .2) _ _ (h .fits) (pre .0) (b .buffer .now) (l .next) _ (l .inv .3 .sent) in
-    (h .fits .shared, pre .2, l .inv .3 .sent .four, rely .0, rely .1)
+    (b .earlier) (b .notes .now) (preceding-of .result) (note-of .result) (l .inv .3) (l .inv .2) _ _ (h .fits) (pre .0) (b .buffer .now) (l .next) _ (l .inv .4 .sent) in
+    (h .fits .shared, pre .2, l .inv .4 .sent .four, rely .0, rely .1)
 
 add-word : tie.Need-add-word Inv-loop μ-loop
 add-word c =
-    let pre = c .before .before .before .before .before .before .before .before .before .before .pre in
-    let b = c .before .before .before .before .before .before .before .before .before .before .args in
+    let pre = c .before .before .before .before .before .before .before .before .before .before .before .pre in
+    let b = c .before .before .before .before .before .before .before .before .before .before .before .args in
     let l = c .before .before .before .before .loop in
     let short = head-end-short _ (pre .3 .fits .shared) (b .set) in
-    omega (arith, l .inv .3 .few, c .wide .ensures, c .before .place-digit .ensures .binary, pow-mono {i = l .r} {j = 16} (omega (arith, l .inv .0, l .inv .1, short)))
+    omega (arith, l .inv .4 .few, c .wide .ensures, c .before .place-digit .ensures .binary, pow-mono {i = l .r} {j = 16} (omega (arith, l .inv .0, l .inv .1, short)))
 
 add-r : tie.Need-add-r Inv-loop μ-loop
 add-r c =
     let test = c .before .before .before .loop-test in
     let l = c .before .before .before .before .loop in
-    let pre = c .before .before .before .before .before .before .before .before .before .before .pre in
-    let b = c .before .before .before .before .before .before .before .before .before .before .args in
+    let pre = c .before .before .before .before .before .before .before .before .before .before .before .pre in
+    let b = c .before .before .before .before .before .before .before .before .before .before .before .args in
     omega (arith, test .taken, l .inv .1, head-end-short _ (pre .3 .fits .shared) (b .set))
 
 loop-less : tie.Need-loop-less Inv-loop μ-loop
@@ -72,46 +78,48 @@ loop-less c = omega (arith, c .before .before .before .loop-test .taken)
 
 loop-again : tie.Need-loop-again Inv-loop μ-loop
 loop-again c =
-    let pre = c .before .before .before .before .before .before .before .before .before .before .pre in
+    let pre = c .before .before .before .before .before .before .before .before .before .before .before .pre in
     let test = c .before .before .before .loop-test in
-    let note-of = c .before .before .before .before .before .before .note-of in
+    let note-of = c .before .before .before .before .before .before .before .note-of in
+    let preceding-of = c .before .before .before .before .before .before .preceding-of in
     let l = c .before .before .before .before .loop in
-    let b = c .before .before .before .before .before .before .before .before .before .before .args in
+    let b = c .before .before .before .before .before .before .before .before .before .before .before .args in
     let h = pre .3 in
     let inside : l .r < b .row .set = omega (arith, test .taken, l .inv .1, head-end-in _ (h .fits .shared) (b .set)) in
     let sent =
     sent-place (b .row) (h .fits .shared) (b .f) (b .set) (l .r) (b .f * b .row .digits + b .set * b .row .set + l .r) (omega arith) (pre .1) inside
-    (b .notes .now) (note-of .result) (l .inv .2) (b .buffer .now) (l .next) _ _ _ (l .inv .3 .sent) (c .before .place-digit .ensures) in
-    (omega (arith, test .taken), l .inv .1, l .inv .2, rw (c .wide .ensures) (headed-more _ _ _ _ _ (l .r) (l .word) _ (l .next) _ (l .inv .3) (c .before .place-digit .ensures .binary) sent))
+    (b .earlier) (b .notes .now) (preceding-of .result) (note-of .result) (l .inv .3) (l .inv .2) (b .buffer .now) (l .next) _ _ _ (l .inv .4 .sent) (c .before .place-digit .ensures) in
+    let more = headed-more _ _ _ _ _ _ (l .r) (l .word) _ (l .next) _ (l .inv .4) (c .before .place-digit .ensures .binary) sent in
+    (omega (arith, test .taken), l .inv .1, l .inv .2, l .inv .3, rw (c .wide .ensures) more)
 
 put-requires : tie.Need-put-requires Inv-loop μ-loop
 put-requires c κs =
-    let pre = c .before .before .before .before .before .before .before .before .pre in
+    let pre = c .before .before .before .before .before .before .before .before .before .pre in
     let l = c .before .before .loop in
-    let b = c .before .before .before .before .before .before .before .before .args in
+    let b = c .before .before .before .before .before .before .before .before .before .args in
     let h = pre .3 in
     let end : l .r ≡ headEnd (b .row) (b .set) = omega (arith, l .inv .0, l .inv .1, c .before .loop-test .left) in
     let room = set-in-line _ _ _ _ (h .fits) (b .f) (b .set) (pre .0) (pre .1) in
     let most = head-end-short _ (h .fits .shared) (b .set) in
     let inside = head-end-in _ (h .fits .shared) (b .set) in
-    let few = l .inv .3 .few in
+    let few = l .inv .4 .few in
     (h .ready, omega (arith, l .inv .1, most), rw (l .inv .1, ← end) few, omega (arith, l .inv .1, h .place, room, inside))
 
 returns : tie.Need-returns Inv-loop μ-loop
 returns c =
     let head-end = c .before .before .before .before .before .before .head-end in
     let test = c .before .before .before .before .loop-test in
-    let pre = c .before .before .before .before .before .before .before .before .before .before .before .pre in
+    let pre = c .before .before .before .before .before .before .before .before .before .before .before .before .pre in
     let l = c .before .before .before .before .before .loop in
-    let b = c .before .before .before .before .before .before .before .before .before .before .before .args in
+    let b = c .before .before .before .before .before .before .before .before .before .before .before .before .args in
     let end : l .r ≡ head-end .result = omega (arith, l .inv .0, test .left) in
     let put = c .before .before .put in
-    let sent = head-sent _ _ _ _ (head-end .result) (l .word) _ _ _ _ _ (l .next) (pre .3) (put .ensures) (put .kept .0) (rw end at (l .inv .3)) in
+    let sent = head-sent _ _ _ _ _ (head-end .result) (l .word) _ _ _ _ _ (l .next) (pre .3) (put .ensures) (put .kept .0) (rw end at (l .inv .4)) in
     let e : b .f * b .row .digits + (b .set * b .row .set + headEnd (b .row) (b .set)) ≡ b .f * b .row .digits + b .set * b .row .set + head-end .result = omega (arith, head-end .ensures) in
     rw e sent
 
 pub send-head-spec : {M : Type 1} → statement M
 send-head-spec =
     tie.close
-    (tie.spec Inv-loop μ-loop note-of-requires head-end-requires loop-holds mul-word place-digit-requires (λ c κs. search needs) add-word
-    add-r loop-less loop-again put-requires (λ c. search needs) returns)
+    (tie.spec Inv-loop μ-loop note-of-requires preceding-of-requires head-end-requires loop-holds mul-word place-digit-requires
+    (λ c κs. search needs) add-word add-r loop-less loop-again put-requires (λ c. search needs) returns)

@@ -27,14 +27,14 @@ send-run-requires c κs =
     let send-head = c .before .before .before .before .before .before .send-head in
     let head-end = c .before .before .before .head-end in
     let b = c .before .before .before .before .before .before .before .before .before .before .before .before .args in
-    let room = run-in-line (b .row) (b .notes .now) (b .buffer .now) (b .f) (b .set) (pre .1) (pre .2) _ _ _ (send-head .ensures) _
+    let room = run-in-line (b .row) (b .earlier) (b .notes .now) (b .buffer .now) (b .f) (b .set) (pre .1) (pre .2) _ _ _ (send-head .ensures) _
     (ap (λ (h : ℕ). (b .row .set - h) / 4) (head-end .ensures)) in
-    let has = run-has (b .row) (b .notes .now) (b .buffer .now) (b .f) (b .set) (pre .1) (pre .2) _ _ _ (send-head .ensures) _
+    let has = run-has (b .row) (b .earlier) (b .notes .now) (b .buffer .now) (b .f) (b .set) (pre .1) (pre .2) _ _ _ (send-head .ensures) _
     (ap (λ (h : ℕ). (b .row .set - h) / 4) (head-end .ensures)) in
     (pre .0, send-head .ensures .ready, room, pre .3, has)
 
 same-length : tie.Need-same-length
-same-length c = c .before .before .send-run .kept .1 .0 ∙ c .before .before .before .before .before .before .before .before .before .send-head .kept .1 .0
+same-length c = c .before .before .send-run .kept .1 .0 ∙ c .before .before .before .before .before .before .before .before .before .send-head .kept .1 .1 .0
 
 returns : tie.Need-returns
 returns c =
@@ -43,7 +43,7 @@ returns c =
     let head-end = c .before .before .before .before .before .before .head-end in
     let send-run = c .before .before .send-run in
     let b = c .before .before .before .before .before .before .before .before .before .before .before .before .before .before .before .args in
-    run-sent (b .row) (b .notes .now) (b .buffer .now) (b .f) (b .set) (pre .1) (pre .2) _ _ _ (send-head .ensures) _
+    run-sent (b .row) (b .earlier) (b .notes .now) (b .buffer .now) (b .f) (b .set) (pre .1) (pre .2) _ _ _ (send-head .ensures) _
     (ap (λ (h : ℕ). (b .row .set - h) / 4) (head-end .ensures)) _ _ _ (send-run .ensures) (send-run .kept .1 .0)
 
 pub send-set-spec : {M : Type 1} → statement M

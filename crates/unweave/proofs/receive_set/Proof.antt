@@ -5,7 +5,7 @@ use lib.ListN.{length-append}
 use Rattle.digits.specs.Digits.{digitsOf}
 use Rattle.levels.specs.Places.{headEnd}
 use Rattle.levels.proofs.Runs.{head-end-in, head-end-short}
-use Rattle.unweave.specs.Lanes.{runDigits, headDigits}
+use Rattle.unweave.specs.Lanes.{runDigits, actsBy, headDigits}
 use Rattle.unweave.proofs.Four.{roomy-less, roomy-after, grown-more}
 use Rattle.unweave.proofs.Runs.{picked-length, set-short}
 use borrow.Author.Needs.{needs}
@@ -16,6 +16,7 @@ receive-head-requires : tie.Need-receive-head-requires
 receive-head-requires c κs =
     let c4 = c .before .before .before .before in
     let ds = digitsOf (c4 .args .line .now) in
+    let acts = actsBy (c4 .args .row) (c4 .args .preceding) (c4 .args .note) in
     let end = headEnd (c4 .args .row) (c4 .args .s) in
     let run = (c4 .args .row .set - end) / 4 in (
       c4 .pre .1,
@@ -23,7 +24,7 @@ receive-head-requires c κs =
       c4 .pre .3,
       c4 .pre .4,
       roomy-less _ (c4 .pre .5)
-          (λ j h. omega (arith, length-append (headDigits (c4 .args .row) ds (c4 .args .p) (c4 .args .s) (c4 .args .note) j) (runDigits ds (c4 .args .p + end) run j))),
+          (λ j h. omega (arith, length-append (headDigits (c4 .args .row) ds (c4 .args .p) (c4 .args .s) acts j) (runDigits ds (c4 .args .p + end) run j))),
     )
 
 add-receive-columns : tie.Need-add-receive-columns
@@ -45,13 +46,13 @@ receive-columns-requires c κs =
     let c9 = c6 .before .before .before in
     let ds = digitsOf (c9 .args .line .now) in
     let end = headEnd (c9 .args .row) (c9 .args .s) in
-    let head = headDigits (c9 .args .row) ds (c9 .args .p) (c9 .args .s) (c9 .args .note) in
+    let head = headDigits (c9 .args .row) ds (c9 .args .p) (c9 .args .s) (actsBy (c9 .args .row) (c9 .args .preceding) (c9 .args .note)) in
     let run = (c9 .args .row .set - end) / 4 in
     rw (c6 .head-end .ensures) (
       c9 .pre .0,
       omega (arith, c9 .pre .2, head-end-in (c9 .args .row) (c9 .pre .1) (c9 .args .s)),
       omega (arith, c9 .pre .3, head-end-in (c9 .args .row) (c9 .pre .1) (c9 .args .s), set-short (c9 .args .row) (c9 .pre .1)),
-      omega (arith, c9 .pre .4, c4 .receive-head .kept .1 .1 .1 .1 .1 .0),
+      omega (arith, c9 .pre .4, c4 .receive-head .kept .1 .1 .1 .1 .1 .1 .0),
       roomy-after (λ (j : ℕ). run) (c4 .receive-head .ensures) (c9 .pre .5)
           (λ j h. omega (arith, length-append (head j) (runDigits ds (c9 .args .p + end) run j), picked-length run ds (c9 .args .p + end + j))),
     )

@@ -59,10 +59,14 @@ fn takes(name: &str, row: &Row, line: &[u8]) -> Case {
 }
 
 /// The calls are made on up to 64 frames: so many bytes have their four quarters.
-fn agree(name: &str, row: &Row, line: &[u8]) -> Case {
+pub fn compared(row: &Row, line: &[u8]) -> [usize; 3] {
     let runs = line.chunks(MOST_FRAMES as usize * row.frame_bytes());
     let quarters = runs.map(|run| 4 * room(row, run.len() / row.frame_bytes()));
-    let compared = [line.len() / row.frame_bytes(), quarters.sum(), line.len()];
+    [line.len() / row.frame_bytes(), quarters.sum(), line.len()]
+}
+
+fn agree(name: &str, row: &Row, line: &[u8]) -> Case {
+    let compared = compared(row, line);
     Case::new(&format!("agree-{}-{name}", row.level))
         .file("line", line)
         .accepted(words(&format!("agree {} line", row.level)), &texts::agree(row, compared))

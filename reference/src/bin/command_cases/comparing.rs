@@ -96,9 +96,11 @@ fn named(place: Place) -> String {
     match place {
         Place::Word(_) => "alignment word".into(),
         Place::RemoteAlarm => "remote alarm".into(),
-        Place::National(_) => "national".into(),
+        Place::National(_) | Place::Service => "national".into(),
         Place::Control(j) => format!("control, tributary {}", j + 1),
-        Place::Justification(j) => format!("justification, tributary {}", j + 1),
+        Place::Negative(j) | Place::Justification(j) => {
+            format!("justification, tributary {}", j + 1)
+        }
         Place::Tributary(j) => format!("ordinary, tributary {}", j + 1),
     }
 }

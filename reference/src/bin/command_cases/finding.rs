@@ -87,9 +87,9 @@ fn long_way(row: &'static Row) -> Vec<Case> {
     let stream = Stream::new(row, row.level).junk(1237).good(70).wrong(3).good(5).wrong(4);
     let stream = stream.good(14).ones_after_word().good(2).ones(2 * n);
     let (stream, mode) = match row.level {
-        2 => (stream.good(1).short_by(n / 2), 3),
         3 => (stream.wrong(1).short_by(n / 2), 6),
-        _ => (stream.good(1).short_by(n - 7), 5),
+        4 => (stream.good(1).short_by(n - 7), 5),
+        _ => (stream.good(1).short_by(n / 2), 3),
     };
     let finding = Finding::of(row, stream.bytes());
     let found = &finding.found;

@@ -1,14 +1,14 @@
 //! Notes, tributaries and lines.
 
-use crate::worked;
+use crate::worked::{self, NONE_BEFORE};
 use reference::digits::{pack, unpack};
-use reference::frame::{layout, stuffed, Place};
-use reference::level::{row, Row};
+use reference::frame::{layout, stuffed, Action, Place};
+use reference::level::{row, Row, LEVELS};
 use reference::random::Random;
 
-/// The rows of the three levels.
-pub fn levels() -> [&'static Row; 3] {
-    [2, 3, 4].map(level)
+/// The rows of all levels.
+pub fn levels() -> [&'static Row; 5] {
+    LEVELS.map(level)
 }
 
 pub fn level(level: u64) -> &'static Row {
@@ -17,7 +17,7 @@ pub fn level(level: u64) -> &'static Row {
 
 /// The bits of a note for which the level has a digit.
 pub fn known_bits(row: &Row) -> u8 {
-    ((1_u32 << (5 + row.national_digits)) - 1) as u8
+    ((1_u32 << row.note_bits()) - 1) as u8
 }
 
 /// Notes in which tributaries 1 and 3 are stuffed in turn, and all else is random.
@@ -30,14 +30,21 @@ pub fn notes(row: &Row, frames: usize, seed: u64) -> Vec<u8> {
 
 /// The bytes of a quarter for so many frames.
 pub fn room(row: &Row, frames: usize) -> usize {
-    (frames * row.tributary_digits + 7) / 8
+    (frames * row.most_digits() + 7) / 8
 }
 
 /// Exactly the digits that the notes ask for, random ones, and then zeros.
 pub fn tributaries(row: &Row, notes: &[u8], seed: u64) -> Vec<u8> {
+    tributaries_after(row, NONE_BEFORE, notes, seed)
+}
+
+/// The same where these are the votes before the first frame.
+pub fn tributaries_after(row: &Row, before: u8, notes: &[u8], seed: u64) -> Vec<u8> {
     let mut random = Random::new(seed);
-    let most = notes.len() * row.tributary_digits;
-    let digits = worked::stuffed(notes).map(|stuffed| random.digits(most - stuffed));
+    let usual = notes.len() * row.tributary_digits;
+    let frames = |action| worked::frames(row, before, notes, action);
+    let (stuffed, negative) = (frames(Action::Stuffed), frames(Action::Negative));
+    let digits = [0, 1, 2, 3].map(|j| random.digits(usual + negative[j] - stuffed[j]));
     worked::quarters(&digits, room(row, notes.len()))
 }
 
@@ -47,7 +54,8 @@ pub fn line(row: &Row, notes: &[u8], seed: u64) -> Vec<u8> {
 }
 
 /// The line with wrong digits that leave every decision as it is: up to two alignment
-/// digits of a frame, fewer than half of a control group, and any stuffing digit.
+/// digits of a frame, fewer than half of a control group, and any digit of a justification
+/// place that the frame's own vote says is stuffing.
 pub fn damaged(row: &Row, line: &[u8], seed: u64) -> Vec<u8> {
     let mut random = Random::new(seed);
     let frames = line.chunks(row.frame_bytes());
@@ -61,7 +69,8 @@ fn damaged_frame(row: &Row, frame: &[u8], random: &mut Random) -> Vec<u8> {
     }
     for j in 0..4 {
         let group = places(row, Place::Control(j));
-        if stuffed(&group.iter().map(|&place| digits[place]).collect::<Vec<u8>>()) {
+        let own = stuffed(&group.iter().map(|&place| digits[place]).collect::<Vec<u8>>());
+        if own && !row.negative_places {
             digits[places(row, Place::Justification(j))[0]] = random.digit();
         }
         let first = random.index(group.len());

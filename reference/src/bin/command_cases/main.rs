@@ -33,6 +33,7 @@ mod stream;
 mod taking;
 mod texts;
 mod trips;
+mod voting;
 mod watching;
 mod worked;
 
@@ -62,6 +63,7 @@ fn main() -> io::Result<()> {
     cases.extend(hunting::cases());
     cases.extend(approving::cases());
     cases.extend(trips::cases());
+    cases.extend(voting::cases());
     cases.extend(calling::cases());
     let mut list = String::new();
     for (k, case) in cases.iter().enumerate() {

@@ -5,30 +5,49 @@
 use crate::case::{words, Case, OLD};
 use crate::inputs::{level, levels};
 use crate::texts;
+use crate::worked::NONE_BEFORE;
 use reference::frame::{fill, layout, Place, Waiting};
 use reference::level::Row;
 
 const NOTED: [(u64, &str); 8] =
     [(2, "00"), (2, "3F"), (2, "15"), (3, "01"), (3, "2a"), (4, "00"), (4, "FF"), (4, "a6")];
 
-const DRAWN: [&str; 4] = ["2", "2 2A", "3 15", "4 c3"];
+/// The level, the vote before the frame, and its note.
+const VOTED: [(u64, &str, &str); 6] = [
+    (12, "0", "00"),
+    (12, "F", "0F"),
+    (12, "3", "05"),
+    (14, "03", "05"),
+    (14, "0", "0c"),
+    (14, "a", "00"),
+];
+
+const DRAWN: [&str; 8] =
+    ["2", "2 2A", "3 15", "4 c3", "12", "14", "12:3 05", "14:5 0A"];
 
 pub fn cases() -> Vec<Case> {
     let mut cases = Vec::new();
     for row in levels() {
         let command = format!("frame {}", row.level);
         cases.push(
-            Case::new(&command.replace(' ', "-")).accepted(words(&command), &picture(row, None)),
+            Case::new(&command.replace(' ', "-")).accepted(words(&command), &picture(row, NONE_BEFORE, None)),
         );
     }
     for (number, note) in NOTED {
         let command = format!("frame {number} {note}");
         let value = u8::from_str_radix(note, 16).expect("two hexadecimal digits");
-        let text = picture(level(number), Some(value));
+        let text = picture(level(number), NONE_BEFORE, Some(value));
         cases.push(Case::new(&command.replace(' ', "-")).accepted(words(&command), &text));
     }
+    for (number, vote, note) in VOTED {
+        let command = format!("frame {number}:{vote} {note}");
+        let value = |word| u8::from_str_radix(word, 16).expect("hexadecimal digits");
+        let text = picture(level(number), value(vote), Some(value(note)));
+        let name = command.replace(' ', "-").replace(':', "-after-");
+        cases.push(Case::new(&name).accepted(words(&command), &text));
+    }
     for drawn in DRAWN {
-        cases.push(draws(&format!("frame-{}-svg", drawn.replace(' ', "-")), drawn));
+        cases.push(draws(&format!("frame-{}-svg", drawn.replace([' ', ':'], "-")), drawn));
     }
     cases.push(draws("frame-4-svg-over-an-older-file", "4").had("picture.svg", OLD));
     cases.extend(failing());
@@ -47,6 +66,9 @@ fn failing() -> Vec<Case> {
         // The words of this refusal are left to the program: no file is named here.
         Case::new("frame-2-no-such-digit").like(words("frame 2 40"), 1, &[], "^refused 5: "),
         Case::new("frame-3-no-such-digit").like(words("frame 3 80"), 1, &[], "^refused 5: "),
+        Case::new("frame-12-no-such-bit").like(words("frame 12 10"), 1, &[], "^refused 5: "),
+        Case::new("frame-14-no-such-bit").like(words("frame 14 80"), 1, &[], "^refused 5: "),
+        Case::new("frame-14-no-such-vote").fails(words("frame 14:10 00"), &texts::no_vote("14:10")),
         Case::new("frame-svg-in-no-folder").fails(
             words("frame 2 none/picture.svg"),
             &texts::cannot("none/picture.svg", "written"),
@@ -66,13 +88,17 @@ fn failing() -> Vec<Case> {
 
 /// The text picture of a frame: a line for each set, and in it the runs of places of one
 /// kind. With a note it also says what stands there.
-fn picture(row: &Row, note: Option<u8>) -> String {
+fn picture(row: &Row, before: u8, note: Option<u8>) -> String {
     let places = layout(row);
     let zeros = Waiting::from(vec![0; row.tributary_digits]);
-    let digits = note.map(|note| fill(row, note, &mut vec![zeros; 4]));
+    let digits = note.map(|note| fill(row, before, note, &mut vec![zeros; 4]));
+    let more = match row.negative_places {
+        true => ", one more where its negative place carries one",
+        false => "",
+    };
     let mut text = format!(
         "Level {}: a frame of {} digits, places 0 on, in {} sets; each tributary has {} \
-         digits, one fewer where stuffed.",
+         digits, one fewer where stuffed{more}.",
         row.level, row.frame_digits, row.sets, row.tributary_digits
     );
     let mut first = 0;
@@ -83,7 +109,7 @@ fn picture(row: &Row, note: Option<u8>) -> String {
         } else {
             text += ", ";
         }
-        text += &run(&places[first..end], first);
+        text += &run(row, &places[first..end], first);
         if let Some(digits) = &digits {
             text += &values(places[first], &digits[first..end]);
         }
@@ -107,21 +133,28 @@ fn name(place: Place) -> &'static str {
         Place::Word(_) => "alignment word",
         Place::RemoteAlarm => "remote alarm",
         Place::National(_) => "national",
+        Place::Service => "service",
         Place::Control(_) => "control",
+        Place::Negative(_) => "negative justification",
         Place::Justification(_) => "justification",
         Place::Tributary(_) => "tributary digits in turn",
     }
 }
 
 /// The numbers of a run's places, its name, and the tributaries that it has in turn.
-fn run(places: &[Place], first: usize) -> String {
+fn run(row: &Row, places: &[Place], first: usize) -> String {
     let mut text = first.to_string();
     if places.len() > 1 {
         text += &format!("-{}", first + places.len() - 1);
     }
-    text += &format!(" {}", name(places[0]));
+    let sign = match places[0] {
+        Place::Justification(_) if row.negative_places => "positive ",
+        _ => "",
+    };
+    text += &format!(" {sign}{}", name(places[0]));
     let owner = |place: &Place| match *place {
-        Place::Control(j) | Place::Justification(j) | Place::Tributary(j) => Some(j),
+        Place::Control(j) | Place::Negative(j) => Some(j),
+        Place::Justification(j) | Place::Tributary(j) => Some(j),
         _ => None,
     };
     for j in places.iter().filter_map(owner).take(4) {
@@ -135,7 +168,7 @@ fn run(places: &[Place], first: usize) -> String {
 fn values(kind: Place, digits: &[u8]) -> String {
     let list: String = match kind {
         Place::Tributary(_) => return String::new(),
-        Place::Justification(_) => {
+        Place::Negative(_) | Place::Justification(_) => {
             digits.iter().map(|&digit| if digit == 1 { " stuffing" } else { " digit" }).collect()
         }
         _ => " ".chars().chain(digits.iter().map(|&digit| char::from(b'0' + digit))).collect(),

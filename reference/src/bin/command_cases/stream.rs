@@ -1,6 +1,7 @@
 //! A recording for find, put together piece by piece.
 
 use crate::inputs::known_bits;
+use crate::worked::NONE_BEFORE;
 use reference::digits::pack;
 use reference::frame::{fill, Waiting};
 use reference::level::Row;
@@ -10,11 +11,13 @@ pub struct Stream {
     row: &'static Row,
     random: Random,
     digits: Vec<u8>,
+    /// The votes of the last frame.
+    before: u8,
 }
 
 impl Stream {
     pub fn new(row: &'static Row, seed: u64) -> Stream {
-        Stream { row, random: Random::new(seed), digits: Vec::new() }
+        Stream { row, random: Random::new(seed), digits: Vec::new(), before: NONE_BEFORE }
     }
 
     pub fn junk(mut self, count: usize) -> Stream {
@@ -53,7 +56,8 @@ impl Stream {
     }
 
     /// A frame whose digits are all 1 but for its word.
-    pub fn ones_after_word(self) -> Stream {
+    pub fn ones_after_word(mut self) -> Stream {
+        self.before = 0b1111;
         let count = self.row.frame_digits - self.row.word_length();
         self.word().ones(count)
     }
@@ -76,8 +80,10 @@ impl Stream {
 
     fn frame(&mut self) -> Vec<u8> {
         let note = self.random.bytes(1)[0] & known_bits(self.row);
-        let count = self.row.tributary_digits;
+        let count = self.row.most_digits();
         let mut waiting: Vec<Waiting> = (0..4).map(|_| self.random.digits(count).into()).collect();
-        fill(self.row, note, &mut waiting)
+        let frame = fill(self.row, self.before, note, &mut waiting);
+        self.before = note;
+        frame
     }
 }

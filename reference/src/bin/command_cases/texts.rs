@@ -1,26 +1,30 @@
 //! The exact words of the program.
 
 use crate::inputs::room;
-use crate::worked::{Counts, Event, Found, Taken};
+use crate::worked::{take_after, Counts, Event, Found, Taken, NONE_BEFORE};
 use reference::digits::unpack;
-use reference::frame;
+use reference::frame::{self, Action};
 use reference::level::{row, Row, MOST_FRAMES};
 use reference::read_capture;
 
-/// A line for each tributary: its digits, and the frames in which it is stuffed.
-fn table(counts: &Counts) -> String {
-    let mut text = format!("{:>9}{:>14}{:>13}\n", "tributary", "digits", "stuffed");
+/// A line for each tributary: its digits, the frames in which it is stuffed, and where the
+/// level has negative places, those in which one carries a digit.
+fn table(row: &Row, counts: &Counts) -> String {
+    let negative = |text: String| if row.negative_places { text } else { String::new() };
+    let mut text = format!("{:>9}{:>14}{:>13}", "tributary", "digits", "stuffed");
+    text += &(negative(format!("{:>13}", "negative")) + "\n");
     for j in 0..4 {
-        text += &format!("{:>9}{:>14}{:>13}\n", j + 1, counts.digits[j], counts.stuffed[j]);
+        text += &format!("{:>9}{:>14}{:>13}", j + 1, counts.digits[j], counts.stuffed[j]);
+        text += &(negative(format!("{:>13}", counts.negative[j])) + "\n");
     }
     text
 }
 
 /// The same of frames taken apart, whose votes may have dissenting digits; then the words.
-fn table_and_errors(taken: &Taken) -> String {
+fn table_and_errors(row: &Row, taken: &Taken) -> String {
     let dissent = taken.dissent.map(|digits| format!("{digits:>13}"));
     let columns = ["      dissent".into()].into_iter().chain(dissent);
-    let rows = table(&taken.counts);
+    let rows = table(row, &taken.counts);
     let mut text: String =
         rows.lines().zip(columns).map(|(row, column)| format!("{row}{column}\n")).collect();
     text += &format!("alignment digits wrong: {}\n", taken.alignment);
@@ -32,12 +36,12 @@ pub fn written(paths: &[&str]) -> String {
 }
 
 pub fn sent(row: &Row, frames: usize, counts: &Counts) -> String {
-    format!("Level {}: {} frames sent.\n", row.level, frames) + &table(counts)
+    format!("Level {}: {} frames sent.\n", row.level, frames) + &table(row, counts)
 }
 
 pub fn taken(row: &Row, taken: &Taken) -> String {
     let heading = format!("Level {}: {} frames taken apart.\n", row.level, taken.notes.len());
-    heading + &table_and_errors(taken)
+    heading + &table_and_errors(row, taken)
 }
 
 /// What agree prints where both engines give the same: the bytes compared after each call.
@@ -56,32 +60,57 @@ pub fn agree(row: &Row, compared: [usize; 3]) -> String {
 pub fn extracted(row: &Row, taken: &Taken) -> String {
     let frames = taken.notes.len();
     format!("Level {}: {frames} frames taken apart by these notes.\n", row.level)
-        + &table(&taken.counts)
+        + &table(row, &taken.counts)
 }
 
 /// What notes prints: a row for each frame, and the sums.
 pub fn noted(row: &Row, line: &[u8]) -> String {
-    let mut text = String::from("    frame  stuffed  service  dissent 1 2 3 4  alignment\n");
+    noted_after(row, NONE_BEFORE, line)
+}
+
+/// The same where these are the votes before the first frame.
+pub fn noted_after(row: &Row, earlier: u8, line: &[u8]) -> String {
+    let heads = if row.negative_places { "  votes  acts   " } else { "stuffed  service" };
+    let mut text = format!("    frame  {heads}  dissent 1 2 3 4  alignment\n");
+    let mut before = earlier;
     for (k, bytes) in line.chunks(row.frame_bytes()).enumerate() {
         let one = frame::read(row, &unpack(bytes, row.frame_digits));
         let mark = |j: u8| if one.note >> j & 1 == 1 { format!("{}", j + 1) } else { "-".into() };
         let stuffed: String = (0..4).map(mark).collect();
-        let services = 4..5 + row.national_digits;
-        let service: String = services.map(|bit| (one.note >> bit & 1).to_string()).collect();
+        let rest = beside_votes(row, before, one.note);
+        before = one.note;
         let dissent = one.dissent.map(|digits| digits.to_string()).join(" ");
         text += &format!(
-            "{k:>9}  {stuffed:7}  {service:7}  {:7} {dissent}  {:>9}\n",
+            "{k:>9}  {stuffed:7}  {rest:7}  {:7} {dissent}  {:>9}\n",
             "", one.alignment
         );
     }
-    let taken = crate::worked::take(row, line);
+    let taken = take_after(row, earlier, line);
     let four = |counts: [String; 4]| counts.join(" ");
     text += &format!("Level {}: {} notes read.\n", row.level, taken.notes.len());
     let stuffed = four(taken.counts.stuffed.map(|count| count.to_string()));
     text += &format!("stuffed frames of tributaries 1 to 4:     {stuffed}\n");
+    if row.negative_places {
+        let negative = four(taken.counts.negative.map(|count| count.to_string()));
+        text += &format!("negative digits of tributaries 1 to 4:    {negative}\n");
+    }
     let dissent = four(taken.dissent.map(|count| count.to_string()));
     text += &format!("dissenting digits of tributaries 1 to 4:  {dissent}\n");
     text + &format!("alignment digits wrong: {}\n", taken.alignment)
+}
+
+/// What a note says beside its votes: the service digits, or what the frame does for each
+/// tributary.
+fn beside_votes(row: &Row, before: u8, note: u8) -> String {
+    if !row.negative_places {
+        return (4..row.note_bits()).map(|bit| (note >> bit & 1).to_string()).collect();
+    }
+    let sign = |j| match frame::action(row, before, note, j) {
+        Action::Stuffed => '+',
+        Action::Plain => '0',
+        Action::Negative => '-',
+    };
+    (0..4).map(sign).collect()
 }
 
 /// What find prints of a recording of so many bytes; `taken` is what its frames say.
@@ -94,7 +123,7 @@ pub fn found(row: &Row, bytes: usize, found: &Found, taken: &Taken) -> String {
         text += &not_found(row);
     }
     text += &format!("frames handed over: {}\n", found.frames.len());
-    text += &table_and_errors(taken);
+    text += &table_and_errors(row, taken);
     text += &format!("words tested: {}\n", found.words);
     text + &format!("at the end: {}\n", mode(found.mode))
 }
@@ -138,7 +167,7 @@ fn mode(mode: u64) -> String {
 }
 
 pub fn no_level(word: &str) -> String {
-    format!("refused 1: no level {word}; LEVEL is 2, 3 or 4.")
+    format!("refused 1: no level {word}; LEVEL is 2, 3, 4, 12 or 14, and 12:5 is level 12 after the vote 5.")
 }
 
 pub fn no_whole_frames(row: &Row, path: &str, bytes: usize) -> String {
@@ -164,6 +193,22 @@ pub fn no_room(row: &Row, path: &str, bytes: usize, frames: usize) -> String {
          quarters of {} bytes or more.",
         row.level,
         room(row, frames)
+    )
+}
+
+/// A note with more than votes where the level has no service digits in its notes.
+pub fn no_such_bits(path: &str, frame: usize) -> String {
+    format!(
+        "refused 5: {path}: the note of frame {frame} has a bit over 3 set; a note of level 12 \
+         or 14 has votes alone."
+    )
+}
+
+/// A vote before the first frame that is none.
+pub fn no_vote(word: &str) -> String {
+    format!(
+        "refused 5: {word} says a vote over F for the frame before the first; it has a bit for \
+         each tributary, as 12:5."
     )
 }
 
@@ -216,7 +261,7 @@ pub fn long_label(path: &str, bytes: usize) -> String {
 pub fn no_capture(path: &str, file: &[u8]) -> String {
     let read = read_capture(file);
     let (byte, expected, found) = match read.refusal {
-        1 => (3, "level 2, 3 or 4".into(), file[3].to_string()),
+        1 => (3, "level 2, 3, 4, 12 or 14".into(), file[3].to_string()),
         2 => {
             let row = row(u64::from(file[3])).expect("a level");
             (4, frames(row), format!("a line of {} bytes", line_bytes(file)))

@@ -2,16 +2,28 @@
 //! frames there are.
 
 use reference::digits::{pack, unpack};
-use reference::frame::{self, Waiting};
+use reference::frame::{self, Action, Waiting};
 use reference::history::{self, HandedOver};
 use reference::level::Row;
 use reference::{feed, fresh, State};
 
-/// Of each tributary: its digits, and the frames in which it is stuffed.
+/// The votes before a line's first frame.
+pub const NONE_BEFORE: u8 = 0;
+
+/// Of each tributary: its digits, the frames in which it is stuffed, and those whose negative
+/// place carries a digit of it.
 #[derive(Default)]
 pub struct Counts {
     pub digits: [usize; 4],
     pub stuffed: [usize; 4],
+    pub negative: [usize; 4],
+}
+
+impl Counts {
+    fn of(row: &Row, before: u8, notes: &[u8], digits: [usize; 4]) -> Counts {
+        let frames = |action| frames(row, before, notes, action);
+        Counts { digits, stuffed: frames(Action::Stuffed), negative: frames(Action::Negative) }
+    }
 }
 
 pub struct Sent {
@@ -21,20 +33,33 @@ pub struct Sent {
 
 /// Sends the frames of the notes, from a buffer of four equal quarters with room enough.
 pub fn send(row: &Row, notes: &[u8], buffer: &[u8]) -> Sent {
+    send_after(row, NONE_BEFORE, notes, buffer)
+}
+
+/// The same where these are the votes before the first frame.
+pub fn send_after(row: &Row, earlier: u8, notes: &[u8], buffer: &[u8]) -> Sent {
     let quarter = buffer.len() / 4;
     let digits_of = |j: usize| unpack(&buffer[j * quarter..(j + 1) * quarter], 8 * quarter);
     let mut waiting: Vec<Waiting> = (0..4).map(|j| digits_of(j).into()).collect();
     let mut line = Vec::new();
+    let mut before = earlier;
     for &note in notes {
-        line.extend(pack(&frame::fill(row, note, &mut waiting)));
+        line.extend(pack(&frame::fill(row, before, note, &mut waiting)));
+        before = note;
     }
     let digits = [0, 1, 2, 3].map(|j| 8 * quarter - waiting[j].len());
-    Sent { line, counts: Counts { digits, stuffed: stuffed(notes) } }
+    Sent { line, counts: Counts::of(row, earlier, notes, digits) }
 }
 
-/// The frames in which each tributary is stuffed.
-pub fn stuffed(notes: &[u8]) -> [usize; 4] {
-    [0, 1, 2, 3].map(|j| notes.iter().filter(|&note| note >> j & 1 == 1).count())
+/// In how many frames this is done for each tributary.
+pub fn frames(row: &Row, earlier: u8, notes: &[u8], wanted: Action) -> [usize; 4] {
+    let before: Vec<u8> = [&[earlier], notes].concat();
+    let acts = |j: usize| {
+        before.iter().zip(notes).filter(move |(&before, &note)| {
+            frame::action(row, before, note, j) == wanted
+        })
+    };
+    [0, 1, 2, 3].map(|j| acts(j).count())
 }
 
 /// What frames say, taken apart one after the other.
@@ -49,10 +74,15 @@ pub struct Taken {
 
 /// Takes whole frames apart that stand one after the other.
 pub fn take(row: &Row, line: &[u8]) -> Taken {
+    take_after(row, NONE_BEFORE, line)
+}
+
+/// The same where these are the votes before the first frame.
+pub fn take_after(row: &Row, earlier: u8, line: &[u8]) -> Taken {
     let frames = line.chunks(row.frame_bytes()).map(|bytes| unpack(bytes, row.frame_digits));
     let read: Vec<_> = frames.map(|digits| frame::read(row, &digits)).collect();
     let notes: Vec<u8> = read.iter().map(|one| one.note).collect();
-    let mut all = take_by(row, line, &notes);
+    let mut all = take_by_after(row, earlier, line, &notes);
     all.alignment = read.iter().map(|one| one.alignment).sum();
     all.dissent = [0, 1, 2, 3].map(|j| read.iter().map(|one| one.dissent[j]).sum());
     all
@@ -60,13 +90,20 @@ pub fn take(row: &Row, line: &[u8]) -> Taken {
 
 /// The same by notes that are given.
 pub fn take_by(row: &Row, line: &[u8], notes: &[u8]) -> Taken {
+    take_by_after(row, NONE_BEFORE, line, notes)
+}
+
+/// The same by notes that are given, after these votes.
+pub fn take_by_after(row: &Row, earlier: u8, line: &[u8], notes: &[u8]) -> Taken {
     let mut all = Taken { notes: notes.to_vec(), ..Taken::default() };
+    let mut before = earlier;
     for (bytes, &note) in line.chunks(row.frame_bytes()).zip(notes) {
-        let one = frame::take(row, note, &unpack(bytes, row.frame_digits));
+        let one = frame::take(row, before, note, &unpack(bytes, row.frame_digits));
+        before = note;
         (0..4).for_each(|j| all.tributaries[j].extend(&one[j]));
     }
     let digits = [0, 1, 2, 3].map(|j| all.tributaries[j].len());
-    all.counts = Counts { digits, stuffed: stuffed(notes) };
+    all.counts = Counts::of(row, earlier, notes, digits);
     all
 }
 

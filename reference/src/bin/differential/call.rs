@@ -10,6 +10,8 @@ use reference::{read_capture, write_capture};
 #[derive(Clone)]
 pub struct Lending {
     pub level: u64,
+    /// The vote before frame 0; reading notes takes none.
+    pub earlier: u64,
     pub line: Vec<u8>,
     pub notes: Vec<u8>,
     pub buffer: Vec<u8>,
@@ -146,8 +148,9 @@ impl Call {
     pub fn short(&self) -> String {
         match self {
             Call::Multiplex(with) | Call::ReadNotes(with) | Call::Extract(with) => format!(
-                "level {}; line {}; notes {}; buffer {}",
+                "level {}; earlier {}; line {}; notes {}; buffer {}",
                 with.level,
+                with.earlier,
                 in_short(&with.line),
                 in_short(&with.notes),
                 in_short(&with.buffer)
@@ -236,12 +239,12 @@ fn outcome(returned: u64, numbers: Vec<u64>, lent: Vec<(&'static str, Vec<u8>)>)
 }
 
 fn multiplexed(mut with: Lending) -> Outcome {
-    let answer = multiplex(with.level, &mut with.line, &with.notes, &with.buffer);
+    let answer = multiplex(with.level, with.earlier, &mut with.line, &with.notes, &with.buffer);
     outcome(answer.refusal, counted_numbers(&answer), slices(with))
 }
 
 fn extracted(mut with: Lending) -> Outcome {
-    let answer = extract(with.level, &with.line, &with.notes, &mut with.buffer);
+    let answer = extract(with.level, with.earlier, &with.line, &with.notes, &mut with.buffer);
     outcome(answer.refusal, counted_numbers(&answer), slices(with))
 }
 

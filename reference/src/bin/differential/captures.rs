@@ -2,8 +2,9 @@
 //! with a byte changed, cut or added, and files of any fields.
 
 use crate::call::{Call, Writing};
+use crate::levels::any_row;
 use crate::Run;
-use reference::level::{row, Row};
+use reference::level::{row, Row, LEVELS};
 use reference::random::Random;
 
 /// Numbers that say that there is a label.
@@ -29,7 +30,7 @@ pub fn part(run: &mut Run) {
 }
 
 pub fn levels() -> impl Iterator<Item = &'static Row> {
-    [2, 3, 4].into_iter().filter_map(row)
+    LEVELS.into_iter().filter_map(row)
 }
 
 /// What a writer is lent; without a label there is a slice all the same.
@@ -89,10 +90,7 @@ fn any_write(run: &mut Run) {
     let random = &mut run.random;
     let faults = random.below(16);
     let has = |fault: u64| faults >> fault & 1 == 1;
-    let row = match row(2 + random.below(3)) {
-        Some(row) => row,
-        None => return,
-    };
+    let row = any_row(random);
     let frames = random.pick(&[0, 1, 1, 2, 3]);
     let line = frames * row.frame_bytes() + if has(1) { 1 + random.index(105) } else { 0 };
     let label = if has(2) {
@@ -144,11 +142,14 @@ pub fn any_file(random: &mut Random) -> Vec<u8> {
         let tag = if random.once_in(16) { random.number() as u8 } else { tag };
         let length = match tag {
             1 => random.pick(&[1, 1, 1, 1, 1, 1, 0, 2, 256, 257]),
-            2 => random.pick(&[0, 0, 106, 106, 192, 366, 732, 105, 1, 255, 256, 65_535]),
+            2 => random
+                .pick(&[0, 0, 106, 106, 192, 366, 732, 132, 264, 272, 105, 1, 255, 256, 65_535]),
             _ => random.pick(&[0, 1, 31, 32, 33, 256, 8_192]),
         };
         let body = if tag == 1 {
-            (0..length).map(|_| random.pick(&[2, 2, 3, 4, 4, 0, 1, 5, 9, 255])).collect()
+            (0..length)
+                .map(|_| random.pick(&[2, 2, 3, 4, 4, 12, 14, 0, 1, 5, 9, 13, 255]))
+                .collect()
         } else {
             random.filled(length)
         };

@@ -90,7 +90,7 @@ fn all_places(run: &mut Run, row: &Row, frames: usize) {
 fn any_pair(run: &mut Run) {
     let mut files = Vec::new();
     for _ in 0..2 {
-        let level = run.random.pick(&[2, 2, 2, 3, 4]);
+        let level = run.random.pick(&[2, 2, 2, 3, 4, 12, 12, 14]);
         let frames = run.random.pick(&[0, 0, 1, 1, 2]);
         let frame_bytes = levels().find(|row| row.level == level).map_or(0, Row::frame_bytes);
         let line = run.random.filled(frames * frame_bytes);
@@ -98,7 +98,7 @@ fn any_pair(run: &mut Run) {
         match run.random.below(5) {
             0 => {
                 let at = run.random.index(file.len().min(12));
-                file[at] = run.random.pick(&[0, 1, 2, 3, 4, 5, 9, 106, 192, 255]);
+                file[at] = run.random.pick(&[0, 1, 2, 3, 4, 5, 9, 12, 13, 14, 106, 132, 192, 255]);
             }
             1 => file.truncate(run.random.index(file.len())),
             2 => file.push(run.random.number() as u8),

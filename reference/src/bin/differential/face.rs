@@ -7,28 +7,32 @@ use crate::call::{
 #[rustfmt::skip]
 extern "C" {
     pub fn spritbobbin_multiplex(
-        level: u64, line: *mut u8, line_bytes: usize, notes: *const u8, notes_bytes: usize,
-        buffer: *const u8, buffer_bytes: usize, answer: *mut u64,
+        level: u64, earlier: u64, line: *mut u8, line_bytes: usize,
+        notes: *const u8, notes_bytes: usize, buffer: *const u8, buffer_bytes: usize,
+        answer: *mut u64,
     ) -> u64;
     pub fn spritbobbin_read_notes(
         level: u64, line: *const u8, line_bytes: usize, notes: *mut u8, notes_bytes: usize,
         answer: *mut u64,
     ) -> u64;
     pub fn spritbobbin_extract(
-        level: u64, line: *const u8, line_bytes: usize, notes: *const u8, notes_bytes: usize,
-        buffer: *mut u8, buffer_bytes: usize, answer: *mut u64,
+        level: u64, earlier: u64, line: *const u8, line_bytes: usize,
+        notes: *const u8, notes_bytes: usize, buffer: *mut u8, buffer_bytes: usize,
+        answer: *mut u64,
     ) -> u64;
     fn spritbobbin_plain_multiplex(
-        level: u64, line: *mut u8, line_bytes: usize, notes: *const u8, notes_bytes: usize,
-        buffer: *const u8, buffer_bytes: usize, answer: *mut u64,
+        level: u64, earlier: u64, line: *mut u8, line_bytes: usize,
+        notes: *const u8, notes_bytes: usize, buffer: *const u8, buffer_bytes: usize,
+        answer: *mut u64,
     ) -> u64;
     fn spritbobbin_plain_read_notes(
         level: u64, line: *const u8, line_bytes: usize, notes: *mut u8, notes_bytes: usize,
         answer: *mut u64,
     ) -> u64;
     fn spritbobbin_plain_extract(
-        level: u64, line: *const u8, line_bytes: usize, notes: *const u8, notes_bytes: usize,
-        buffer: *mut u8, buffer_bytes: usize, answer: *mut u64,
+        level: u64, earlier: u64, line: *const u8, line_bytes: usize,
+        notes: *const u8, notes_bytes: usize, buffer: *mut u8, buffer_bytes: usize,
+        answer: *mut u64,
     ) -> u64;
     pub fn spritbobbin_receiver_fresh(level: u64, state: *mut u64, frame: *mut u8) -> u64;
     pub fn spritbobbin_receiver_feed(
@@ -68,11 +72,29 @@ extern "C" {
 }
 
 /// One of the two engines' calls.
-type Building =
-    unsafe extern "C" fn(u64, *mut u8, usize, *const u8, usize, *const u8, usize, *mut u64) -> u64;
+type Building = unsafe extern "C" fn(
+    u64,
+    u64,
+    *mut u8,
+    usize,
+    *const u8,
+    usize,
+    *const u8,
+    usize,
+    *mut u64,
+) -> u64;
 type Reading = unsafe extern "C" fn(u64, *const u8, usize, *mut u8, usize, *mut u64) -> u64;
-type Extracting =
-    unsafe extern "C" fn(u64, *const u8, usize, *const u8, usize, *mut u8, usize, *mut u64) -> u64;
+type Extracting = unsafe extern "C" fn(
+    u64,
+    u64,
+    *const u8,
+    usize,
+    *const u8,
+    usize,
+    *mut u8,
+    usize,
+    *mut u64,
+) -> u64;
 
 /// What stands in an array of numbers before the call, so that one left unwritten is seen.
 pub const UNWRITTEN: u64 = 0xA5A5_A5A5_A5A5_A5A5;
@@ -174,7 +196,7 @@ fn multiplex(with: &Lending, by: Building) -> Outcome {
     let refusal = unsafe {
         let (l, n, b) = (line.pointer(), notes.pointer(), buffer.pointer());
         let (lc, nc, bc) = (line.count(), notes.count(), buffer.count());
-        by(with.level, l, lc, n, nc, b, bc, answer.pointer())
+        by(with.level, with.earlier, l, lc, n, nc, b, bc, answer.pointer())
     };
     outcome(refusal, &[answer], &[line, notes, buffer])
 }
@@ -201,7 +223,7 @@ fn extract(with: &Lending, by: Extracting) -> Outcome {
     let refusal = unsafe {
         let (l, n, b) = (line.pointer(), notes.pointer(), buffer.pointer());
         let (lc, nc, bc) = (line.count(), notes.count(), buffer.count());
-        by(with.level, l, lc, n, nc, b, bc, answer.pointer())
+        by(with.level, with.earlier, l, lc, n, nc, b, bc, answer.pointer())
     };
     outcome(refusal, &[answer], &[line, notes, buffer])
 }

@@ -20,6 +20,12 @@ use std::alloc::{alloc_zeroed, dealloc, Layout};
 /// 2 to the 32.
 const WIDE: usize = 1 << 32;
 
+/// The levels and their neighbours.
+const NUMBERS: [u64; 10] = [1, 2, 3, 4, 5, 11, 12, 13, 14, 15];
+
+/// Earlier votes at their border; where lengths are at fault none is looked at.
+const EARLIER: [u64; 4] = [0, 15, 16, u64::MAX];
+
 /// The numbers of a fresh state of level 2.
 const FRESH: [u64; 9] = [2, 0, 0, 0, 0, 0, 0, 0, 0];
 
@@ -65,22 +71,22 @@ impl Drop for Memory {
 }
 
 fn long_lengths(run: &mut Run, memory: &mut Memory) {
-    for (level, frame_bytes) in [(2, 106), (3, 192), (4, 366)] {
+    for (level, frame_bytes) in [(2, 106), (3, 192), (4, 366), (12, 132), (14, 272)] {
         for line in [WIDE, WIDE + 2, WIDE + frame_bytes, WIDE + 64 * frame_bytes] {
             long_line(run, level, memory.slice(line));
         }
         for notes in [WIDE, WIDE + 1, WIDE + 2] {
             long_notes(run, level, frame_bytes, memory.slice(notes));
         }
-        for over in [0, 1, 2, 4, 100, 104, 192, 364] {
+        for over in [0, 1, 2, 4, 100, 104, 128, 132, 192, 268, 272, 364] {
             long_buffer(run, level, frame_bytes, memory.slice(WIDE + over));
         }
     }
     for slice in [WIDE, WIDE + 1, WIDE + 2, WIDE + 65_536] {
         long_piece(run, memory.slice(slice));
     }
-    for level in 1..=5 {
-        for long in [WIDE, WIDE + 1, WIDE + 106, WIDE + 192, WIDE + 366] {
+    for level in NUMBERS {
+        for long in [WIDE, WIDE + 1, WIDE + 106, WIDE + 192, WIDE + 366, WIDE + 132, WIDE + 272] {
             long_capture(run, level, memory.slice(long));
         }
     }
@@ -149,7 +155,7 @@ fn long_comparison(run: &mut Run, inputs: &str, long: &[u8]) {
     for (one, other) in [(long, &good[..]), (&good[..], long), (long, long)] {
         let (refusal, numbers) = compared_numbers(&reference::compare(one, other));
         let received = raw_compare((one.as_ptr(), one.len()), (other.as_ptr(), other.len()));
-        run.expect(11, inputs, &[&[refusal], &numbers[..]].concat(), &received);
+        run.expect(12, inputs, &[&[refusal], &numbers[..]].concat(), &received);
     }
 }
 
@@ -164,24 +170,30 @@ fn raw_compare(one: (*const u8, usize), other: (*const u8, usize)) -> Vec<u64> {
 }
 
 /// A call through the face whose slices are only given by pointer and length.
-fn raw_multiplex(level: u64, line: &mut [u8], notes: &[u8], buffer: &[u8]) -> Vec<u64> {
+fn raw_multiplex(
+    level: u64,
+    earlier: u64,
+    line: &mut [u8],
+    notes: &[u8],
+    buffer: &[u8],
+) -> Vec<u64> {
     let mut answer = [UNWRITTEN; 5];
     // Sound if the face keeps to what it is lent.
     let refusal = unsafe {
         let (l, n, b) = (line.as_mut_ptr(), notes.as_ptr(), buffer.as_ptr());
         let (lc, nc, bc) = (line.len(), notes.len(), buffer.len());
-        spritbobbin_multiplex(level, l, lc, n, nc, b, bc, answer.as_mut_ptr())
+        spritbobbin_multiplex(level, earlier, l, lc, n, nc, b, bc, answer.as_mut_ptr())
     };
     [&[refusal], &answer[..]].concat()
 }
 
-fn raw_extract(level: u64, line: &[u8], notes: &[u8], buffer: &mut [u8]) -> Vec<u64> {
+fn raw_extract(level: u64, earlier: u64, line: &[u8], notes: &[u8], buffer: &mut [u8]) -> Vec<u64> {
     let mut answer = [UNWRITTEN; 5];
     // Sound as above.
     let refusal = unsafe {
         let (l, n, b) = (line.as_ptr(), notes.as_ptr(), buffer.as_mut_ptr());
         let (lc, nc, bc) = (line.len(), notes.len(), buffer.len());
-        spritbobbin_extract(level, l, lc, n, nc, b, bc, answer.as_mut_ptr())
+        spritbobbin_extract(level, earlier, l, lc, n, nc, b, bc, answer.as_mut_ptr())
     };
     [&[refusal], &answer[..]].concat()
 }
@@ -196,13 +208,13 @@ fn raw_read_notes(level: u64, line: &[u8], notes: &mut [u8]) -> Vec<u64> {
     [&[refusal], &answer[..]].concat()
 }
 
-fn multiplexed(level: u64, line: &mut [u8], notes: &[u8], buffer: &[u8]) -> Vec<u64> {
-    let answer = multiplex(level, line, notes, buffer);
+fn multiplexed(level: u64, earlier: u64, line: &mut [u8], notes: &[u8], buffer: &[u8]) -> Vec<u64> {
+    let answer = multiplex(level, earlier, line, notes, buffer);
     [vec![answer.refusal], counted_numbers(&answer)].concat()
 }
 
-fn extracted(level: u64, line: &[u8], notes: &[u8], buffer: &mut [u8]) -> Vec<u64> {
-    let answer = extract(level, line, notes, buffer);
+fn extracted(level: u64, earlier: u64, line: &[u8], notes: &[u8], buffer: &mut [u8]) -> Vec<u64> {
+    let answer = extract(level, earlier, line, notes, buffer);
     [vec![answer.refusal], counted_numbers(&answer)].concat()
 }
 
@@ -221,23 +233,28 @@ fn untouched(run: &mut Run, inputs: &str, long: &[u8]) {
 
 fn long_line(run: &mut Run, level: u64, line: &mut [u8]) {
     let inputs = format!("level {level}, line {} bytes, 1 note, buffer 4096", line.len());
-    let expected = multiplexed(level, line, &[0], &[0; 4096]);
-    run.expect(0, &inputs, &expected, &raw_multiplex(level, line, &[0], &[0; 4096]));
+    let expected = multiplexed(level, u64::MAX, line, &[0], &[0; 4096]);
+    run.expect(0, &inputs, &expected, &raw_multiplex(level, u64::MAX, line, &[0], &[0; 4096]));
     run.expect(1, &inputs, &noted(level, line, &mut [0]), &raw_read_notes(level, line, &mut [0]));
-    let expected = extracted(level, line, &[0], &mut [0; 4096]);
-    run.expect(11, &inputs, &expected, &raw_extract(level, line, &[0], &mut [0; 4096]));
+    let expected = extracted(level, u64::MAX, line, &[0], &mut [0; 4096]);
+    run.expect(11, &inputs, &expected, &raw_extract(level, u64::MAX, line, &[0], &mut [0; 4096]));
     untouched(run, &inputs, line);
 }
 
 fn long_notes(run: &mut Run, level: u64, frame_bytes: usize, notes: &mut [u8]) {
     let inputs = format!("level {level}, one frame, {} notes, buffer 4096", notes.len());
     let mut line = vec![0; frame_bytes];
-    let expected = multiplexed(level, &mut line, notes, &[0; 4096]);
-    run.expect(0, &inputs, &expected, &raw_multiplex(level, &mut line, notes, &[0; 4096]));
+    let expected = multiplexed(level, u64::MAX, &mut line, notes, &[0; 4096]);
+    run.expect(
+        0,
+        &inputs,
+        &expected,
+        &raw_multiplex(level, u64::MAX, &mut line, notes, &[0; 4096]),
+    );
     let expected = noted(level, &line, notes);
     run.expect(1, &inputs, &expected, &raw_read_notes(level, &line, notes));
-    let expected = extracted(level, &line, notes, &mut [0; 4096]);
-    run.expect(11, &inputs, &expected, &raw_extract(level, &line, notes, &mut [0; 4096]));
+    let expected = extracted(level, u64::MAX, &line, notes, &mut [0; 4096]);
+    run.expect(11, &inputs, &expected, &raw_extract(level, u64::MAX, &line, notes, &mut [0; 4096]));
     untouched(run, &inputs, notes);
 }
 
@@ -247,8 +264,8 @@ fn long_buffer(run: &mut Run, level: u64, frame_bytes: usize, buffer: &mut [u8])
     let inputs = format!("level {level}, one frame, 1 note, buffer {}", buffer.len());
     if buffer.len() % 4 != 0 {
         let line = vec![0; frame_bytes];
-        let expected = extracted(level, &line, &[0], buffer);
-        run.expect(11, &inputs, &expected, &raw_extract(level, &line, &[0], buffer));
+        let expected = extracted(level, u64::MAX, &line, &[0], buffer);
+        run.expect(11, &inputs, &expected, &raw_extract(level, u64::MAX, &line, &[0], buffer));
         untouched(run, &inputs, buffer);
     }
     let quarter = buffer.len() / 4;
@@ -256,8 +273,8 @@ fn long_buffer(run: &mut Run, level: u64, frame_bytes: usize, buffer: &mut [u8])
         buffer[j * quarter..][..100].copy_from_slice(&run.random.bytes(100));
     }
     let (mut ours, mut theirs) = (vec![0; frame_bytes], vec![0; frame_bytes]);
-    let expected = multiplexed(level, &mut ours, &[5], buffer);
-    let sent = raw_multiplex(level, &mut theirs, &[5], buffer);
+    let expected = multiplexed(level, 3, &mut ours, &[5], buffer);
+    let sent = raw_multiplex(level, 3, &mut theirs, &[5], buffer);
     run.expect(0, &inputs, &expected, &sent);
     let wide = |line: Vec<u8>| line.into_iter().map(u64::from).collect::<Vec<_>>();
     run.expect(0, &format!("{inputs}: the line"), &wide(ours), &wide(theirs));
@@ -275,7 +292,7 @@ fn long_piece(run: &mut Run, slice: &[u8]) {
         run.expect(3, &inputs, &[expected.refusal, 0, 0, 0, 0], &received);
         let expected = finder_feed(&FinderState::default(), slice, first, count);
         let received = raw_hunt(slice.as_ptr(), slice.len(), first, count);
-        run.expect(8, &inputs, &[expected.refusal, 0, 0], &received);
+        run.expect(10, &inputs, &[expected.refusal, 0, 0], &received);
     }
     for place in [0, 1 << 32, 1 << 35, u64::MAX] {
         // Sound as above.
@@ -315,29 +332,15 @@ fn raw_hunt(piece: *const u8, piece_bytes: usize, first: u64, count: u64) -> Vec
 /// Nothing lent, by a null pointer and the length 0, as C programs do.
 fn null_pointers(run: &mut Run) {
     let (null, null_mut) = (std::ptr::null(), std::ptr::null_mut());
-    for level in 1..=5 {
-        let (mut answer, mut read, mut back) = ([UNWRITTEN; 5], [UNWRITTEN; 5], [UNWRITTEN; 5]);
-        // Sound if the face makes no slice of a null pointer.
-        let sent = unsafe {
-            spritbobbin_multiplex(level, null_mut, 0, null, 0, null, 0, answer.as_mut_ptr())
-        };
-        let refusal = length_refusal(level, 0, 0, 0);
-        let inputs = format!("level {level}, null pointers");
-        run.expect(0, &inputs, &[refusal, 0, 0, 0, 0, 0], &[&[sent], &answer[..]].concat());
-        // Sound as above.
-        let (noted, taken) = unsafe {
-            (
-                spritbobbin_read_notes(level, null, 0, null_mut, 0, read.as_mut_ptr()),
-                spritbobbin_extract(level, null, 0, null, 0, null_mut, 0, back.as_mut_ptr()),
-            )
-        };
-        let none = [frames_refusal(level, 0, 0), 0, 0, 0, 0, 0];
-        run.expect(1, &inputs, &none, &[&[noted], &read[..]].concat());
-        run.expect(11, &inputs, &[refusal, 0, 0, 0, 0, 0], &[&[taken], &back[..]].concat());
+    for level in NUMBERS {
+        for earlier in EARLIER {
+            null_lines(run, level, earlier);
+        }
+        let refusal = frames_refusal(level, 0, 0);
         for labelled in [0, 1] {
             let none = if refusal == 0 { [4, 0, 0] } else { [refusal, 0, 0] };
             let wrote = raw_write(level, [(null, 0); 2], labelled, (null_mut, 0));
-            run.expect(5, &inputs, &none, &wrote);
+            run.expect(5, &format!("level {level}, null pointers"), &none, &wrote);
         }
     }
     run.expect(6, "null file", &[9, 0, 0, 0, 0, 0, 0, 0], &raw_read(null, 0));
@@ -347,13 +350,13 @@ fn null_pointers(run: &mut Run) {
         [((null, 0), good, 1), (good, (null, 0), 2), ((null, 0), (null, 0), 1)]
     {
         let expected = [&[9, file], &[0; 146][..]].concat();
-        run.expect(11, "null file", &expected, &raw_compare(one, other));
+        run.expect(12, "null file", &expected, &raw_compare(one, other));
     }
     for (first, count) in [(0, 0), (0, 1), (1, 0), (u64::MAX, 1)] {
         let expected = [feed_refusal(&fresh(2).1, 0, first, count), 0, 0, 0, 0];
         run.expect(3, "null piece", &expected, &raw_feed(null, 0, first, count));
         let expected = [finder_refusal(&FinderState::default(), 0, first, count), 0, 0];
-        run.expect(8, "null piece", &expected, &raw_hunt(null, 0, first, count));
+        run.expect(10, "null piece", &expected, &raw_hunt(null, 0, first, count));
         // Sound as above.
         let digit = unsafe { spritbobbin_line_digit(null, 0, first) };
         run.expect(4, "null line", &[2], &[digit]);
@@ -361,15 +364,38 @@ fn null_pointers(run: &mut Run) {
     rack::no_records(run);
 }
 
+/// The calls on a line, its notes and a buffer, with none of them.
+fn null_lines(run: &mut Run, level: u64, earlier: u64) {
+    let (null, null_mut) = (std::ptr::null(), std::ptr::null_mut());
+    let (mut answer, mut read, mut back) = ([UNWRITTEN; 5], [UNWRITTEN; 5], [UNWRITTEN; 5]);
+    let inputs = format!("level {level}, earlier {earlier}, null pointers");
+    // Sound if the face makes no slice of a null pointer.
+    let (sent, noted, taken) = unsafe {
+        let (a, r, b) = (answer.as_mut_ptr(), read.as_mut_ptr(), back.as_mut_ptr());
+        (
+            spritbobbin_multiplex(level, earlier, null_mut, 0, null, 0, null, 0, a),
+            spritbobbin_read_notes(level, null, 0, null_mut, 0, r),
+            spritbobbin_extract(level, earlier, null, 0, null, 0, null_mut, 0, b),
+        )
+    };
+    let expected = multiplexed(level, earlier, &mut [], &[], &[]);
+    run.expect(0, &inputs, &expected, &[&[sent], &answer[..]].concat());
+    let none = [frames_refusal(level, 0, 0), 0, 0, 0, 0, 0];
+    run.expect(1, &inputs, &none, &[&[noted], &read[..]].concat());
+    let expected = extracted(level, earlier, &[], &[], &mut []);
+    run.expect(11, &inputs, &expected, &[&[taken], &back[..]].concat());
+}
+
 /// Lengths that no memory holds. Each of these calls is refused for its lengths alone, so a
 /// face that judges them first never reads or writes there.
 fn false_lengths(run: &mut Run) {
     let lengths = [1 << 62, (1 << 63) - 1, 1 << 63, u64::MAX - 105, u64::MAX - 3, u64::MAX];
-    for level in 1..=5 {
+    for level in NUMBERS {
+        let frame = frame_bytes(level);
         for long in lengths {
-            one_false_length(run, level, [long, 1, 104]);
-            one_false_length(run, level, [106, long, 104]);
-            one_false_length(run, level, [106, 1, long]);
+            one_false_length(run, level, [long, 1, 4 * frame]);
+            one_false_length(run, level, [frame, long, 4 * frame]);
+            one_false_length(run, level, [frame, 1, long]);
             one_false_length(run, level, [long, long, long]);
             false_capture(run, level, long);
         }
@@ -384,7 +410,7 @@ fn false_lengths(run: &mut Run) {
         run.expect(3, &format!("slice of {long} bytes"), &expected, &fed);
         let expected = [finder_refusal(&FinderState::default(), long, 0, 8), 0, 0];
         let hunted = raw_hunt(memory.as_ptr(), long as usize, 0, 8);
-        run.expect(8, &format!("slice of {long} bytes"), &expected, &hunted);
+        run.expect(10, &format!("slice of {long} bytes"), &expected, &hunted);
         // Sound as there.
         let digit = unsafe { spritbobbin_line_digit(memory.as_ptr(), long as usize, 0) };
         run.expect(4, &format!("line of {long} bytes"), &[2], &[digit]);
@@ -415,14 +441,15 @@ fn one_false_length(run: &mut Run, level: u64, [line, notes, buffer]: [u64; 3]) 
         return;
     }
     let (mut memory, mut sent, mut taken) = ([0_u8; 4096], [UNWRITTEN; 5], [UNWRITTEN; 5]);
-    let inputs = format!("level {level}, line {line}, notes {notes}, buffer {buffer} bytes");
+    let inputs =
+        format!("level {level}, earlier 16, line {line}, notes {notes}, buffer {buffer} bytes");
     let (at, l, n, b) = (memory.as_mut_ptr(), line as usize, notes as usize, buffer as usize);
     // Sound if the face judges lengths before it reads or writes; nothing is lent but a
     // little memory that all three pointers share.
     let numbers = unsafe {
         [
-            spritbobbin_multiplex(level, at, l, at, n, at, b, sent.as_mut_ptr()),
-            spritbobbin_extract(level, at, l, at, n, at, b, taken.as_mut_ptr()),
+            spritbobbin_multiplex(level, 16, at, l, at, n, at, b, sent.as_mut_ptr()),
+            spritbobbin_extract(level, 16, at, l, at, n, at, b, taken.as_mut_ptr()),
         ]
     };
     run.expect(0, &inputs, &[refusal, 0, 0, 0, 0, 0], &[&numbers[..1], &sent].concat());

@@ -15,6 +15,7 @@ mod comparisons;
 mod face;
 mod finder;
 mod lengths;
+mod levels;
 mod multiframes;
 mod multiplexing;
 mod rack;

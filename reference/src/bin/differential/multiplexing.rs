@@ -1,8 +1,10 @@
 //! Multiplex, read_notes and extract calls: sound ones, damaged lines, notes of any kind, and every set of faults.
 
 use crate::call::{Call, Lending};
+use crate::levels::{any_row, known_bits};
 use crate::Run;
-use reference::level::{row, Row};
+use reference::frame::{action, Action};
+use reference::level::{row, Row, LEVELS};
 use reference::random::Random;
 
 /// Faults by refusal number: number 1 is the lowest bit, number 5 the highest.
@@ -12,56 +14,91 @@ const ALL_FAULTS: Faults = 1 << 5;
 pub fn part(run: &mut Run) {
     every_frame_count(run);
     every_way_of_a_run(run);
+    every_earlier_vote(run);
     every_set_of_faults(run);
     anything(run);
 }
 
 /// Every level with every number of frames, there and back.
 fn every_frame_count(run: &mut Run) {
-    for level in 2..=4 {
+    for level in LEVELS {
         for frames in 0..=64 {
             there_and_back(run, level, frames);
         }
     }
 }
 
-/// Every stuffing of the four over nine frames, from every place in a byte on: of eight
-/// frames ahead of the nine so many are stuffed for all, and each moves all that follows by
-/// one digit. The quarters have no byte to spare, one, or eight. Sent, and read back.
+/// Every vote of the four over nine frames, the same in all or the opposite in every second,
+/// from every place in a byte on: of eight frames ahead of the nine so many are stuffed for
+/// all, and each moves all that follows by one digit. The quarters have no byte to spare, one,
+/// or eight. Sent, and read back.
 fn every_way_of_a_run(run: &mut Run) {
-    for level in 2..=4 {
-        let row = row(level).expect("a level");
+    for row in LEVELS.into_iter().filter_map(row) {
         for pattern in 0..16 {
-            let mut met = [[false; 8]; 4];
-            for stuffed in 0..8 {
-                let mut notes = vec![0x0F; stuffed];
-                notes.resize(8, 0);
-                notes.resize(8 + 9, pattern);
-                places_in_a_byte(row, &notes, &mut met);
-                for spare in [0, 1, 8] {
-                    there_and_back_by(run, level, row, &notes, spare);
+            for in_turn in [0, 0x0F] {
+                let mut met = [[false; 8]; 4];
+                for stuffed in 0..8 {
+                    let mut notes = ahead(row, stuffed);
+                    notes.extend((0..9).map(|k| pattern ^ if k % 2 == 1 { in_turn } else { 0 }));
+                    places_in_a_byte(row, &notes, &mut met);
+                    for spare in [0, 1, 8] {
+                        there_and_back_by(run, row, 0x0F, &notes, spare);
+                    }
                 }
+                assert_eq!(met, [[true; 8]; 4], "a place in a byte is not met");
             }
-            assert_eq!(met, [[true; 8]; 4], "a place in a byte is not met");
         }
     }
 }
 
-/// Where in a byte each tributary's digits begin, frame by frame.
+/// The notes of eight frames after the votes 1111, so many of them stuffed for all and the
+/// others plain.
+fn ahead(row: &Row, stuffed: usize) -> Vec<u8> {
+    let mut notes = vec![0x0F; stuffed];
+    while notes.len() < 8 {
+        let before = notes.last().copied().unwrap_or(0x0F);
+        notes.push(if row.negative_places { !before & 0x0F } else { 0 });
+    }
+    notes
+}
+
+/// Where in a byte each tributary's digits begin, in the frames after the first eight.
 fn places_in_a_byte(row: &Row, notes: &[u8], met: &mut [[bool; 8]; 4]) {
     for (j, places) in met.iter_mut().enumerate() {
-        let mut next = 0;
-        for note in notes {
-            places[next % 8] = true;
-            next += row.tributary_digits - usize::from(note >> j & 1);
+        let (mut next, mut before) = (0, 0x0F);
+        for (k, &note) in notes.iter().enumerate() {
+            places[next % 8] |= k >= 8;
+            next += match action(row, before, note, j) {
+                Action::Stuffed => row.tributary_digits - 1,
+                Action::Plain => row.tributary_digits,
+                Action::Negative => row.tributary_digits + 1,
+            };
+            before = note;
         }
     }
 }
 
-fn there_and_back_by(run: &mut Run, level: u64, row: &Row, notes: &[u8], spare: usize) {
-    let quarter = (notes.len() * row.tributary_digits + 7) / 8 + spare;
+/// Every earlier vote before every vote, in lines of one frame and of three, and earlier votes
+/// that are refused or not looked at.
+fn every_earlier_vote(run: &mut Run) {
+    for row in LEVELS.into_iter().filter_map(row) {
+        for earlier in (0..20).chain([255, 256, (1 << 32) + 5, 1 << 63, u64::MAX]) {
+            for note in 0..16 {
+                there_and_back_by(run, row, earlier, &[note], 0);
+                let next = run.random.bytes(2).into_iter().map(|note| note & 0x0F);
+                let notes: Vec<u8> = [note].into_iter().chain(next).collect();
+                there_and_back_by(run, row, earlier, &notes, 1);
+            }
+            there_and_back_by(run, row, earlier, &[], 0);
+        }
+    }
+}
+
+fn there_and_back_by(run: &mut Run, row: &Row, earlier: u64, notes: &[u8], spare: usize) {
+    let quarter = (notes.len() * row.most_digits() + 7) / 8 + spare;
     let mut with = Lending {
-        level,
+        level: row.level,
+        earlier,
         line: run.random.filled(notes.len() * row.frame_bytes()),
         notes: notes.to_vec(),
         buffer: run.random.bytes(4 * quarter),
@@ -76,7 +113,7 @@ fn there_and_back_by(run: &mut Run, level: u64, row: &Row, notes: &[u8], spare: 
 fn every_set_of_faults(run: &mut Run) {
     for _ in 0..20 {
         for faults in 0..ALL_FAULTS {
-            for level in 2..=4 {
+            for level in LEVELS {
                 let frames = run.random.index(4);
                 let with = lending(&mut run.random, level, frames, faults);
                 run.compare(&Call::Multiplex(with.clone()));
@@ -89,7 +126,7 @@ fn every_set_of_faults(run: &mut Run) {
 
 fn anything(run: &mut Run) {
     for _ in 0..8_000 {
-        let level = 2 + run.random.below(3);
+        let level = any_row(&mut run.random).level;
         let most = run.random.pick(&[2, 4, 8, 65]);
         let frames = run.random.index(most);
         if run.random.once_in(4) {
@@ -115,19 +152,25 @@ fn there_and_back(run: &mut Run, level: u64, frames: usize) {
     read_and_extract(run, with);
 }
 
-/// The notes of a line are read, and the line is extracted by them, by the same shifted by a
-/// frame, and by notes that have nothing to do with it.
+/// The notes of a line are read, and the line is extracted by them, by the same after another
+/// earlier vote, by the same shifted by a frame, and by notes that have nothing to do with it.
 fn read_and_extract(run: &mut Run, mut with: Lending) {
     let read = run.compare(&Call::ReadNotes(with.clone()));
     with.notes.clone_from(&read.lent[1].1);
     run.compare(&Call::Extract(with.clone()));
+    if run.random.once_in(2) {
+        with.earlier = any_earlier(&mut run.random);
+        run.compare(&Call::Extract(with.clone()));
+    }
     if !with.notes.is_empty() {
         with.notes.rotate_right(1);
         run.compare(&Call::Extract(with.clone()));
     }
     with.notes = match run.random.below(3) {
         0 => run.random.bytes(with.notes.len()),
-        _ => decisions(&mut run.random, with.level, with.notes.len()),
+        _ => {
+            row(with.level).map_or(vec![], |row| decisions(&mut run.random, row, with.notes.len()))
+        }
     };
     run.compare(&Call::Extract(with));
 }
@@ -173,25 +216,40 @@ fn lending(random: &mut Random, level: u64, frames: usize, faults: Faults) -> Le
     if has(2) && frames <= 64 {
         line = wrong_line(random, row, line);
     }
-    let mut notes = decisions(random, level, frames);
-    if has(5) && frames > 0 {
+    let mut notes = decisions(random, row, frames);
+    let mut earlier = if row.negative_places { random.below(16) } else { any_earlier(random) };
+    // The earlier vote, a note, or both.
+    let which = random.below(3);
+    if has(5) && which != 1 {
+        earlier = 16 + random.pick(&[0, 0, 1, 15, 239, 240, (1 << 32) - 16, u64::MAX - 16]);
+    }
+    if has(5) && which != 0 && frames > 0 {
         // More than one wrong note, at times, so that the first can be told from the last.
         for _ in 0..random.pick(&[1, 1, 2, 5]) {
-            notes[random.index(frames)] |= random.pick(&[0x40, 0x80, 0xC0]);
+            notes[random.index(frames)] |= random.pick(&[0x10, 0x20, 0x40, 0x80, 0xC0, 0xF0]);
         }
     }
     if has(3) {
         wrong_notes(random, &mut notes);
     }
-    let least = (frames * row.tributary_digits + 7) / 8;
+    let least = (frames * row.most_digits() + 7) / 8;
     let quarter = least + random.pick(&[0, 0, 1, 2, 17]);
     let buffer = if has(4) { wrong_buffer(random, least) } else { 4 * quarter };
     Lending {
         level: if has(1) { wrong_level(random) } else { level },
+        earlier,
         line: random.filled(line),
         notes,
         buffer: random.filled(buffer),
     }
+}
+
+/// An earlier vote that is accepted everywhere, mostly; else any number.
+fn any_earlier(random: &mut Random) -> u64 {
+    if random.once_in(4) {
+        return random.near(16);
+    }
+    random.below(16)
 }
 
 fn wrong_level(random: &mut Random) -> u64 {
@@ -232,7 +290,7 @@ fn wrong_buffer(random: &mut Random, least: usize) -> usize {
 
 /// Notes whose decisions are random, alternate at a pace of their own for each tributary,
 /// stay, or stay but for one frame. Decisions that stay hide a decision used late.
-fn decisions(random: &mut Random, level: u64, frames: usize) -> Vec<u8> {
+fn decisions(random: &mut Random, row: &Row, frames: usize) -> Vec<u8> {
     let mut notes = match random.below(4) {
         0 | 1 => random.bytes(frames),
         2 => {
@@ -245,8 +303,6 @@ fn decisions(random: &mut Random, level: u64, frames: usize) -> Vec<u8> {
     if frames > 0 && random.once_in(4) {
         notes[random.index(frames)] ^= 1 << random.index(4);
     }
-    if level < 4 {
-        notes.iter_mut().for_each(|note| *note &= 0x3F);
-    }
+    notes.iter_mut().for_each(|note| *note = known_bits(row, *note));
     notes
 }

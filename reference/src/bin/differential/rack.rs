@@ -5,6 +5,7 @@
 use crate::call::state_numbers;
 use crate::face::{bytes, numbers, Lent, UNWRITTEN};
 use crate::face::{spritbobbin_rack_aligned, spritbobbin_rack_feed, spritbobbin_rack_reset};
+use crate::levels::{any_level, any_row};
 use crate::receiver::{any_state, digits_for, wrong_number};
 use crate::Run;
 use reference::digits::pack;
@@ -37,7 +38,7 @@ fn any_records(random: &mut Random) -> Vec<State> {
 
 /// A valid record, one with a number that may be wrong, or bytes of no meaning.
 fn any_record(random: &mut Random) -> State {
-    let mut state = fresh(2 + random.below(3)).1;
+    let mut state = fresh(any_row(random).level).1;
     if let Some(row) = row(state.level).filter(|_| !random.once_in(6)) {
         state = any_state(random, row);
         if random.once_in(4) {
@@ -46,7 +47,7 @@ fn any_record(random: &mut Random) -> State {
     } else {
         state.mode = random.hostile();
         state.place = random.hostile();
-        state.level = random.near(3);
+        state.level = any_level(random);
     }
     state
 }
@@ -107,7 +108,7 @@ fn feed(run: &mut Run, records: &mut [State], line: u64) {
 }
 
 fn reset(run: &mut Run, records: &mut [State], line: u64) {
-    let level = run.random.near(3);
+    let level = any_level(&mut run.random);
     let mut lent = laid(records);
     // Sound as above.
     let returned = unsafe { spritbobbin_rack_reset(lent.pointer(), records.len(), line, level) };

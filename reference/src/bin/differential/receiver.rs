@@ -1,16 +1,17 @@
 //! Calls of the receiver and of the reader: any state, streams from fresh, any place.
 
 use crate::call::{Call, Outcome, Piece};
+use crate::levels::{any_level, any_row, known_bits};
 use crate::Run;
 use reference::digits::{of_number, pack};
 use reference::history::{self, HandedOver};
-use reference::level::{row, Row};
+use reference::level::Row;
 use reference::random::Random;
 use reference::{fresh, multiplex, State};
 
 pub fn part(run: &mut Run) {
     for _ in 0..5_000 {
-        let level = run.random.near(3);
+        let level = any_level(&mut run.random);
         run.compare(&Call::Fresh(level));
     }
     for _ in 0..70_000 {
@@ -35,11 +36,7 @@ fn any_digit(run: &mut Run) {
 /// One piece to a state that need not come from any stream, and may be wrong.
 fn any_piece(run: &mut Run) {
     let random = &mut run.random;
-    let level = 2 + random.below(3);
-    let row = match row(level) {
-        Some(row) => row,
-        None => return,
-    };
+    let row = any_row(random);
     let mut state = any_state(random, row);
     let digits = digits_for(random, row, &state);
     let count = digits.len() as u64;
@@ -114,7 +111,7 @@ fn window(random: &mut Random, row: &Row) -> u64 {
 pub fn wrong_number(random: &mut Random, row: &Row, state: &mut State) {
     let length = row.word_length() as u64;
     match random.below(10) {
-        0 => state.level = random.near(3),
+        0 => state.level = any_level(random),
         1 => state.window = random.near(1 << length),
         2 => state.seen = random.near(length),
         3 => state.mode = random.near(7),
@@ -187,11 +184,8 @@ fn cut(random: &mut Random, digits: &[u8], from: usize, to: usize, state: &State
 /// A stream from a fresh state, in pieces cut anywhere. At its end the search through the
 /// whole stream must have found the same frames, words and state.
 fn stream_from_fresh(run: &mut Run) {
-    let level = 2 + run.random.below(3);
-    let row = match row(level) {
-        Some(row) => row,
-        None => return,
-    };
+    let row = any_row(&mut run.random);
+    let level = row.level;
     let digits = stream(&mut run.random, row);
     run.compare(&Call::Fresh(level));
     let (mut state, mut at, mut frames, mut words) = (fresh(level).1, 0, Vec::new(), 0);
@@ -263,9 +257,10 @@ fn ones(random: &mut Random, row: &Row) -> Vec<u8> {
 
 fn one_frame(random: &mut Random, row: &Row) -> Vec<u8> {
     let mut line = vec![0; row.frame_bytes()];
-    let note = random.number() as u8 & if row.level < 4 { 0x3F } else { 0xFF };
-    let buffer = random.filled(4 * ((row.tributary_digits + 7) / 8));
-    multiplex(row.level, &mut line, &[note], &buffer);
+    let note = known_bits(row, random.number() as u8);
+    let buffer = random.filled(4 * ((row.most_digits() + 7) / 8));
+    let earlier = random.below(16);
+    multiplex(row.level, earlier, &mut line, &[note], &buffer);
     let mut digits = reference::digits::unpack(&line, row.frame_digits);
     if random.once_in(5) {
         digits[row.word_length()..].fill(1);

@@ -5,10 +5,10 @@ use Rattle.approving.proofs.agree.all.Statement.{statement}
 use Rattle.approving.proofs.agree.all.Tie as tie
 
 abbrev Inv-loop : tie.InvT-loop
-Inv-loop row level fd frames c₀ k₀ c k = k ≤ (frames + 63) / 64
+Inv-loop row level earlier fd frames c₀ k₀ c k = k ≤ (frames + 63) / 64
 
 abbrev μ-loop : tie.MeasureT-loop
-μ-loop row level fd frames c₀ k₀ c k = (frames + 63) / 64 - k
+μ-loop row level earlier fd frames c₀ k₀ c k = (frames + 63) / 64 - k
 
 pub all-spec : {M : Type 1} → statement M
 all-spec =

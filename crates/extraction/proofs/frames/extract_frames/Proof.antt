@@ -14,11 +14,11 @@ use Rattle.extraction.proofs.frames.extract_frames.Statement.{statement
 use Rattle.extraction.proofs.frames.extract_frames.Tie as tie
 
 abbrev Inv-loop : tie.InvT-loop
-Inv-loop table row line notes buffer₀ q w₀ f₀ buffer w f =
-    (f ≤ length notes) × (length buffer ≡ length buffer₀) × Handing row line notes q (f * columns row) buffer w
+Inv-loop table row earlier line notes buffer₀ q w₀ f₀ buffer w f =
+    (f ≤ length notes) × (length buffer ≡ length buffer₀) × Handing row earlier line notes q (f * columns row) buffer w
 
 abbrev μ-loop : tie.MeasureT-loop
-μ-loop table row line notes buffer₀ q w₀ f₀ buffer w f = length notes - f
+μ-loop table row earlier line notes buffer₀ q w₀ f₀ buffer w f = length notes - f
 
 abbrev first : Writer
 first = record { at = 0; held = 0; fill = 0 }
@@ -31,7 +31,7 @@ loop-holds c =
       omega arith,
       refl,
       rw (zero-mul (columns (c3 .args .row)))
-          (handing-none line notes (c3 .args .buffer .now) (c3 .pre .1) (c3 .pre .2) _
+          (handing-none (c3 .args .earlier) line notes (c3 .args .buffer .now) (c3 .pre .1) (c3 .pre .2) _
           (of-four (λ (j : ℕ). writerOf (record { a = first; b = first; c = first; d = first }) j ≡ first) refl refl refl refl)),
     )
 
@@ -57,7 +57,7 @@ loop-again c =
     let c2 = c .before .before in
     let c4 = c2 .before .before in
     let c5 = c4 .before in
-    (omega (arith, c4 .loop-test .taken), c2 .extract-frame .kept .1 .1 .1 .1 .1 .0 ∙ c5 .loop .inv .1, c2 .extract-frame .ensures)
+    (omega (arith, c4 .loop-test .taken), c2 .extract-frame .kept .1 .1 .1 .1 .1 .1 .0 ∙ c5 .loop .inv .1, c2 .extract-frame .ensures)
 
 same-length : tie.Need-same-length Inv-loop μ-loop
 same-length c =

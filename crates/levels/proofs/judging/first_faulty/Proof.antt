@@ -17,6 +17,9 @@ abbrev μ-loop : tie.MeasureT-loop
 add-limit : tie.Need-add-limit Inv-loop μ-loop
 add-limit c = omega arith
 
+add-limit-2 : tie.Need-add-limit-2 Inv-loop μ-loop
+add-limit-2 c = omega arith
+
 shl-limit : tie.Need-shl-limit Inv-loop μ-loop
 shl-limit c = omega arith
 
@@ -57,4 +60,5 @@ returns-2 c =
 pub first-faulty-spec : {M : Type 1} → statement M
 first-faulty-spec =
     tie.close
-    (tie.spec Inv-loop μ-loop add-limit shl-limit loop-holds shared-slice-read-if1 cast-if1 returns add-f loop-less loop-again returns-2)
+    (tie.spec Inv-loop μ-loop add-limit add-limit-2 shl-limit loop-holds shared-slice-read-if1 cast-if1 returns add-f loop-less loop-again
+    returns-2)

@@ -1,7 +1,7 @@
 -- `kind_of` is `kindOf`: the first set's answer, the last set's, or that of a set between.
 use borrow.Author.Needs.{needs}
 use borrow.Author.Tests.{eq-eqb, ne-eqb}
-use Rattle.levels.specs.Places.{kindOf, middleSet, lastSet}
+use Rattle.levels.specs.Places.{kindOf}
 use Rattle.levels.proofs.places.kind_of.Statement.{statement}
 use Rattle.levels.proofs.places.kind_of.Tie as tie
 
@@ -13,14 +13,14 @@ unfolding kindOf
 returns c = rw (c .first-set .ensures, eq-eqb _ _ (c .before .if1 .taken))
 
 returns-2 : tie.Need-returns-2
-unfolding kindOf lastSet
+unfolding kindOf
 returns-2 c =
-    rw (c .last-set .ensures, ne-eqb _ _ (c .before .before .before .before .if1 .left), eq-eqb _ _ (c .before .if2 .taken), c .before .before .before .before .before .before .pre .last-eight)
+    rw (c .last-set .ensures, ne-eqb _ _ (c .before .before .before .before .if1 .left), eq-eqb _ _ (c .before .if2 .taken))
 
 returns-3 : tie.Need-returns-3
-unfolding kindOf middleSet
+unfolding kindOf
 returns-3 c =
-    rw (c .middle-set .ensures, ne-eqb _ _ (c .before .before .before .before .if1 .left), ne-eqb _ _ (c .before .if2 .left), c .before .before .before .before .before .before .pre .middle-four)
+    rw (c .middle-set .ensures, ne-eqb _ _ (c .before .before .before .before .if1 .left), ne-eqb _ _ (c .before .if2 .left))
 
 pub kind-of-spec : {M : Type 1} → statement M
 kind-of-spec =

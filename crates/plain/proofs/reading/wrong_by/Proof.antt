@@ -1,6 +1,6 @@
 -- `wrong_by` is `wrongBy`: only a digit of the alignment signal is compared.
 use borrow.Author.Needs.{needs}
-use mathlib.Core.Path.{_≡_, refl, sym, _∙_, ap}
+use mathlib.Core.Path.{refl, sym, _∙_}
 use native.Mathlib.Omega.{arith}
 use borrow.Author.Tests.{eq-eqb, ne-eqb}
 use Rattle.plain.proofs.Places.{in-word}
@@ -34,8 +34,15 @@ returns-5 c = rw (sym (c .before .before .place-in .ensures) ∙ c .enum-told4 .
 returns-6 : tie.Need-returns-6
 returns-6 c = rw (sym (c .before .before .place-in .ensures) ∙ c .enum-told5 .given .1) (refl, omega arith)
 
+returns-7 : tie.Need-returns-7
+returns-7 c = rw (sym (c .before .before .place-in .ensures) ∙ c .enum-told6 .given .1) (refl, omega arith)
+
+returns-8 : tie.Need-returns-8
+returns-8 c = rw (sym (c .before .before .place-in .ensures) ∙ c .enum-told7 .given .1) (refl, omega arith)
+
 pub wrong-by-spec : {M : Type 1} → statement M
 wrong-by-spec =
     tie.close
     (tie.spec (λ c κs. search needs) (λ c. search needs) word-digit-requires returns (λ c. search needs) (λ c. search needs)
-    (λ c. search needs) (λ c. search needs) returns-2 returns-3 returns-4 returns-5 returns-6)
+    (λ c. search needs) (λ c. search needs) (λ c. search needs) (λ c. search needs) returns-2 returns-3 returns-4 returns-5 returns-6
+    returns-7 returns-8)

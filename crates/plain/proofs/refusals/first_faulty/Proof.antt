@@ -17,6 +17,9 @@ abbrev μ-loop : tie.MeasureT-loop
 add-limit : tie.Need-add-limit Inv-loop μ-loop
 add-limit c = omega arith
 
+add-limit-2 : tie.Need-add-limit-2 Inv-loop μ-loop
+add-limit-2 c = omega arith
+
 shl-limit : tie.Need-shl-limit Inv-loop μ-loop
 shl-limit c = omega arith
 
@@ -32,7 +35,7 @@ cast-if1 c = omega (arith, c .shared-slice-known .given (c .before .before .loop
 returns : tie.Need-returns Inv-loop μ-loop
 returns c =
     let l = c .before .before .before .loop in
-    let b = c .before .before .before .before .before in
+    let b = c .before .before .before .before .before .before in
     found-here _ (b .args .notes .now) (l .f) (c .before .before .loop-test .taken) (c .if1 .taken) (l .inv .1)
     ∙ ap (λ (limit : ℕ). firstOver limit (b .args .notes .now)) (limit-is (b .args .row) (b .pre))
 
@@ -50,11 +53,12 @@ loop-again c =
 returns-2 : tie.Need-returns-2 Inv-loop μ-loop
 returns-2 c =
     let l = c .before .loop in
-    let b = c .before .before .before in
+    let b = c .before .before .before .before in
     none-left _ (b .args .notes .now) (l .f) (c .loop-test .left) (l .inv .0) (l .inv .1)
     ∙ ap (λ (limit : ℕ). firstOver limit (b .args .notes .now)) (limit-is (b .args .row) (b .pre))
 
 pub first-faulty-spec : {M : Type 1} → statement M
 first-faulty-spec =
     tie.close
-    (tie.spec Inv-loop μ-loop add-limit shl-limit loop-holds shared-slice-read-if1 cast-if1 returns add-f loop-less loop-again returns-2)
+    (tie.spec Inv-loop μ-loop add-limit add-limit-2 shl-limit loop-holds shared-slice-read-if1 cast-if1 returns add-f loop-less loop-again
+    returns-2)

@@ -1,6 +1,6 @@
 -- `verdict_on` is `verdictOn`: each return rewrites with the tests that lead to it.
 use borrow.Author.Needs.{needs}
-use mathlib.Core.Path.{_≡_, refl, sym, _∙_, ap}
+use mathlib.Core.Path.{sym, _∙_}
 use borrow.Author.Tests.{lt-ltb, le-ltb, eq-eqb, ne-eqb}
 use Rattle.plain.specs.Engine.{verdictOn}
 use Rattle.plain.proofs.Judged.{line-frames}
@@ -28,9 +28,10 @@ returns-3 : tie.Need-returns-3
 unfolding verdictOn
 returns-3 c =
     let c3 = c .before .before .before in
-    let c5 = c3 .before .before in
-    let c6 = c5 .before in
-    rw (sym (c6 .bad-line .ensures) ∙ c5 .if1 .left, eq-eqb _ _ (c3 .if2 .left), sym (c .before .before .bad-buffer .ensures) ∙ c .before .if3 .taken) (c .refused3 .ensures)
+    let c4 = c3 .before in
+    let c6 = c4 .before .before in
+    let c7 = c6 .before in
+    rw (sym (c7 .bad-line .ensures) ∙ c6 .if1 .left, eq-eqb _ _ (c4 .if2 .left), sym (c3 .bad-buffer .ensures) ∙ c .before .if3 .taken) (c .refused3 .ensures)
 
 returns-4 : tie.Need-returns-4
 unfolding verdictOn
@@ -40,8 +41,9 @@ returns-4 c =
     let c5 = c4 .before in
     let c7 = c5 .before .before in
     let c8 = c7 .before in
-    let f = c .before .before .first-faulty .ensures in
-    rw (sym (c8 .bad-line .ensures) ∙ c7 .if1 .left, eq-eqb _ _ (c5 .if2 .left), sym (c4 .bad-buffer .ensures) ∙ c3 .if3 .left, ← f, lt-ltb _ _ (c .before .if4 .taken)) (c .refused4 .ensures)
+    let over = sym (c3 .bad-earlier .ensures) ∙ c .before .if4 .taken in
+    rw (sym (c8 .bad-line .ensures) ∙ c7 .if1 .left, eq-eqb _ _ (c5 .if2 .left), sym (c4 .bad-buffer .ensures) ∙ c .before .before .if3 .left, over)
+    (c .refused4 .ensures)
 
 returns-5 : tie.Need-returns-5
 unfolding verdictOn
@@ -49,14 +51,33 @@ returns-5 c =
     let c3 = c .before .before .before in
     let c4 = c3 .before in
     let c5 = c4 .before in
-    let c7 = c5 .before .before in
-    let c8 = c7 .before in
+    let c6 = c5 .before in
+    let c7 = c6 .before in
+    let c9 = c7 .before .before in
+    let c10 = c9 .before in
+    let over = sym (c5 .bad-earlier .ensures) ∙ c3 .if4 .left in
     let f = c .before .before .first-faulty .ensures in
-    rw (sym (c8 .bad-line .ensures) ∙ c7 .if1 .left, eq-eqb _ _ (c5 .if2 .left), sym (c4 .bad-buffer .ensures) ∙ c3 .if3 .left, ← f, le-ltb _ _ (c .before .if4 .left)) (c .refused5 .ensures)
+    rw (sym (c10 .bad-line .ensures) ∙ c9 .if1 .left, eq-eqb _ _ (c7 .if2 .left), sym (c6 .bad-buffer .ensures) ∙ c4 .if3 .left)
+    (rw (over, ← f, lt-ltb _ _ (c .before .if5 .taken)) (c .refused5 .ensures))
+
+returns-6 : tie.Need-returns-6
+unfolding verdictOn
+returns-6 c =
+    let c3 = c .before .before .before in
+    let c4 = c3 .before in
+    let c5 = c4 .before in
+    let c6 = c5 .before in
+    let c7 = c6 .before in
+    let c9 = c7 .before .before in
+    let c10 = c9 .before in
+    let over = sym (c5 .bad-earlier .ensures) ∙ c3 .if4 .left in
+    let f = c .before .before .first-faulty .ensures in
+    rw (sym (c10 .bad-line .ensures) ∙ c9 .if1 .left, eq-eqb _ _ (c7 .if2 .left), sym (c6 .bad-buffer .ensures) ∙ c4 .if3 .left)
+    (rw (over, ← f, le-ltb _ _ (c .before .if5 .left)) (c .refused6 .ensures))
 
 pub verdict-on-spec : {M : Type 1} → statement M
 verdict-on-spec =
     tie.close
-    (tie.spec (λ c κs. search needs) (λ c κs. search needs) returns (λ c. search needs) (λ c κs. search needs) returns-2
-    bad-buffer-requires (λ c κs. search needs) returns-3 (λ c κs. search needs) (λ c κs. search needs) returns-4 (λ c κs. search needs)
-    returns-5)
+    (tie.spec (λ c κs. search needs) (λ c κs. search needs) returns (λ c. search needs) (λ c κs. search needs) returns-2 bad-buffer-requires
+    (λ c κs. search needs) (λ c κs. search needs) returns-3 (λ c κs. search needs) returns-4 (λ c κs. search needs) (λ c κs. search needs)
+    returns-5 (λ c κs. search needs) returns-6)

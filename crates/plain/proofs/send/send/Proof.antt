@@ -1,27 +1,25 @@
 -- `send`: one place after the other, by the laws of Counting and Sending.
-use mathlib.Core.Path.{_≡_, refl, sym, _∙_}
-use Prim.Native.Nat.{_+_, _*_, _-_, _≤_, _<_}
+use mathlib.Core.Path.{_≡_, refl}
+use Prim.Native.Nat.{_*_, _-_, _≤_, _<_}
 use native.Mathlib.Omega.{arith}
-use native.Mathlib.Nat.{mul-le-mul}
 use lib.ListN.{length}
-use Rattle.plain.specs.Engine.{countTo, sumOver}
-use Rattle.plain.specs.Walk.{Regular, Fits, Counted, Sent}
+use Rattle.plain.specs.Walk.{Counted, Sent}
 use Rattle.plain.proofs.Counting.{frame-noted, line-short, counted-start, counted-all}
 use Rattle.plain.proofs.Sending.{sent-more, sent-all}
 use Rattle.plain.proofs.send.send.Statement.{statement}
 use Rattle.plain.proofs.send.send.Tie as tie
 
 abbrev Inv-loop : tie.InvT-loop
-Inv-loop row line₀ notes buffer next₀ end p₀ line next p =
+Inv-loop row earlier line₀ notes buffer next₀ end p₀ line next p =
     (p ≤ end)
     × (end ≡ 8 * length line₀)
     × (length line ≡ length line₀)
     × (end < 1000000)
-    × Counted row notes p next
-    × Sent row notes buffer p (length line₀) line
+    × Counted row earlier notes p next
+    × Sent row earlier notes buffer p (length line₀) line
 
 abbrev μ-loop : tie.MeasureT-loop
-μ-loop row line₀ notes buffer next₀ end p₀ line next p = end - p
+μ-loop row earlier line₀ notes buffer next₀ end p₀ line next p = end - p
 
 mul-end : tie.Need-mul-end Inv-loop μ-loop
 mul-end c =
@@ -35,7 +33,7 @@ loop-holds c =
       refl,
       refl,
       omega (arith, line-short _ (c3 .pre .0) _ _ (c3 .pre .1)),
-      counted-start _ _,
+      counted-start _ _ _,
       record { bytes = λ i. omega (arith, c .before .before .slice-known .given i); size = refl; done = λ k h. absurd (omega arith) },
     )
 
@@ -73,7 +71,7 @@ loop-again c =
       omega arith,
       i .3,
       c .count-place .ensures,
-      sent-more _ _ _ _ _ _ _ (i .5) _ (c6 .sent-at .ensures .0) (put .ensures .0) (put .ensures .1) (omega arith),
+      sent-more _ _ _ _ _ _ _ _ (i .5) _ (c6 .sent-at .ensures .0) (put .ensures .0) (put .ensures .1) (omega arith),
     )
 
 same-length : tie.Need-same-length Inv-loop μ-loop
@@ -85,9 +83,10 @@ returns c =
     let i = c .before .loop .inv in
     let p = c .before .loop .p in
     let end : p ≡ 8 * length (c5 .args .line .now) = omega arith in
-    (rw end at (counted-all _ _ _ _ (i .4)), sent-all _ _ _ _ _ _ (i .5) end)
+    (rw end at (counted-all _ _ _ _ _ (i .4)), sent-all _ _ _ _ _ _ _ (i .5) end)
 
 pub send-spec : {M : Type 1} → statement M
 send-spec =
     tie.close
-    (tie.spec Inv-loop μ-loop mul-end loop-holds sent-at-requires put-from-requires count-place-requires add-p loop-less loop-again same-length returns)
+    (tie.spec Inv-loop μ-loop mul-end loop-holds sent-at-requires put-from-requires count-place-requires add-p loop-less loop-again
+    same-length returns)

@@ -1,6 +1,6 @@
 -- `take`: one place after the other, by the laws of Counting and Handing.
-use mathlib.Core.Path.{_≡_, refl, sym, _∙_, ap}
-use Prim.Native.Nat.{ℕ, _+_, _*_, _-_, _/_, _≤_, _<_}
+use mathlib.Core.Path.{_≡_, refl}
+use Prim.Native.Nat.{ℕ, _*_, _-_, _/_, _≤_, _<_}
 use native.Mathlib.Omega.{arith}
 use lib.ListN.{length, length-replicate}
 use Rattle.plain.specs.Walk.{Counted, Taken}
@@ -10,16 +10,16 @@ use Rattle.plain.proofs.take.take.Statement.{statement}
 use Rattle.plain.proofs.take.take.Tie as tie
 
 abbrev Inv-loop : tie.InvT-loop
-Inv-loop row line notes buffer₀ next₀ end p₀ buffer next p =
+Inv-loop row earlier line notes buffer₀ next₀ end p₀ buffer next p =
     (p ≤ end)
     × (end ≡ 8 * length line)
     × (end < 1000000)
     × (length buffer ≡ length buffer₀)
-    × Counted row notes p next
-    × Taken row notes line (length buffer / 4) p buffer
+    × Counted row earlier notes p next
+    × Taken row earlier notes line (length buffer / 4) p buffer
 
 abbrev μ-loop : tie.MeasureT-loop
-μ-loop row line notes buffer₀ next₀ end p₀ buffer next p = end - p
+μ-loop row earlier line notes buffer₀ next₀ end p₀ buffer next p = end - p
 
 clear-requires : tie.Need-clear-requires Inv-loop μ-loop
 clear-requires c κs = tt
@@ -38,8 +38,8 @@ loop-holds c =
       refl,
       omega (arith, line-short _ (c7 .pre .0) _ _ (c7 .pre .1)),
       omega arith,
-      counted-start _ _,
-      rw (c .before .before .clear .ensures, size) (taken-start _ _ _ n (n / 4) (c7 .pre .2)),
+      counted-start _ _ _,
+      rw (c .before .before .clear .ensures, size) (taken-start _ _ _ _ n (n / 4) (c7 .pre .2)),
     )
 
 take-place-requires : tie.Need-take-place-requires Inv-loop μ-loop
@@ -68,7 +68,7 @@ loop-again c =
     let c8 = c4 .before .before .before .before in
     let i = c8 .loop .inv in
     let t = c4 .take-place in
-    (omega arith, i .1, i .2, omega arith, c .count-place .ensures, rw (t .kept .1 .1 .1 .0) (t .ensures))
+    (omega arith, i .1, i .2, omega arith, c .count-place .ensures, rw (t .kept .1 .1 .1 .1 .0) (t .ensures))
 
 same-length : tie.Need-same-length Inv-loop μ-loop
 same-length c = omega arith
@@ -81,7 +81,7 @@ returns c =
     let end : c .before .loop .p ≡ 8 * length (c9 .args .line .now) = omega arith in
     let size : length (c .before .loop .buffer) ≡ n = omega arith in
     let done = rw size at (i .5) in
-    (rw end at (counted-all _ _ _ _ (i .4)), taken-all _ _ _ (n / 4) _ n _ done end (c9 .pre .2))
+    (rw end at (counted-all _ _ _ _ _ (i .4)), taken-all _ _ _ _ (n / 4) _ n _ done end (c9 .pre .2))
 
 pub take-spec : {M : Type 1} → statement M
 take-spec =

@@ -1,8 +1,8 @@
 -- `take_place`: one place of the line, by the laws of Handing.
 use borrow.Author.Needs.{needs}
-use mathlib.Core.Path.{_≡_, refl, sym, _∙_, ap}
+use mathlib.Core.Path.{_≡_, sym, _∙_}
 use native.Mathlib.Omega.{arith}
-use Prim.Native.Nat.{_+_, _*_, _/_, _%_}
+use Prim.Native.Nat.{_%_}
 use lib.ListN.{length, getD}
 use Rattle.plain.specs.Engine.{countTo}
 use Rattle.plain.proofs.Packing.{from-start}
@@ -32,10 +32,10 @@ returns c =
     let c13 = c9 .before .before .before .before in
     let a = c13 .args in
     let j = a .p % a .row .digits % 4 in
-    let next : getD (a .next .now) j 0 ≡ countTo (a .row) (a .notes .now) j (a .p) = c13 .pre .3 .each j (omega arith) in
+    let next : getD (a .next .now) j 0 ≡ countTo (a .row) (a .earlier) (a .notes .now) j (a .p) = c13 .pre .3 .each j (omega arith) in
     let put = c .before .before .put-from .ensures in
     let d = c4 .digit-from .ensures .0 ∙ from-start (a .line .now) (a .p) in
-    taken-put _ _ _ _ _ _ (c13 .pre .4) (sym (c9 .carries-at .ensures) ∙ c8 .if1 .taken) (rw next at (c5 .if2 .taken)) _ _ d (rw next at (put .0)) (put .1) (omega arith)
+    taken-put _ _ _ _ _ _ _ (c13 .pre .4) (sym (c9 .carries-at .ensures) ∙ c8 .if1 .taken) (rw next at (c5 .if2 .taken)) _ _ d (rw next at (put .0)) (put .1) (omega arith)
 
 returns-2 : tie.Need-returns-2
 returns-2 c =
@@ -44,13 +44,13 @@ returns-2 c =
     let c8 = c4 .before .before .before .before in
     let a = c8 .args in
     let j = a .p % a .row .digits % 4 in
-    let next : getD (a .next .now) j 0 ≡ countTo (a .row) (a .notes .now) j (a .p) = c8 .pre .3 .each j (omega arith) in
-    taken-past _ _ _ _ _ _ (c8 .pre .4) (sym (c4 .carries-at .ensures) ∙ c3 .if1 .taken) (rw next at (c .if2 .left))
+    let next : getD (a .next .now) j 0 ≡ countTo (a .row) (a .earlier) (a .notes .now) j (a .p) = c8 .pre .3 .each j (omega arith) in
+    taken-past _ _ _ _ _ _ _ (c8 .pre .4) (sym (c4 .carries-at .ensures) ∙ c3 .if1 .taken) (rw next at (c .if2 .left))
 
 returns-3 : tie.Need-returns-3
 returns-3 c =
     let c5 = c .before .before .before .before .before in
-    taken-idle _ _ _ _ _ _ (c5 .pre .4) (sym (c .before .carries-at .ensures) ∙ c .if1 .left)
+    taken-idle _ _ _ _ _ _ _ (c5 .pre .4) (sym (c .before .carries-at .ensures) ∙ c .if1 .left)
 
 pub take-place-spec : {M : Type 1} → statement M
 take-place-spec =

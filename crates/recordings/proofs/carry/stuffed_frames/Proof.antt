@@ -7,19 +7,20 @@ use native.Mathlib.Numerals.{add-one}
 use lib.ListN.{length}
 use borrow.Author.Needs.{needs}
 use Rattle.digits.specs.Sums.{sumTo}
-use Rattle.levels.specs.Order.{decisions, stuffedTo}
+use Rattle.levels.specs.declared.order.Action.{Action}
+use Rattle.levels.specs.Order.{actions, isStuffed, stuffedTo}
 use Rattle.recordings.proofs.carry.stuffed_frames.Statement.{statement}
 use Rattle.recordings.proofs.carry.stuffed_frames.Tie as tie
 
 abbrev Inv-loop : tie.InvT-loop
-Inv-loop notes j stuffed₀ f₀ stuffed f = (f ≤ length notes) × (stuffed ≤ f) × (stuffed ≡ stuffedTo (decisions notes j) f)
+Inv-loop row earlier notes j stuffed₀ f₀ stuffed f = (f ≤ length notes) × (stuffed ≤ f) × (stuffed ≡ stuffedTo (actions row earlier notes j) f)
 
 abbrev μ-loop : tie.MeasureT-loop
-μ-loop notes j stuffed₀ f₀ stuffed f = length notes - f
+μ-loop row earlier notes j stuffed₀ f₀ stuffed f = length notes - f
 
-one-more : (decided : ℕ → Bool) (f k : ℕ) → k ≡ cond (decided f) 1 0 → stuffedTo decided f + k ≡ stuffedTo decided (f + 1)
+one-more : (acts : ℕ → Action) (f k : ℕ) → k ≡ cond (isStuffed (acts f)) 1 0 → stuffedTo acts f + k ≡ stuffedTo acts (f + 1)
 unfolding sumTo
-one-more decided f k e = rw (add-one f, e)
+one-more acts f k e = rw (add-one f, e)
 
 loop-holds : tie.Need-loop-holds Inv-loop μ-loop
 unfolding sumTo
@@ -27,10 +28,10 @@ loop-holds c = (omega arith, omega arith, refl)
 
 loop-again : tie.Need-loop-again Inv-loop μ-loop
 loop-again c =
-    let l = c .before .before .before .before .loop in
-    let a = c .before .before .before .before .before .before .args in
-    let decided = c .digit-of .ensures .0 ∙ ap (λ (b : Bool). cond b 1 0) (c .before .is-stuffed .ensures) in
-    (omega arith, omega (arith, c .digit-of .ensures .1), ap (λ (n : ℕ). n + c .digit-of .result) (l .inv .2) ∙ one-more (decisions (a .notes .now) (a .j)) (l .f) _ decided)
+    let l = c .before .before .before .loop in
+    let a = c .before .before .before .before .before .args in
+    let decided = c .digit-of .ensures .0 ∙ ap (λ (b : Bool). cond b 1 0) (c .before .stuffed-in .ensures) in
+    (omega arith, omega (arith, c .digit-of .ensures .1), ap (λ (n : ℕ). n + c .digit-of .result) (l .inv .2) ∙ one-more (actions (a .row) (a .earlier) (a .notes .now) (a .j)) (l .f) _ decided)
 
 returns : tie.Need-returns Inv-loop μ-loop
 returns c =
@@ -40,5 +41,5 @@ returns c =
 pub stuffed-frames-spec : {M : Type 1} → statement M
 stuffed-frames-spec =
     tie.close
-    (tie.spec Inv-loop μ-loop loop-holds (λ c. search needs) (λ c κs. search needs) (λ c κs. search needs) (λ c. search needs)
+    (tie.spec Inv-loop μ-loop loop-holds (λ c κs. search needs) (λ c κs. search needs) (λ c. search needs)
     (λ c. search needs) (λ c. search needs) (λ c. search needs) loop-again returns)
