@@ -25,6 +25,12 @@ read_notes_call plain_read_notes, quick_read_notes;
 extract_call plain_extract, quick_extract;
 feed_call plain_receiver_feed, quick_receiver_feed;
 
+/* The swap of one tributary, in the plain engine only. */
+typedef uint64_t swap_call(uint64_t level, uint64_t earlier, uint64_t tributary, uint8_t *line, size_t line_bytes,
+                           const uint8_t *notes, size_t notes_bytes, const uint8_t *buffer, size_t buffer_bytes, uint64_t answer[1]);
+
+swap_call plain_swap;
+
 /* The multiframe of 2048 kbit/s, in the plain engine only: its channels are whole bytes anyway. */
 typedef uint64_t build_call(uint8_t *multiframe, size_t multiframe_bytes, const uint8_t *channels, size_t channels_bytes,
                             const uint8_t *signalling, size_t signalling_bytes, const uint8_t *spare, size_t spare_bytes,

@@ -157,6 +157,43 @@ uint64_t plain_extract(uint64_t level, uint64_t earlier, const uint8_t *line, si
     return 0;
 }
 
+/* One tributary's places only, four apart in each set. */
+uint64_t plain_swap(uint64_t level, uint64_t earlier, uint64_t tributary, uint8_t *line, size_t line_bytes,
+                    const uint8_t *notes, size_t notes_bytes, const uint8_t *buffer, size_t buffer_bytes, uint64_t answer[1])
+{
+    const struct row *row = row_of(level);
+    unsigned j = (unsigned)tributary - 1;
+    size_t start = 0, next = 0, f;
+
+    (void)line_bytes, (void)buffer_bytes;
+    for (f = 0; f < notes_bytes; f++) {
+        unsigned own = notes[f] >> j & 1, other = before(row, earlier, notes, f) >> j & 1;
+
+        for (unsigned set = 0; set < row->sets; set++, start += row->set_digits)
+            for (unsigned at = j; at < row->set_digits; at += 4)
+                switch (kind_of(row, set, at)) {
+                case CONTROL:
+                    put(line, start + at, own);
+                    break;
+                case NEGATIVE:
+                    put(line, start + at, own | other ? 1 : get(buffer, next++));
+                    break;
+                case JUSTIFICATION:
+                    put(line, start + at, own & other ? 1 : get(buffer, next++));
+                    break;
+                case TRIBUTARY:
+                    put(line, start + at, get(buffer, next++));
+                    break;
+                case WORD:
+                case NOTED:
+                case SERVICE:
+                    break;
+                }
+    }
+    answer[0] = next;
+    return 0;
+}
+
 static void begin_frame(const struct row *row, uint8_t *frame, uint64_t window)
 {
     memset(frame, 0, 366);

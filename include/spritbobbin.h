@@ -92,7 +92,7 @@
  *   5  multiplexing and extraction: earlier is over 15, at level 12 or 14, and the answer names
  *      frame 0; or a note has a bit set that notes of its level have not, which is bit 6 or 7 at
  *      level 2 or 3, and bits 4 to 7 at level 12 or 14, and the answer names the first such frame,
- *      counted from 0
+ *      counted from 0; for a swap: earlier is over 15, at level 12 or 14
  *   6  the receiver state is not valid: a level as under 1, a window of 2 to the L
  *      or more, over L digits seen, a mode over 6, a place of N or more, hunting at a place
  *      other than 0, not hunting with fewer than L digits seen, N or more digits in the
@@ -105,16 +105,18 @@
  *      begin, counted from 0
  *  11  building a multiframe: the signalling of one of channels 1 to 15 is 0000; the answer names
  *      the first such channel
+ *  12  a swap: the tributary is not 1, 2, 3 or 4
  *
- * For a capture 4 means that the file's buffer is shorter than the file.
+ * For a capture 4 means that the file's buffer is shorter than the file; for a swap, that the
+ * buffer has fewer digits than F times the level's room.
  *
  * Where several apply, the first in this order is returned: 1, 2, 3, 4, 5 for the two multiplex
- * calls, 6, 2, 7 for a piece, 1, 2, 9, 4 for writing a capture, 9, 1, 2 for reading one, 2, 11
- * for building a multiframe; for a comparison see spritbobbin_compare; for a rack 8, 2 and then as
- * a piece, or 1 for a reset. A refused call writes
- * nothing that it was lent, but the answer: all its numbers are 0, except the named frame under 5,
- * the named byte under 9, the named channel under 11 and the file at fault of a comparison. (A
- * fresh state and the places of a comparison are answers too.)
+ * calls; 1, 12, 2, 3, 4, 5 for a swap; 6, 2, 7 for a piece; 1, 2, 9, 4 for writing a capture, 9, 1,
+ * 2 for reading one; 2, 11 for building a multiframe; for a comparison see spritbobbin_compare; for a
+ * rack 8, 2 and then as a piece, or 1 for a reset. A refused call writes nothing that it was lent, but
+ * the answer: all its numbers are 0, except the named frame under 5, the named byte under 9, the named
+ * channel under 11 and the file at fault of a comparison. (A fresh state and the places of a
+ * comparison are answers too.)
  *
  *
  * EXAMPLE
@@ -192,7 +194,8 @@ enum {
     SPRITBOBBIN_REFUSED_DIGITS = 7,
     SPRITBOBBIN_REFUSED_RACK_LINE = 8,
     SPRITBOBBIN_REFUSED_FIELD = 9,
-    SPRITBOBBIN_REFUSED_SIGNALLING = 11
+    SPRITBOBBIN_REFUSED_SIGNALLING = 11,
+    SPRITBOBBIN_REFUSED_TRIBUTARY = 12
 };
 
 /* Sizes, by level where they differ. */
@@ -229,7 +232,7 @@ enum {
 };
 
 /* The fewest bytes of a quarter for so many frames, room_digits being the room of the level. The
-   buffer is four times as long. */
+   buffer is four times as long, but that of a swap, which is one tributary's. */
 #define SPRITBOBBIN_QUARTER_BYTES(frames, room_digits) \
     (((frames) * (room_digits) + 7) / 8)
 
@@ -271,6 +274,7 @@ enum {
     SPRITBOBBIN_NAMED_FRAME = 4, /* multiplexing and extraction: under 5 */
     SPRITBOBBIN_ALIGNMENT = 0,   /* reading notes: alignment digits that differ from the word */
     SPRITBOBBIN_DISSENT = 1,     /* reading notes: dissenting digits of tributary 1; then of 2, 3, 4 */
+    SPRITBOBBIN_SWAPPED = 0,     /* a swap: digits taken from the buffer */
     SPRITBOBBIN_TAKEN = 0,       /* receiver: digits taken */
     SPRITBOBBIN_READY = 1,       /* receiver: 1 if a frame is ready */
     SPRITBOBBIN_ALARM = 2,       /* receiver: 1 if alarm indication stands at the end */
@@ -348,8 +352,27 @@ uint64_t spritbobbin_extract(uint64_t level, uint64_t earlier, const uint8_t *li
                              uint8_t *buffer, size_t buffer_bytes, uint64_t answer[5]);
 
 /*
+ * Swaps one tributary of a line in place: rewrites its control, justification and ordinary places,
+ * negative ones too, from new digits and new decisions, and touches no other digit.
+ *
+ * tributary is its number j, 1 to 4. Of each note only bit j - 1 is looked at, and of earlier, at
+ * levels 12 and 14, only bit j - 1; any other bits are allowed, but earlier may not be over 15. The
+ * buffer has the one tributary's digits, from its first byte on; its length need be no multiple of
+ * 4. A place that carries nothing is written as 1. What its places held is not looked at.
+ *
+ * A line that multiplexing made becomes what multiplexing makes of the new four, with their notes,
+ * and with bit j - 1 of earlier from this call and the others from that one. Two tributaries may be
+ * swapped in either order; for one tributary twice the last call stands.
+ *
+ * answer: digits taken. Returns 0, 1, 12, 2, 3, 4 or 5.
+ */
+uint64_t spritbobbin_swap(uint64_t level, uint64_t earlier, uint64_t tributary, uint8_t *line, size_t line_bytes,
+                          const uint8_t *notes, size_t notes_bytes,
+                          const uint8_t *buffer, size_t buffer_bytes, uint64_t answer[1]);
+
+/*
  * The plain engine: a second engine that goes digit by digit and shares only the level table with
- * the one above. It takes the same arguments, and gives the same answers, slices and refusals on
+ * the one that multiplexes, reads notes and extracts above. It takes the same arguments, and gives the same answers, slices and refusals on
  * every input, which is proved; it is slower. For approvals, and to hold one beside the other.
  */
 uint64_t spritbobbin_plain_multiplex(uint64_t level, uint64_t earlier, uint8_t *line, size_t line_bytes,

@@ -113,6 +113,37 @@ pub fn fill(row: &Row, before: u8, note: u8, waiting: &mut [Waiting]) -> Vec<u8>
     layout(row).into_iter().map(&mut digit_at).collect()
 }
 
+/// Puts one tributary's digits into a frame: its control digits by the note, a digit at each place
+/// that carries one, and 1 at its places that carry none.
+pub fn put(
+    row: &Row,
+    before: u8,
+    note: u8,
+    tributary: usize,
+    waiting: &mut Waiting,
+    digits: &mut [u8],
+) {
+    for (place, digit) in layout(row).into_iter().zip(digits) {
+        if owner(place) != Some(tributary) {
+            continue;
+        }
+        *digit = match place {
+            Place::Control(_) => note_digit(note, tributary),
+            _ if carried(row, before, note, place).is_none() => 1,
+            _ => waiting.pop_front().unwrap_or(0),
+        };
+    }
+}
+
+/// Whose own place this is, if it is any tributary's.
+fn owner(place: Place) -> Option<usize> {
+    match place {
+        Place::Control(j) | Place::Negative(j) => Some(j),
+        Place::Justification(j) | Place::Tributary(j) => Some(j),
+        Place::Word(_) | Place::RemoteAlarm | Place::National(_) | Place::Service => None,
+    }
+}
+
 /// What one received frame says.
 pub struct Read {
     pub note: u8,

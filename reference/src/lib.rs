@@ -22,6 +22,7 @@ mod multiplexing;
 mod rack;
 pub mod random;
 mod receiver;
+mod swapping;
 
 pub use captures::{read_capture, write_capture, Read, Written};
 pub use comparison::{compare, sum, Differences, MOST_LISTED};
@@ -33,3 +34,4 @@ pub use multiplexing::{
 };
 pub use rack::{rack_aligned, rack_feed, rack_refusal, rack_reset, Told, MOST_RECORDS};
 pub use receiver::{feed, feed_refusal, fresh, line_digit, Fed, State};
+pub use swapping::{swap, swap_refusal, Swapped};

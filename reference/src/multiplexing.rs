@@ -78,12 +78,12 @@ fn judge<'a>(
 }
 
 /// Whether the vote before frame 0 has more than four bits, where it is looked at.
-fn wrong_earlier(row: &Row, earlier: u64) -> bool {
+pub fn wrong_earlier(row: &Row, earlier: u64) -> bool {
     row.negative_places && earlier > 15
 }
 
 /// The notes, each after the one before it, the first after the earlier vote.
-fn with_before(earlier: u64, notes: &[u8]) -> impl Iterator<Item = (u8, u8)> + '_ {
+pub fn with_before(earlier: u64, notes: &[u8]) -> impl Iterator<Item = (u8, u8)> + '_ {
     // An earlier vote that does not fit a byte is one that is not looked at.
     let before = std::iter::once(earlier as u8).chain(notes.iter().copied());
     before.zip(notes.iter().copied())

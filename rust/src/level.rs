@@ -120,6 +120,11 @@ impl Level {
         self.room_digits() > self.tributary_digits()
     }
 
+    /// Whether an earlier vote is refused: where one is looked at, those over 15.
+    pub(crate) fn refuses_earlier(self, earlier: u8) -> bool {
+        self.looks_at_earlier() && earlier > 15
+    }
+
     /// The fewest bytes of a buffer's quarter for so many frames, stuffed or not.
     ///
     /// ```

@@ -8,6 +8,7 @@
 //! - [`multiplex`] builds the frames of a line out of four tributaries; [`read_notes`] reads the
 //!   notes of a line, and [`extract`] takes the tributaries out again by notes. [`plain`] has the
 //!   same three by a second engine, digit by digit.
+//! - [`swap`] rewrites one tributary of a line in place.
 //! - A [`Receiver`] finds frames in a stream that comes in pieces of any size; a [`FrameStream`]
 //!   reads the stream too.
 //! - A [`Rack`] keeps the receivers of up to 64 lines.
@@ -89,6 +90,7 @@ mod raw;
 mod receiver;
 mod refusal;
 mod stream;
+mod swapping;
 
 pub use capture::{capture_bytes, read_capture, write_capture, Capture, MOST_LABEL_BYTES};
 pub use comparison::{
@@ -103,3 +105,4 @@ pub use rack::{Rack, MOST_LINES};
 pub use receiver::{Frame, Frames, Mode, Receiver, State, Taken};
 pub use refusal::Refusal;
 pub use stream::FrameStream;
+pub use swapping::swap;

@@ -3,9 +3,6 @@
 use crate::raw::{self, count};
 use crate::{Level, Refusal};
 
-/// The largest earlier vote: a bit to each tributary.
-const MOST_EARLIER: u8 = 15;
-
 /// What multiplexing sent.
 #[derive(Clone, Copy, Debug, PartialEq, Eq, Hash)]
 pub struct Sent {
@@ -274,9 +271,7 @@ impl Lent {
             3 => Refusal::Notes { bytes: notes, frames },
             4 => Refusal::Buffer { level, bytes: buffer, frames },
             // The earlier vote is judged before the notes.
-            5 if level.looks_at_earlier() && earlier > MOST_EARLIER => {
-                Refusal::Earlier { level, earlier }
-            }
+            5 if level.refuses_earlier(earlier) => Refusal::Earlier { level, earlier },
             5 => Refusal::NoteBits { level, frame },
             _ => Refusal::Unknown { number },
         }

@@ -126,6 +126,20 @@ extern "C" {
         answer: &mut [u64; 5],
     ) -> u64;
 
+    /// Answer: digits taken.
+    pub fn spritbobbin_swap(
+        level: u64,
+        earlier: u64,
+        tributary: u64,
+        line: *mut u8,
+        line_bytes: usize,
+        notes: *const u8,
+        notes_bytes: usize,
+        buffer: *const u8,
+        buffer_bytes: usize,
+        answer: &mut [u64; 1],
+    ) -> u64;
+
     /// State: level, window, digits seen, mode, place, the stretch's digits and zeros, 1 if the
     /// stretch before had few zeros, 1 if the alarm stands.
     pub fn spritbobbin_receiver_fresh(

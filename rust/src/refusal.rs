@@ -59,6 +59,15 @@ pub enum Refusal {
         /// The frames of the line.
         frames: usize,
     },
+    /// A buffer for one tributary is too short.
+    OneBuffer {
+        /// The level asked for.
+        level: Level,
+        /// The buffer's bytes.
+        bytes: usize,
+        /// The frames of the line.
+        frames: usize,
+    },
     /// The earlier vote is over 15.
     Earlier {
         /// The level asked for.
@@ -118,6 +127,11 @@ pub enum Refusal {
         /// The first such channel.
         channel: usize,
     },
+    /// There is no tributary of this number.
+    Tributary {
+        /// The number given.
+        number: usize,
+    },
     /// A number that this crate does not know: the library is of another version.
     Unknown {
         /// The number that the library returned.
@@ -132,13 +146,14 @@ impl Refusal {
             Refusal::Level { .. } => 1,
             Refusal::Line { .. } | Refusal::Slice { .. } | Refusal::Rack { .. } => 2,
             Refusal::Notes { .. } => 3,
-            Refusal::Buffer { .. } | Refusal::File { .. } => 4,
+            Refusal::Buffer { .. } | Refusal::OneBuffer { .. } | Refusal::File { .. } => 4,
             Refusal::Earlier { .. } | Refusal::NoteBits { .. } => 5,
             Refusal::State => 6,
             Refusal::Digits { .. } => 7,
             Refusal::RackLine { .. } => 8,
             Refusal::Label { .. } | Refusal::Field { .. } => 9,
             Refusal::Signalling { .. } => 11,
+            Refusal::Tributary { .. } => 12,
             Refusal::Unknown { number } => *number,
         }
     }
@@ -162,6 +177,13 @@ impl fmt::Display for Refusal {
                 counted(frames, "frame")
             ),
             Refusal::Buffer { level, bytes, frames } => wrong_buffer(out, level, bytes, frames),
+            Refusal::OneBuffer { level, bytes, frames } => write!(
+                out,
+                "a buffer of {bytes} bytes is too short for a tributary: for {} of {level} give \
+                 {} or more",
+                counted(frames, "frame"),
+                level.quarter_bytes(frames)
+            ),
             Refusal::Earlier { level, earlier } => write!(
                 out,
                 "the earlier vote is {earlier}: give 0 to 15, a bit to each tributary, \
@@ -205,6 +227,9 @@ impl fmt::Display for Refusal {
                 "the signalling of channel {channel} is 0000: give channels 1 to 15 another, \
                  since 0000 marks frame 0"
             ),
+            Refusal::Tributary { number } => {
+                write!(out, "there is no tributary {number}: give 1, 2, 3 or 4")
+            }
             Refusal::Unknown { number } => write!(
                 out,
                 "refused with {number}, which this crate does not know: \

@@ -1,6 +1,6 @@
 /*
  * Calls every function of the library through its header, from C: worked cases 1, 9, 10 and 11
- * of the specification, frames of levels 12 and 14 worked by hand, each refusal, the digits of a line, captures,
+ * of the specification, frames of levels 12 and 14 worked by hand, swaps, each refusal, the digits of a line, captures,
  * comparisons, multiframes, frames of 2048 kbit/s and a rack of lines. Prints "face: ok", or what failed.
  *
  * All bytes that are lent come from malloc in their exact number, so that valgrind sees a read or
@@ -195,6 +195,59 @@ static void earlier_vote(void)
     free(buffer);
     free(one);
     free(room);
+}
+
+/* A swap that is refused with this number, and leaves the line as it was. */
+static void refused_swap(uint64_t level, uint64_t earlier, uint64_t tributary, size_t line_bytes, size_t notes_bytes, size_t buffer_bytes, uint64_t refusal)
+{
+    uint8_t *line = lend(line_bytes, 0xA5), *notes = lend(notes_bytes, 0xFF), *buffer = lend(buffer_bytes, 0);
+    uint64_t answer[1] = {UINT64_C(0xA5A5A5A5A5A5A5A5)};
+
+    check(spritbobbin_swap(level, earlier, tributary, line, line_bytes, notes, notes_bytes, buffer, buffer_bytes, answer) == refusal, "the refusal of a swap");
+    check(answer[SPRITBOBBIN_SWAPPED] == 0 && all(line, line_bytes, 0xA5), "a refused swap takes and writes nothing");
+    free(line);
+    free(notes);
+    free(buffer);
+}
+
+/* Case 1's line, of which tributary 2 becomes ones, stuffed; then that of level 12, of which tributary 4 has a digit more, by the bits of others
+   too. Then the refusals in their order. */
+static void swaps(void)
+{
+    uint8_t *line = lend(106, 0), *notes = lend(1, 0xF2), *buffer = lend(26, 0xFF);
+    uint8_t *other = lend(132, 0), *vote = lend(1, 0xF7), *digits = lend(33, 0);
+    uint64_t answer[1], places = 0, i;
+
+    line[0] = 0xF4;
+    check(spritbobbin_swap(2, UINT64_MAX, 2, line, 106, notes, 1, buffer, 26, answer) == 0 && answer[SPRITBOBBIN_SWAPPED] == 205, "205 digits are swapped in");
+    check(line[0] == 0xF4 && line[1] == 0x04 && line[2] == 0x44 && line[26] == 0x44 && line[105] == 0x44, "the digits of tributary 2");
+    for (i = 8; i < 848; i++)
+        places += spritbobbin_line_digit(line, 106, i);
+    check(places == 209, "all of its places, three control digits and one stuffed, and no other");
+
+    check(spritbobbin_swap(12, 7, 4, other, 132, vote, 1, digits, 33, answer) == 0 && answer[SPRITBOBBIN_SWAPPED] == 257 && all(other, 132, 0), "257 zeros");
+    vote[0] = SPRITBOBBIN_STUFFED_4;
+    check(spritbobbin_swap(12, 7, 4, other, 132, vote, 1, digits, 33, answer) == 0 && answer[0] == 256, "after a vote of 0: 256");
+    check(other[33] == 0x10 && other[66] == 0x10 && other[99] == 0x11 && other[100] == 0, "control digits, and the negative place sent as 1");
+    check(spritbobbin_swap(12, 8, 4, other, 132, vote, 1, digits, 33, answer) == 0 && answer[0] == 255 && other[99] == 0x11 && other[100] == 0x10, "after one of 1: 255");
+    check(spritbobbin_swap(14, 15, 1, NULL, 0, NULL, 0, NULL, 0, answer) == 0 && answer[0] == 0, "a line without frames");
+
+    refused_swap(5, 16, 0, 105, 2, 25, SPRITBOBBIN_REFUSED_LEVEL);
+    refused_swap(2, 16, 0, 105, 2, 25, SPRITBOBBIN_REFUSED_TRIBUTARY);
+    refused_swap(2, 16, 5, 105, 2, 25, SPRITBOBBIN_REFUSED_TRIBUTARY);
+    refused_swap(2, 16, UINT64_C(1) << 32 | 1, 105, 2, 25, SPRITBOBBIN_REFUSED_TRIBUTARY);
+    refused_swap(2, 16, 4, 105, 2, 25, SPRITBOBBIN_REFUSED_LINE);
+    refused_swap(2, 16, 4, 65 * 106, 65, 1674, SPRITBOBBIN_REFUSED_LINE);
+    refused_swap(2, 16, 4, 106, 2, 25, SPRITBOBBIN_REFUSED_NOTES);
+    refused_swap(12, 16, 4, 132, 1, 32, SPRITBOBBIN_REFUSED_BUFFER);
+    refused_swap(12, 16, 4, 132, 1, 33, SPRITBOBBIN_REFUSED_NOTE_BITS);
+    refused_swap(14, 16, 1, 0, 0, 0, SPRITBOBBIN_REFUSED_NOTE_BITS);
+    free(line);
+    free(notes);
+    free(buffer);
+    free(other);
+    free(vote);
+    free(digits);
 }
 
 /* Two frames with notes of their own and a buffer of 0x5A and 0xC3, sent, read and extracted by both engines, and
@@ -607,6 +660,7 @@ int main(void)
     votes(12, SPRITBOBBIN_FRAME_BYTES_12, SPRITBOBBIN_TRIBUTARY_DIGITS_12, heads[0], tails[0]);
     votes(14, SPRITBOBBIN_FRAME_BYTES_14, SPRITBOBBIN_TRIBUTARY_DIGITS_14, heads[1], tails[1]);
     earlier_vote();
+    swaps();
     two_engines(4, 0xE5, 0x1A, 732, 724);
     two_engines(4, 0xE5, 0x1A, 732, 720);  /* refusal 4 */
     two_engines(7, 0xE5, 0x1A, 732, 724);  /* refusal 1 */

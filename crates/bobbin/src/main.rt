@@ -21,6 +21,7 @@ use passages::send;
 use pictures::frame;
 use pictures::frame::Noted;
 use recordings::sizes;
+use swapping::swapped;
 use table::Level;
 use table::Row;
 use taking::take;
@@ -59,23 +60,26 @@ const PLAIN_TAKE: u8 = 8;
 
 const AGREE: u8 = 9;
 
+// One tributary of a line.
+const SWAP: u8 = 10;
+
 // Those that take no level in that place.
-const SHOW: u8 = 10;
+const SHOW: u8 = 11;
 
-const WATCH: u8 = 11;
+const WATCH: u8 = 12;
 
-const COMPARE: u8 = 12;
+const COMPARE: u8 = 13;
 
 // Those of 2048 kbit/s.
-const BUILD: u8 = 13;
+const BUILD: u8 = 14;
 
-const APART: u8 = 14;
+const APART: u8 = 15;
 
-const HUNT: u8 = 15;
+const HUNT: u8 = 16;
 
-const MULTIFRAME: u8 = 16;
+const MULTIFRAME: u8 = 17;
 
-const NO_COMMAND: u8 = 17;
+const NO_COMMAND: u8 = 18;
 
 // Beside NO_NOTE, where there is none: a word that should be a note and is none.
 const WRONG_NOTE: u16 = 257;
@@ -152,6 +156,9 @@ fn which_of_plain(word: &[u8]) -> u8 {
     if check::same(word, b"agree") {
         return AGREE;
     }
+    if check::same(word, b"swap") {
+        return SWAP;
+    }
     which_of_2048(word)
 }
 
@@ -184,6 +191,7 @@ fn fits(which: u8, last: usize) -> bool {
         PLAIN_SEND => last == send::LINE,
         PLAIN_TAKE => last == take::TRIBUTARIES,
         AGREE => last == agree::LINE,
+        SWAP => last == swapped::NEW,
         SHOW => last == opened::CAPTURE || last == opened::LINE,
         WATCH => watch::FIRST < last && last <= watch::LAST && last % 2 == 1,
         COMPARE => last == compared::OTHER || last == compared::PICTURE,
@@ -223,6 +231,7 @@ fn wrong_words_of_plain(which: u8) {
         PLAIN_SEND => help::wrong_call(b"plain-send takes a level and three files, as send does."),
         PLAIN_TAKE => help::wrong_call(b"plain-take takes a level and three files."),
         AGREE => help::wrong_call(b"agree takes a level and a file."),
+        SWAP => help::wrong_call(b"swap takes a level, a tributary and four files."),
         _ => wrong_words_of_2048(which),
     }
 }
@@ -361,8 +370,30 @@ fn started(which: u8, last: usize, row: Row, level: u64, earlier: u64)
         PLAIN_SEND => send::run(row, level, earlier, true),
         PLAIN_TAKE => take::run(row, level, earlier, true),
         AGREE => agree::run(row, level, earlier),
+        SWAP => swap_one(row, level, earlier),
         _ => keep::run(row, level, last == keep::LABEL),
     }
+}
+
+// swap LEVEL TRIBUTARY LINE NOTES DIGITS NEW
+fn swap_one(row: Row, level: u64, earlier: u64)
+    requires { ⌜ Shared row ⌝ }
+{
+    let tributary = read_tributary();
+    if tributary != 0 {
+        swapped::run(row, level, earlier, tributary);
+    }
+}
+
+// The tributary that the call names, or 0 where it is none, and then it is said.
+fn read_tributary() -> u64 {
+    let mut word = io::buffer();
+    let n = os::arg(swapped::TRIBUTARY, &mut word);
+    let tributary = words::tributary(&word[..n]);
+    if tributary == 0 {
+        help::no_tributary(&word[..n]);
+    }
+    tributary
 }
 
 // A level and two files are no capture and two files, but a file is missing.

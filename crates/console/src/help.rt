@@ -40,6 +40,10 @@ pub fn forms() {
         b"takes LINE apart by the notes of a file",
     );
     form(
+        b"swap LEVEL TRIBUTARY LINE NOTES DIGITS NEW",
+        b"\n                                                     the file NEW is LINE with this tributary written anew",
+    );
+    form(
         b"find LEVEL STREAM [PREFIX]           ",
         b"finds the frames in a recording; PREFIX: takes them apart",
     );
@@ -61,6 +65,9 @@ pub fn forms() {
     );
     forms_of_2048();
     form(b"help                                 ", b"these forms");
+    say::text(
+        b"LEVEL is 2, 3, 4, 12 or 14; 12:5 is level 12 where the frame before the first has the votes 5.\n",
+    );
 }
 
 // The commands on the 2048 kbit/s frame.
@@ -134,6 +141,25 @@ pub fn no_room(k: usize, bytes: usize, level: u64, frames: usize, wanted: usize)
     say::text(b" want four equal quarters of ");
     say::number(wanted);
     say::text(b" bytes or more.\n");
+}
+
+// The digits of one tributary are too few.
+pub fn no_digits(k: usize, bytes: usize, level: u64, frames: usize, wanted: usize) {
+    say::text(b"refused 4: ");
+    has_bytes(k, bytes);
+    say::text(b", and a tributary of ");
+    say::number(frames);
+    say::text(b" frames of level ");
+    io::print_decimal(libc::STDOUT_FILENO, level);
+    say::text(b" wants ");
+    say::number(wanted);
+    say::text(b" bytes or more.\n");
+}
+
+pub fn no_tributary(word: &[u8]) {
+    say::text(b"refused 12: no tributary ");
+    say::text(word);
+    say::text(b"; TRIBUTARY is 1, 2, 3 or 4.\n");
 }
 
 fn has_bytes(k: usize, bytes: usize) {

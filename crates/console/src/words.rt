@@ -27,6 +27,20 @@ fn two_figures(first: u8, second: u8) -> u64 {
     }
 }
 
+// The tributary that a word is, or 0.
+pub fn tributary(word: &[u8]) -> u64 {
+    if word.len() != 1 {
+        return 0;
+    }
+    match word[0] {
+        b'1' => 1,
+        b'2' => 2,
+        b'3' => 3,
+        b'4' => 4,
+        _ => 0,
+    }
+}
+
 // What LEVEL asks for: a level, or 0, and after a colon the vote of the frame before the first, as 12:5; 0 where none is said.
 pub struct LevelAsked {
     pub level: u64,

@@ -57,7 +57,7 @@ fn service_digit(note: u8, digit: ServiceDigit) -> u8
 
 // What place r of a set is sent as where it carries no digit of its tributary j (from 0): its kind says what. A control digit is the vote, an unused
 // justification place 1.
-fn idle_digit(row: Row, kind: Kind, note: u8, j: usize, r: usize) -> u8
+pub fn idle_digit(row: Row, kind: Kind, note: u8, j: usize, r: usize) -> u8
     requires { ⌜ Shared row × (j < 4) × (kind ≡ Word → r < row .len) ⌝ }
     ensures { λ d. ⌜ ((act : Action) (next : ℕ) → carried kind act ≡ false → d ≡ digitBy row note act j r next kind) × (d < 2) ⌝ }
 {

@@ -42,7 +42,7 @@ use Rattle.promises.proofs.Together.{split}
 use Rattle.promises.proofs.RoundTrip.{line-binary}
 
 -- an answer that the call on no level does not give was given on a level's row
-some-level : {A : Type 0} (P : A → Type 0) (level : Level) (go : Row → A) (none : A) → (P none → ⊥) → P (onLevel level go none) → (row : Row) × (level ≡ Of row)
+pub some-level : {A : Type 0} (P : A → Type 0) (level : Level) (go : Row → A) (none : A) → (P none → ⊥) → P (onLevel level go none) → (row : Row) × (level ≡ Of row)
 some-level P (Of row) go none n h = (row, refl)
 some-level P NoSuchLevel go none n h = absurd (n h)
 
@@ -73,7 +73,7 @@ read-level level earlier c ok =
     (accepted-together level earlier c ok)
 
 -- an answer that is given by a refusal number is accepted where that number is 0
-zero-refusal : {A : Type 0} (refusal : A → ℕ) (n : ℕ) (sent refused : A) → refusal refused ≡ n → refusal (cond (eqb n 0) sent refused) ≡ 0 → n ≡ 0
+pub zero-refusal : {A : Type 0} (refusal : A → ℕ) (n : ℕ) (sent refused : A) → refusal refused ≡ n → refusal (cond (eqb n 0) sent refused) ≡ 0 → n ≡ 0
 zero-refusal refusal n sent refused r e =
     elim (ℕ-discrete n 0) [
       | yes z ↦ z

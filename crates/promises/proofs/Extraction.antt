@@ -44,7 +44,7 @@ use Rattle.promises.proofs.Accepted.{send-level, shared, count-at, lent
 use Rattle.promises.proofs.Accepted.{send-counts, send-count, send-digits, quarter-taken}
 
 -- a place that carries a digit bears one
-carried-bears : (k : Kind) (act : Action) → carried k act ≡ true → bears k ≡ true
+pub carried-bears : (k : Kind) (act : Action) → carried k act ≡ true → bears k ≡ true
 carried-bears Word act c = absurd (false≢true c)
 carried-bears (Service s) act c = absurd (false≢true c)
 carried-bears Control act c = absurd (false≢true c)
@@ -52,7 +52,7 @@ carried-bears (Justification sign) act c = refl
 carried-bears Tributary act c = refl
 
 -- and is the tributary's own
-bears-own : (k : Kind) → bears k ≡ true → isOwn k ≡ true
+pub bears-own : (k : Kind) → bears k ≡ true → isOwn k ≡ true
 bears-own Word b = absurd (false≢true b)
 bears-own (Service s) b = absurd (false≢true b)
 bears-own Control b = refl
@@ -68,7 +68,7 @@ module _ (level earlier : ℕ) (row : Row) (e : levelOf level ≡ Of row) where
     left : bufferAfter level earlier (c .line) (c .notes) (c .buffer) ≡ quartersFrom row earlier (c .notes) (c .line) (length (c .buffer) / 4)
     left = rw (e, eq-eqb (found level earlier row e c ok .refusal) 0 (unrefused level earlier row e c ok))
 
-    digits-left : extractDigits level earlier c j ≡ takenTo row earlier (c .notes) (digitsOf (c .line)) j (length (c .notes) * columns row)
+    pub digits-left : extractDigits level earlier c j ≡ takenTo row earlier (c .notes) (digitsOf (c .line)) j (length (c .notes) * columns row)
     digits-left =
         rw (left, send-count level earlier row e c ok j hj)
         (quarter-taken row sh earlier (c .notes) (c .line) (length (c .notes)) (length (c .buffer) / 4) j hj (send-places level earlier row e c ok) (fits-quarter sh (send-sizes level earlier row e c ok) .room))

@@ -55,15 +55,16 @@ digit-small row note act j r next h Control = cond-by (λ (n : ℕ). n < 2) (stu
 digit-small row note act j r next h (Justification sign) = cond-by (λ (n : ℕ). n < 2) (carried (Justification sign) act) h (lit< tt)
 digit-small row note act j r next h Tributary = h
 
-pub line-binary : (row : Row) (earlier : ℕ) (notes : List ℕ) (tributary : ℕ → List ℕ) → ((j : ℕ) → j < 4 → Binary (tributary j)) → (F : ℕ) → Binary (lineDigits row earlier notes tributary F)
+pub line-small : (row : Row) (earlier : ℕ) (notes : List ℕ) (tributary : ℕ → List ℕ) → ((j : ℕ) → j < 4 → Binary (tributary j)) → (p : ℕ) → lineDigit row earlier notes tributary p < 2
 unfolding lineDigit
-line-binary row earlier notes tributary bin F =
-    tab-binary (F * row .digits) 0 (lineDigit row earlier notes tributary)
-    (λ p.
+line-small row earlier notes tributary bin p =
     digit-small row (getD notes (posOf row p .frame) 0) (actions row earlier notes (p % 4) (posOf row p .frame)) (p % 4) (posOf row p .place)
     (getD (tributary (p % 4)) (before row (actions row earlier notes (p % 4)) (p % 4) (p / 4)) 0)
     (bin (p % 4) (omega arith) (before row (actions row earlier notes (p % 4)) (p % 4) (p / 4)))
-    (kindAt row p))
+    (kindAt row p)
+
+pub line-binary : (row : Row) (earlier : ℕ) (notes : List ℕ) (tributary : ℕ → List ℕ) → ((j : ℕ) → j < 4 → Binary (tributary j)) → (F : ℕ) → Binary (lineDigits row earlier notes tributary F)
+line-binary row earlier notes tributary bin F = tab-binary (F * row .digits) 0 (lineDigit row earlier notes tributary) (line-small row earlier notes tributary bin)
 
 module _ (row : Row) (sh : Shared row) (F earlier : ℕ) (notes : List ℕ) (tributary : ℕ → List ℕ) (sound : Sound row F notes tributary) where
   abbrev line : List ℕ

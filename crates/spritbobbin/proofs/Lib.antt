@@ -3,3 +3,4 @@ pub mod FinderAnswers
 pub mod CompareAnswers
 pub mod RackAnswers
 pub mod PlainAnswers
+pub mod SwapAnswers

@@ -2,3 +2,4 @@ pub mod Face
 pub mod Finding
 pub mod Comparing
 pub mod PlainFace
+pub mod SwapFace

@@ -4,7 +4,7 @@ use reference::{build_multiframe, take_multiframe_apart};
 use reference::{compare, Differences, MOST_LISTED};
 use reference::{extract, feed, fresh, line_digit, multiplex, read_notes, Counted, State};
 use reference::{finder_feed, FinderState};
-use reference::{read_capture, write_capture};
+use reference::{read_capture, swap, write_capture};
 
 /// What a multiplex or extract call is lent; reading notes is lent all but the buffer.
 #[derive(Clone)]
@@ -67,10 +67,12 @@ pub enum Call {
     FinderFeed(Hunt),
     Extract(Lending),
     Compare(Vec<u8>, Vec<u8>),
+    /// What is lent, and the tributary's number. The buffer is one tributary's.
+    Swap(Lending, u64),
 }
 
 /// The names of the calls, in the order of their numbers.
-pub const NAMES: [&str; 16] = [
+pub const NAMES: [&str; 17] = [
     "multiplex",
     "read_notes",
     "receiver_fresh",
@@ -87,6 +89,7 @@ pub const NAMES: [&str; 16] = [
     "rack_feed",
     "rack_reset",
     "rack_aligned",
+    "swap",
 ];
 
 /// All that a call answers and leaves: two outcomes are equal or there is a disagreement.
@@ -119,6 +122,7 @@ impl Call {
             Call::FinderFeed(_) => 10,
             Call::Extract(_) => 11,
             Call::Compare(..) => 12,
+            Call::Swap(..) => 16,
         }
     }
 
@@ -141,20 +145,15 @@ impl Call {
             Call::MultiframeApart(_) => "none",
             Call::FinderFresh => "window, seen, mode, place",
             Call::FinderFeed(_) => "taken, aligned; window, seen, mode, place",
+            Call::Swap(..) => "digits taken",
             Call::Compare(..) => "file, byte, fifteen sums, all, listed; frame and place of each",
         }
     }
 
     pub fn short(&self) -> String {
         match self {
-            Call::Multiplex(with) | Call::ReadNotes(with) | Call::Extract(with) => format!(
-                "level {}; earlier {}; line {}; notes {}; buffer {}",
-                with.level,
-                with.earlier,
-                in_short(&with.line),
-                in_short(&with.notes),
-                in_short(&with.buffer)
-            ),
+            Call::Multiplex(with) | Call::ReadNotes(with) | Call::Extract(with) => with.short(),
+            Call::Swap(with, tributary) => format!("tributary {tributary}; {}", with.short()),
             Call::Fresh(level) => format!("level {level}"),
             Call::Feed(piece) => format!(
                 "state {:?}; frame store {}; slice {}; first {} count {}",
@@ -220,11 +219,25 @@ impl Call {
             }
             Call::FinderFeed(hunt) => hunted(hunt),
             Call::Extract(with) => extracted(with.clone()),
+            Call::Swap(with, tributary) => swapped(with.clone(), *tributary),
             Call::Compare(one, other) => {
                 let (refusal, numbers) = compared_numbers(&compare(one, other));
                 outcome(refusal, numbers, vec![("one", one.clone()), ("other", other.clone())])
             }
         }
+    }
+}
+
+impl Lending {
+    fn short(&self) -> String {
+        format!(
+            "level {}; earlier {}; line {}; notes {}; buffer {}",
+            self.level,
+            self.earlier,
+            in_short(&self.line),
+            in_short(&self.notes),
+            in_short(&self.buffer)
+        )
     }
 }
 
@@ -246,6 +259,12 @@ fn multiplexed(mut with: Lending) -> Outcome {
 fn extracted(mut with: Lending) -> Outcome {
     let answer = extract(with.level, with.earlier, &with.line, &with.notes, &mut with.buffer);
     outcome(answer.refusal, counted_numbers(&answer), slices(with))
+}
+
+fn swapped(mut with: Lending, tributary: u64) -> Outcome {
+    let (level, earlier) = (with.level, with.earlier);
+    let answer = swap(level, earlier, tributary, &mut with.line, &with.notes, &with.buffer);
+    outcome(answer.refusal, vec![answer.taken], slices(with))
 }
 
 pub fn counted_numbers(answer: &Counted) -> Vec<u64> {

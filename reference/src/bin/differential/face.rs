@@ -68,6 +68,11 @@ extern "C" {
         first: u64, count: u64, answer: *mut u64,
     ) -> u64;
     pub fn spritbobbin_rack_reset(records: *mut u64, number: usize, line: u64, level: u64) -> u64;
+    pub fn spritbobbin_swap(
+        level: u64, earlier: u64, tributary: u64, line: *mut u8, line_bytes: usize,
+        notes: *const u8, notes_bytes: usize, buffer: *const u8, buffer_bytes: usize,
+        answer: *mut u64,
+    ) -> u64;
     pub fn spritbobbin_rack_aligned(records: *const u64, number: usize, answer: *mut u64) -> u64;
 }
 
@@ -168,6 +173,7 @@ pub fn by_face(call: &Call) -> Outcome {
         Call::FinderFresh => finder_fresh(),
         Call::FinderFeed(hunt) => finder_feed(hunt),
         Call::Compare(one, other) => compare(one, other),
+        Call::Swap(with, tributary) => swap(with, *tributary),
     }
 }
 
@@ -224,6 +230,20 @@ fn extract(with: &Lending, by: Extracting) -> Outcome {
         let (l, n, b) = (line.pointer(), notes.pointer(), buffer.pointer());
         let (lc, nc, bc) = (line.count(), notes.count(), buffer.count());
         by(with.level, with.earlier, l, lc, n, nc, b, bc, answer.pointer())
+    };
+    outcome(refusal, &[answer], &[line, notes, buffer])
+}
+
+fn swap(with: &Lending, tributary: u64) -> Outcome {
+    let mut line = bytes("line", &with.line);
+    let mut notes = bytes("notes", &with.notes);
+    let mut buffer = bytes("buffer", &with.buffer);
+    let mut answer = numbers("answer", &[UNWRITTEN; 1]);
+    // Sound as above.
+    let refusal = unsafe {
+        let (l, n, b, a) = (line.pointer(), notes.pointer(), buffer.pointer(), answer.pointer());
+        let (lc, nc, bc) = (line.count(), notes.count(), buffer.count());
+        spritbobbin_swap(with.level, with.earlier, tributary, l, lc, n, nc, b, bc, a)
     };
     outcome(refusal, &[answer], &[line, notes, buffer])
 }

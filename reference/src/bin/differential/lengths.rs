@@ -4,17 +4,18 @@
 use crate::call::{compared_numbers, counted_numbers, read_numbers};
 use crate::face::{self, spritbobbin_capture_read, spritbobbin_capture_write, spritbobbin_compare};
 use crate::face::{spritbobbin_extract, spritbobbin_finder_feed, spritbobbin_line_digit};
-use crate::face::{
-    spritbobbin_multiplex, spritbobbin_read_notes, spritbobbin_receiver_feed, UNWRITTEN,
-};
+use crate::face::{spritbobbin_multiplex, spritbobbin_read_notes, spritbobbin_receiver_feed};
+use crate::face::{spritbobbin_swap, UNWRITTEN};
 use crate::multiframes;
 use crate::rack;
+use crate::swapping;
 use crate::Run;
 use reference::read_notes;
 use reference::{
     extract, feed, feed_refusal, frames_refusal, fresh, length_refusal, line_digit, multiplex,
 };
 use reference::{finder_feed, finder_refusal, FinderState};
+use reference::{swap, swap_refusal, Swapped};
 use std::alloc::{alloc_zeroed, dealloc, Layout};
 
 /// 2 to the 32.
@@ -223,6 +224,34 @@ fn noted(level: u64, line: &[u8], notes: &mut [u8]) -> Vec<u64> {
     [&[answer.refusal, answer.alignment], &answer.dissent[..]].concat()
 }
 
+/// Swaps tributary 2. Of a line that is too long only the beginning is held beside the face's.
+fn long_swap(
+    run: &mut Run,
+    inputs: &str,
+    level: u64,
+    line: &mut [u8],
+    notes: &[u8],
+    buffer: &[u8],
+) {
+    let mut ours = line[..line.len().min(1 << 16)].to_vec();
+    let lengths = [line.len(), notes.len(), buffer.len()].map(|n| n as u64);
+    let mut answer = [UNWRITTEN];
+    let expected = match swap_refusal(level, 3, 2, lengths) {
+        0 => swap(level, 3, 2, &mut ours, notes, buffer),
+        refusal => Swapped { refusal, taken: 0 },
+    };
+    // Sound if the face keeps to what it is lent.
+    let refusal = unsafe {
+        let (l, n, b) = (line.as_mut_ptr(), notes.as_ptr(), buffer.as_ptr());
+        let (lc, nc, bc) = (line.len(), notes.len(), buffer.len());
+        spritbobbin_swap(level, 3, 2, l, lc, n, nc, b, bc, answer.as_mut_ptr())
+    };
+    run.expect(16, inputs, &[expected.refusal, expected.taken], &[refusal, answer[0]]);
+    let wide = |line: &[u8]| line.iter().map(|&byte| u64::from(byte)).collect::<Vec<_>>();
+    let theirs = wide(&line[..ours.len()]);
+    run.expect(16, &format!("{inputs}: the line"), &wide(&ours), &theirs);
+}
+
 /// The beginning of long memory must still be zero: all calls that may write it are refused.
 fn untouched(run: &mut Run, inputs: &str, long: &[u8]) {
     if long[..1 << 16].iter().any(|byte| *byte != 0) {
@@ -238,6 +267,7 @@ fn long_line(run: &mut Run, level: u64, line: &mut [u8]) {
     run.expect(1, &inputs, &noted(level, line, &mut [0]), &raw_read_notes(level, line, &mut [0]));
     let expected = extracted(level, u64::MAX, line, &[0], &mut [0; 4096]);
     run.expect(11, &inputs, &expected, &raw_extract(level, u64::MAX, line, &[0], &mut [0; 4096]));
+    long_swap(run, &inputs, level, line, &[0], &[0; 4096]);
     untouched(run, &inputs, line);
 }
 
@@ -255,6 +285,7 @@ fn long_notes(run: &mut Run, level: u64, frame_bytes: usize, notes: &mut [u8]) {
     run.expect(1, &inputs, &expected, &raw_read_notes(level, &line, notes));
     let expected = extracted(level, u64::MAX, &line, notes, &mut [0; 4096]);
     run.expect(11, &inputs, &expected, &raw_extract(level, u64::MAX, &line, notes, &mut [0; 4096]));
+    long_swap(run, &inputs, level, &mut line, notes, &[0; 4096]);
     untouched(run, &inputs, notes);
 }
 
@@ -277,7 +308,8 @@ fn long_buffer(run: &mut Run, level: u64, frame_bytes: usize, buffer: &mut [u8])
     let sent = raw_multiplex(level, 3, &mut theirs, &[5], buffer);
     run.expect(0, &inputs, &expected, &sent);
     let wide = |line: Vec<u8>| line.into_iter().map(u64::from).collect::<Vec<_>>();
-    run.expect(0, &format!("{inputs}: the line"), &wide(ours), &wide(theirs));
+    run.expect(0, &format!("{inputs}: the line"), &wide(ours), &wide(theirs.clone()));
+    long_swap(run, &inputs, level, &mut theirs, &[5], buffer);
     for j in 0..4 {
         buffer[j * quarter..][..100].fill(0);
     }
@@ -335,6 +367,9 @@ fn null_pointers(run: &mut Run) {
     for level in NUMBERS {
         for earlier in EARLIER {
             null_lines(run, level, earlier);
+            for tributary in [0, 1, 4, 5] {
+                swapping::by_lengths(run, level, earlier, tributary, [0; 3]);
+            }
         }
         let refusal = frames_refusal(level, 0, 0);
         for labelled in [0, 1] {
@@ -397,6 +432,11 @@ fn false_lengths(run: &mut Run) {
             one_false_length(run, level, [frame, long, 4 * frame]);
             one_false_length(run, level, [frame, 1, long]);
             one_false_length(run, level, [long, long, long]);
+            for lengths in [[long, 1, frame], [frame, long, frame], [long; 3], [frame, 2, long]] {
+                swapping::by_lengths(run, level, 16, 1, lengths);
+            }
+            // The most bytes that eight times over do not fit in 64 bits, and room enough.
+            swapping::by_lengths(run, level, 16, 4, [frame, 1, long]);
             false_capture(run, level, long);
         }
     }

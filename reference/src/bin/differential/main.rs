@@ -20,6 +20,7 @@ mod multiframes;
 mod multiplexing;
 mod rack;
 mod receiver;
+mod swapping;
 
 use call::{Call, Outcome, NAMES};
 use reference::random::Random;
@@ -32,7 +33,7 @@ pub struct Run {
     lent_only: bool,
     trace: bool,
     random: Random,
-    calls: [u64; 16],
+    calls: [u64; NAMES.len()],
 }
 
 impl Run {
@@ -101,7 +102,7 @@ fn print_difference(name: &str, ours: &[u8], theirs: &[u8]) {
 }
 
 fn arguments() -> Run {
-    let (seed, calls) = (1, [0; 16]);
+    let (seed, calls) = (1, [0; NAMES.len()]);
     let random = Random::new(seed);
     let mut run = Run { seed, times: 1, lent_only: false, trace: false, random, calls };
     for argument in std::env::args().skip(1) {
@@ -134,6 +135,7 @@ fn main() {
         finder::part(&mut run);
         comparisons::part(&mut run);
         rack::part(&mut run);
+        swapping::part(&mut run);
     }
     lengths::part(&mut run);
     println!("{}; no disagreement", run.summary());

@@ -205,7 +205,7 @@ fn control_place(random: &mut Random, row: &Row, digits: usize) -> usize {
 
 /// What a call is lent, with the given faults. The length of everything fits everything
 /// else but for the faults, so that each fault can be the only one.
-fn lending(random: &mut Random, level: u64, frames: usize, faults: Faults) -> Lending {
+pub fn lending(random: &mut Random, level: u64, frames: usize, faults: Faults) -> Lending {
     let has = |number: u64| faults >> (number - 1) & 1 == 1;
     let row = match row(level) {
         Some(row) => row,

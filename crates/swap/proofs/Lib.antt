@@ -1,0 +1,4 @@
+pub mod Puts
+pub mod Filling
+pub mod Accepted
+pub mod Answers

@@ -1,0 +1,4 @@
+pub mod Places
+pub mod Orders
+pub mod NewFour
+pub mod Returned

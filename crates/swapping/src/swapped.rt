@@ -1,0 +1,238 @@
+// swap LEVEL TRIBUTARY LINE NOTES DIGITS NEW: the file NEW is the line with this tributary written anew. Its digits are read on from where the run
+// before ended, wherever in a byte that is, and the last vote of a run is the next one's earlier vote.
+use crate::runs;
+use console::files;
+use console::help;
+use console::say;
+use passages::passage;
+use recordings::carry;
+use recordings::sizes;
+use table::Row;
+ghost use Prim.Native.Nat.{_<_, _≤_};
+ghost use lib.ListN.{length};
+ghost use Rattle.levels.specs.Table.{Shared};
+ghost use Rattle.recordings.specs.Sizes.{longest};
+
+// The words of the call by number.
+pub const TRIBUTARY: usize = 3;
+
+const LINE: usize = 4;
+
+const NOTES: usize = 5;
+
+const DIGITS: usize = 6;
+
+pub const NEW: usize = 7;
+
+// The files, and the bytes of that of the digits.
+pub struct Open {
+    pub line: i32,
+    pub notes: i32,
+    pub digits: i32,
+    pub bytes: usize,
+    pub new: i32,
+}
+
+// How far it is: the frames and the digits taken so far, the vote of the last of these frames, and which file could not be read or written, or none.
+pub struct Swapping {
+    pub open: Open,
+    pub tributary: u64,
+    pub frames: usize,
+    pub taken: usize,
+    pub earlier: u64,
+    pub failed: usize,
+}
+
+pub fn run(row: Row, level: u64, earlier: u64, tributary: u64)
+    requires { ⌜ Shared row ⌝ }
+{
+    let line = files::open(LINE);
+    if !line.ok {
+        return;
+    }
+    if line.bytes % row.bytes != 0 {
+        help::no_whole_frames(LINE, line.bytes, level, row.bytes);
+        return;
+    }
+    let notes = files::open(NOTES);
+    if !notes.ok {
+        return;
+    }
+    if notes.bytes != line.bytes / row.bytes {
+        help::no_note_each(NOTES, notes.bytes, LINE, line.bytes / row.bytes);
+        return;
+    }
+    run_from(
+        row,
+        level,
+        earlier,
+        tributary,
+        line.fd,
+        notes.fd,
+        notes.bytes,
+    );
+}
+
+// The same with a line and notes of so many frames.
+fn run_from(
+    row: Row,
+    level: u64,
+    earlier: u64,
+    tributary: u64,
+    line: i32,
+    notes: i32,
+    frames: usize,
+)
+    requires { ⌜ Shared row × (frames ≤ longest) ⌝ }
+{
+    let digits = files::open(DIGITS);
+    if !digits.ok {
+        return;
+    }
+    let wanted = sizes::quarter_bytes(row, frames);
+    if digits.bytes < wanted {
+        help::no_digits(DIGITS, digits.bytes, level, frames, wanted);
+        return;
+    }
+    let new = files::create(NEW, b"");
+    if new < 0 {
+        return;
+    }
+    let open = Open {
+        line,
+        notes,
+        digits: digits.fd,
+        bytes: digits.bytes,
+        new,
+    };
+    let start = Swapping {
+        open,
+        tributary,
+        frames: 0,
+        taken: 0,
+        earlier,
+        failed: 0,
+    };
+    end(level, runs::all(row, level, frames, start));
+}
+
+// One run of frames: fills its notes and its digits, then goes on with its part of the line, which stands in its file at this place.
+pub fn one_run(
+    row: Row,
+    level: u64,
+    at: usize,
+    line: &mut [u8],
+    notes: &mut [u8],
+    buffer: &mut [u8],
+    t: Swapping,
+) -> Swapping
+    requires { ⌜ Shared row × (length (now notes) ≤ 64) × (length (now buffer) ≤ 65536) ⌝ }
+{
+    let noted = read_notes(notes, t);
+    let filled = fill(row, notes.len(), t, buffer);
+    line_on(level, at, line, notes, buffer, noted, filled, t)
+}
+
+fn read_notes(notes: &mut [u8], t: Swapping) -> bool {
+    let from = t.open;
+    files::read_at(from.notes, notes, t.frames)
+}
+
+// Reads the tributary's digits from where they are in the passage on, as many as f frames can take.
+fn fill(row: Row, f: usize, t: Swapping, buffer: &mut [u8]) -> bool
+    requires { ⌜ Shared row × (f ≤ 64) × (length (now buffer) ≤ 65536) ⌝ }
+{
+    let from = t.open;
+    let mut raw = [0u8; 8192];
+    let n = sizes::bytes_wanted(row, f, from.bytes, t.taken);
+    let ok = files::read_at(from.digits, &mut raw[..n], t.taken / 8);
+    put_digits(buffer, &raw, t.taken % 8, sizes::tributary_digits(row, f));
+    ok
+}
+
+// Puts these digits at the start of the buffer.
+fn put_digits(buffer: &mut [u8], raw: &[u8; 8192], first: usize, count: usize)
+    requires { ⌜ (length (now buffer) ≤ 65536) × (first < 8) × (count ≤ 46912) ⌝ }
+{
+    carry::copy_digits(buffer, 0, raw, first, count);
+}
+
+// Reads the line, and swaps with what was read.
+fn line_on(
+    level: u64,
+    at: usize,
+    line: &mut [u8],
+    notes: &[u8],
+    buffer: &[u8],
+    noted: bool,
+    filled: bool,
+    t: Swapping,
+) -> Swapping {
+    let from = t.open;
+    let whole = files::read_at(from.line, line, at);
+    let unnoted = first_failed(t.failed, noted, NOTES);
+    let unfilled = first_failed(unnoted, filled, DIGITS);
+    swap_on(
+        level,
+        at,
+        line,
+        notes,
+        buffer,
+        first_failed(unfilled, whole, LINE),
+        t,
+    )
+}
+
+fn swap_on(
+    level: u64,
+    at: usize,
+    line: &mut [u8],
+    notes: &[u8],
+    buffer: &[u8],
+    failed: usize,
+    t: Swapping,
+) -> Swapping {
+    let r = swap::swap(level, t.earlier, t.tributary, line, notes, buffer);
+    let to = t.open;
+    let written = files::write_at(to.new, line, at);
+    Swapping {
+        open: to,
+        tributary: t.tributary,
+        frames: sizes::plus(t.frames, notes.len()),
+        taken: sizes::plus(t.taken, r.digits),
+        earlier: passage::last_vote(notes, t.earlier),
+        failed: first_failed(failed, written && r.refusal == 0, NEW),
+    }
+}
+
+// The word that names the file that failed first, where this one did if not ok.
+fn first_failed(before: usize, ok: bool, word: usize) -> usize {
+    if ok {
+        return before;
+    }
+    if before == 0 {
+        return word;
+    }
+    before
+}
+
+fn end(level: u64, t: Swapping) {
+    let to = t.open;
+    let closed = files::close(to.new);
+    let failed = first_failed(t.failed, closed, NEW);
+    if failed == 0 {
+        passage::say_frames(level, t.frames, b" frames, ");
+        say::number(t.taken);
+        say::text(b" digits put into tributary ");
+        io::print_decimal(libc::STDOUT_FILENO, t.tributary);
+        say::text(b".\n");
+        files::keep(NEW, b"");
+        return;
+    }
+    files::discard(NEW, b"");
+    if failed == NEW {
+        files::not_whole(NEW, b"");
+        return;
+    }
+    files::unread(failed);
+}
