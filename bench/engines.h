@@ -31,6 +31,11 @@ typedef uint64_t swap_call(uint64_t level, uint64_t earlier, uint64_t tributary,
 
 swap_call plain_swap;
 
+/* The repair of a line, in the plain engine only. */
+typedef uint64_t repair_call(uint64_t level, uint64_t earlier, uint8_t *line, size_t line_bytes, uint64_t answer[9]);
+
+repair_call plain_repair;
+
 /* The multiframe of 2048 kbit/s, in the plain engine only: its channels are whole bytes anyway. */
 typedef uint64_t build_call(uint8_t *multiframe, size_t multiframe_bytes, const uint8_t *channels, size_t channels_bytes,
                             const uint8_t *signalling, size_t signalling_bytes, const uint8_t *spare, size_t spare_bytes,

@@ -194,6 +194,71 @@ uint64_t plain_swap(uint64_t level, uint64_t earlier, uint64_t tributary, uint8_
     return 0;
 }
 
+/* Puts a digit, and says whether it was another. */
+static unsigned changed(uint8_t *line, size_t place, unsigned digit)
+{
+    unsigned other = get(line, place) != digit;
+
+    put(line, place, digit);
+    return other;
+}
+
+/* The majorities of a frame, tributary 1 in the lowest bit. */
+static unsigned majorities(const struct row *row, const uint8_t *line, size_t start)
+{
+    unsigned votes = 0;
+
+    for (unsigned j = 0; j < 4; j++) {
+        unsigned ones = 0;
+
+        for (unsigned set = 1; set < row->sets; set++)
+            ones += get(line, start + set * row->set_digits + j);
+        votes |= (unsigned)(2 * ones > row->sets - 1) << j;
+    }
+    return votes;
+}
+
+uint64_t plain_repair(uint64_t level, uint64_t earlier, uint8_t *line, size_t line_bytes, uint64_t answer[9])
+{
+    const struct row *row = row_of(level);
+    unsigned other = (unsigned)earlier;
+
+    memset(answer, 0, 9 * sizeof answer[0]);
+    for (size_t place = 0; place < 8 * line_bytes;) {
+        unsigned own = majorities(row, line, place), stuffed, idle;
+
+        if (!row->negative)
+            other = own;
+        stuffed = own & other;
+        idle = own | other;
+        for (unsigned set = 0; set < row->sets; set++)
+            for (unsigned at = 0; at < row->set_digits; at++, place++) {
+                unsigned j = at % 4;
+
+                switch (kind_of(row, set, at)) {
+                case WORD:
+                    answer[0] += changed(line, place, word_digit(row, at));
+                    break;
+                case CONTROL:
+                    answer[1 + j] += changed(line, place, own >> j & 1);
+                    break;
+                case NEGATIVE:
+                    answer[5 + j] += idle >> j & 1 ? changed(line, place, 1) : 0;
+                    break;
+                case JUSTIFICATION:
+                    answer[5 + j] += stuffed >> j & 1 ? changed(line, place, 1) : 0;
+                    break;
+                case NOTED:
+                case SERVICE:
+                case TRIBUTARY:
+                    break;
+                }
+            }
+        other = own;
+    }
+    return 0;
+}
+
 static void begin_frame(const struct row *row, uint8_t *frame, uint64_t window)
 {
     memset(frame, 0, 366);

@@ -1,7 +1,7 @@
 /*
  * spritbobbin.h: frames of 8448, 34368 and 139264 kbit/s (G.742, G.751), and the older frames of
  * 8448 and 139264 kbit/s with positive/zero/negative justification, built, taken apart, found in a
- * stream of digits, kept in files and compared.
+ * stream of digits, repaired, kept in files and compared.
  *
  * Link with libspritbobbin.a, which is for x86-64 Linux and asks for memcpy, memset and the like
  * and nothing else.
@@ -92,7 +92,7 @@
  *   5  multiplexing and extraction: earlier is over 15, at level 12 or 14, and the answer names
  *      frame 0; or a note has a bit set that notes of its level have not, which is bit 6 or 7 at
  *      level 2 or 3, and bits 4 to 7 at level 12 or 14, and the answer names the first such frame,
- *      counted from 0; for a swap: earlier is over 15, at level 12 or 14
+ *      counted from 0; for a swap or a repair only the first of the two, and no frame is named
  *   6  the receiver state is not valid: a level as under 1, a window of 2 to the L
  *      or more, over L digits seen, a mode over 6, a place of N or more, hunting at a place
  *      other than 0, not hunting with fewer than L digits seen, N or more digits in the
@@ -111,12 +111,13 @@
  * buffer has fewer digits than F times the level's room.
  *
  * Where several apply, the first in this order is returned: 1, 2, 3, 4, 5 for the two multiplex
- * calls; 1, 12, 2, 3, 4, 5 for a swap; 6, 2, 7 for a piece; 1, 2, 9, 4 for writing a capture, 9, 1,
- * 2 for reading one; 2, 11 for building a multiframe; for a comparison see spritbobbin_compare; for a
- * rack 8, 2 and then as a piece, or 1 for a reset. A refused call writes nothing that it was lent, but
- * the answer: all its numbers are 0, except the named frame under 5, the named byte under 9, the named
- * channel under 11 and the file at fault of a comparison. (A fresh state and the places of a
- * comparison are answers too.)
+ * calls; 1, 12, 2, 3, 4, 5 for a swap; 1, 2, 5 for a repair; 6, 2, 7 for a piece; 1, 2, 9, 4 for
+ * writing a capture, 9, 1, 2 for reading one; 2, 11 for building a multiframe; for a comparison see
+ * spritbobbin_compare; for a rack 8, 2 and then as a piece, or 1 for a reset.
+ *
+ * A refused call writes nothing that it was lent, but the answer: all its numbers are 0, except the
+ * named frame under 5, the named byte under 9, the named channel under 11 and the file at fault of a
+ * comparison. (A fresh state and the places of a comparison are answers too.)
  *
  *
  * EXAMPLE
@@ -275,6 +276,7 @@ enum {
     SPRITBOBBIN_ALIGNMENT = 0,   /* reading notes: alignment digits that differ from the word */
     SPRITBOBBIN_DISSENT = 1,     /* reading notes: dissenting digits of tributary 1; then of 2, 3, 4 */
     SPRITBOBBIN_SWAPPED = 0,     /* a swap: digits taken from the buffer */
+    SPRITBOBBIN_WORD_REPAIRED = 0, /* a repair: alignment digits changed; then see below */
     SPRITBOBBIN_TAKEN = 0,       /* receiver: digits taken */
     SPRITBOBBIN_READY = 1,       /* receiver: 1 if a frame is ready */
     SPRITBOBBIN_ALARM = 2,       /* receiver: 1 if alarm indication stands at the end */
@@ -290,6 +292,10 @@ enum {
     SPRITBOBBIN_NAMED_CHANNEL = 0, /* building a multiframe: under 11 */
     SPRITBOBBIN_NAMED_BYTE = 6   /* under 9: where the field at fault begins or should begin */
 };
+
+/* What else stands where in the answer of a repair, tributary being 1 to 4. */
+#define SPRITBOBBIN_CONTROL_REPAIRED(tributary) (tributary)
+#define SPRITBOBBIN_STUFFING_REPAIRED(tributary) (4 + (tributary))
 
 /* What stands where in a receiver's state, and the mode numbers. */
 enum {
@@ -369,6 +375,23 @@ uint64_t spritbobbin_extract(uint64_t level, uint64_t earlier, const uint8_t *li
 uint64_t spritbobbin_swap(uint64_t level, uint64_t earlier, uint64_t tributary, uint8_t *line, size_t line_bytes,
                           const uint8_t *notes, size_t notes_bytes,
                           const uint8_t *buffer, size_t buffer_bytes, uint64_t answer[1]);
+
+/*
+ * Repairs a worn line in place: sets alignment digits to the word, the control digits of each group
+ * to their majority, and stuffing digits to 1. A stuffing digit is one of a justification place, or
+ * of a negative one, that carries nothing by the majorities of the line as it came: in the same
+ * frame, and at levels 12 and 14 in the frame before it too, which is earlier for frame 0. Service
+ * digits and digits of tributaries stay.
+ *
+ * The notes read from the result are those read from the line before, and so are the tributaries,
+ * with the same earlier. A second call changes nothing. A line that multiplexing made with the same
+ * earlier comes back exactly as it was sent, if nothing else was damaged than alignment and stuffing
+ * digits, and of each control group fewer than half.
+ *
+ * answer: how many digits were changed: alignment digits, then the control digits of tributaries 1
+ * to 4, then the stuffing digits of tributaries 1 to 4. Returns 0, 1, 2 or 5.
+ */
+uint64_t spritbobbin_repair(uint64_t level, uint64_t earlier, uint8_t *line, size_t line_bytes, uint64_t answer[9]);
 
 /*
  * The plain engine: a second engine that goes digit by digit and shares only the level table with

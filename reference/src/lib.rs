@@ -22,6 +22,7 @@ mod multiplexing;
 mod rack;
 pub mod random;
 mod receiver;
+mod repairing;
 mod swapping;
 
 pub use captures::{read_capture, write_capture, Read, Written};
@@ -34,4 +35,5 @@ pub use multiplexing::{
 };
 pub use rack::{rack_aligned, rack_feed, rack_refusal, rack_reset, Told, MOST_RECORDS};
 pub use receiver::{feed, feed_refusal, fresh, line_digit, Fed, State};
+pub use repairing::{repair, repair_refusal, Repaired};
 pub use swapping::{swap, swap_refusal, Swapped};

@@ -8,7 +8,8 @@
 //! - [`multiplex`] builds the frames of a line out of four tributaries; [`read_notes`] reads the
 //!   notes of a line, and [`extract`] takes the tributaries out again by notes. [`plain`] has the
 //!   same three by a second engine, digit by digit.
-//! - [`swap`] rewrites one tributary of a line in place.
+//! - [`swap`] rewrites one tributary of a line in place; [`repair`] sets right what is known of a worn
+//!   line, and [`repair_capture`] that of a capture.
 //! - A [`Receiver`] finds frames in a stream that comes in pieces of any size; a [`FrameStream`]
 //!   reads the stream too.
 //! - A [`Rack`] keeps the receivers of up to 64 lines.
@@ -89,6 +90,7 @@ mod rack;
 mod raw;
 mod receiver;
 mod refusal;
+mod repairing;
 mod stream;
 mod swapping;
 
@@ -104,5 +106,6 @@ pub use multiplexing::{extract, multiplex, read_notes, vote_after, Extracted, No
 pub use rack::{Rack, MOST_LINES};
 pub use receiver::{Frame, Frames, Mode, Receiver, State, Taken};
 pub use refusal::Refusal;
+pub use repairing::{repair, repair_capture, Repaired};
 pub use stream::FrameStream;
 pub use swapping::swap;

@@ -1,6 +1,6 @@
 /*
  * Calls every function of the library through its header, from C: worked cases 1, 9, 10 and 11
- * of the specification, frames of levels 12 and 14 worked by hand, swaps, each refusal, the digits of a line, captures,
+ * of the specification, frames of levels 12 and 14 worked by hand, swaps, repairs, each refusal, the digits of a line, captures,
  * comparisons, multiframes, frames of 2048 kbit/s and a rack of lines. Prints "face: ok", or what failed.
  *
  * All bytes that are lent come from malloc in their exact number, so that valgrind sees a read or
@@ -248,6 +248,55 @@ static void swaps(void)
     free(other);
     free(vote);
     free(digits);
+}
+
+/* A repair that is refused with this number, and leaves the line as it was. */
+static void refused_repair(uint64_t level, uint64_t earlier, size_t line_bytes, uint64_t refusal)
+{
+    uint8_t *line = lend(line_bytes, 0xA5);
+    uint64_t answer[9];
+
+    memset(answer, 0xA5, sizeof answer);
+    check(spritbobbin_repair(level, earlier, line, line_bytes, answer) == refusal, "the refusal of a repair");
+    check(all_zero(answer, 9) && all(line, line_bytes, 0xA5), "a refused repair counts and writes nothing");
+    free(line);
+}
+
+/* Two frames of zeros at level 12, with the vote before them 5: no word, which has five ones, and in frame 0 two control digits of tributary 2,
+   one of tributary 3. So frame 0 votes 2 after 5, and frame 1 votes 0 after 2: in frame 0 only the negative place of tributary 4 carries a digit, in
+   frame 1 those of 1, 3 and 4; no positive one is stuffed. */
+static void repairs(void)
+{
+    uint8_t *line = lend(264, 0), *case_1 = lend(106, 0);
+    uint64_t answer[9];
+
+    line[33] = 0x40;
+    line[66] = 0x60;
+    memset(answer, 0xA5, sizeof answer);
+    check(spritbobbin_repair(12, 5, line, 264, answer) == SPRITBOBBIN_ACCEPTED && answer[SPRITBOBBIN_WORD_REPAIRED] == 10, "two words are repaired");
+    check(answer[SPRITBOBBIN_CONTROL_REPAIRED(1)] == 0 && answer[SPRITBOBBIN_CONTROL_REPAIRED(2)] == 1
+          && answer[SPRITBOBBIN_CONTROL_REPAIRED(3)] == 1 && answer[SPRITBOBBIN_CONTROL_REPAIRED(4)] == 0, "control groups are set to their majority");
+    check(answer[SPRITBOBBIN_STUFFING_REPAIRED(1)] == 1 && answer[SPRITBOBBIN_STUFFING_REPAIRED(2)] == 2
+          && answer[SPRITBOBBIN_STUFFING_REPAIRED(3)] == 1 && answer[SPRITBOBBIN_STUFFING_REPAIRED(4)] == 0, "unused negative places are set to 1");
+    check(line[0] == 0xE6 && line[33] == 0x40 && line[66] == 0x40 && line[99] == 0x4E && line[100] == 0, "frame 0, its service digits as they came");
+    check(line[132] == 0xE6 && line[165] == 0 && line[198] == 0 && line[231] == 0x04 && line[232] == 0, "frame 1");
+    check(spritbobbin_repair(12, 5, line, 264, answer) == 0 && all_zero(answer, 9), "a second repair changes nothing");
+
+    case_1[0] = 0xF4;
+    case_1[26] = 0x08; /* two of three control digits of tributary 1 make its justification digit stuffing */
+    case_1[53] = 0x80;
+    check(spritbobbin_repair(2, UINT64_MAX, case_1, 106, answer) == 0 && answer[0] == 0, "level 2 does not look at the earlier vote");
+    check(answer[SPRITBOBBIN_CONTROL_REPAIRED(1)] == 1 && answer[SPRITBOBBIN_STUFFING_REPAIRED(1)] == 1, "a split group decides");
+    check(case_1[79] == 0x08 && case_1[80] == 0x80 && all_zero(answer + 2, 3) && all_zero(answer + 6, 3), "by its majority");
+    check(spritbobbin_repair(4, 0, NULL, 0, answer) == 0 && all_zero(answer, 9), "a line without frames");
+
+    refused_repair(5, 16, 131, SPRITBOBBIN_REFUSED_LEVEL);
+    refused_repair(12, 16, 131, SPRITBOBBIN_REFUSED_LINE);
+    refused_repair(12, 16, 65 * 132, SPRITBOBBIN_REFUSED_LINE);
+    refused_repair(12, 16, 132, SPRITBOBBIN_REFUSED_NOTE_BITS);
+    refused_repair(14, UINT64_MAX, 0, SPRITBOBBIN_REFUSED_NOTE_BITS);
+    free(line);
+    free(case_1);
 }
 
 /* Two frames with notes of their own and a buffer of 0x5A and 0xC3, sent, read and extracted by both engines, and
@@ -661,6 +710,7 @@ int main(void)
     votes(14, SPRITBOBBIN_FRAME_BYTES_14, SPRITBOBBIN_TRIBUTARY_DIGITS_14, heads[1], tails[1]);
     earlier_vote();
     swaps();
+    repairs();
     two_engines(4, 0xE5, 0x1A, 732, 724);
     two_engines(4, 0xE5, 0x1A, 732, 720);  /* refusal 4 */
     two_engines(7, 0xE5, 0x1A, 732, 724);  /* refusal 1 */

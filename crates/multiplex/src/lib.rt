@@ -35,7 +35,7 @@ ghost use Rattle.levels.specs.Judging.{answerOn};
 ghost use Rattle.multiplex.specs.Multiplex.{lineOn, Met};
 
 // Digit r of the alignment word.
-fn word_digit(row: Row, r: usize) -> u8
+pub fn word_digit(row: Row, r: usize) -> u8
     requires { ⌜ Shared row × (r < row .len) ⌝ }
     ensures { λ d. ⌜ (d ≡ wordDigit row r) × (d < 2) ⌝ }
 {

@@ -62,7 +62,7 @@ fn service_at(row: Row, line: &[u8], f: usize, k: usize) -> u8
 }
 
 // The note of frame f, by its own control groups and service digits.
-fn read_note(row: Row, line: &[u8], f: usize) -> FrameRead
+pub fn read_note(row: Row, line: &[u8], f: usize) -> FrameRead
     requires { ⌜ Shared row × (length (now line) ≤ 65536) × ((f + 1) * row .bytes ≤ length (now line)) ⌝ }
     ensures { λ r. ⌜ (r .note ≡ noteOf row (digitsOf (now (line .entry))) f) × (r .dissent ≡ dissentsIn row (digitsOf (now (line .entry))) f) ⌝ }
 {

@@ -4,3 +4,4 @@ pub mod CompareAnswers
 pub mod RackAnswers
 pub mod PlainAnswers
 pub mod SwapAnswers
+pub mod RepairAnswers

@@ -3,3 +3,4 @@ pub mod Finding
 pub mod Comparing
 pub mod PlainFace
 pub mod SwapFace
+pub mod RepairFace

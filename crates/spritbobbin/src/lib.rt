@@ -4,6 +4,7 @@ pub mod compare_face;
 pub mod finder_face;
 pub mod plain_face;
 pub mod rack_face;
+pub mod repair_face;
 pub mod swap_face;
 
 use captures::Reading;

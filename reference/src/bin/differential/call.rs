@@ -4,7 +4,7 @@ use reference::{build_multiframe, take_multiframe_apart};
 use reference::{compare, Differences, MOST_LISTED};
 use reference::{extract, feed, fresh, line_digit, multiplex, read_notes, Counted, State};
 use reference::{finder_feed, FinderState};
-use reference::{read_capture, swap, write_capture};
+use reference::{read_capture, repair, swap, write_capture};
 
 /// What a multiplex or extract call is lent; reading notes is lent all but the buffer.
 #[derive(Clone)]
@@ -15,6 +15,14 @@ pub struct Lending {
     pub line: Vec<u8>,
     pub notes: Vec<u8>,
     pub buffer: Vec<u8>,
+}
+
+/// What repairing is lent.
+#[derive(Clone)]
+pub struct Worn {
+    pub level: u64,
+    pub earlier: u64,
+    pub line: Vec<u8>,
 }
 
 #[derive(Clone)]
@@ -69,10 +77,11 @@ pub enum Call {
     Compare(Vec<u8>, Vec<u8>),
     /// What is lent, and the tributary's number. The buffer is one tributary's.
     Swap(Lending, u64),
+    Repair(Worn),
 }
 
 /// The names of the calls, in the order of their numbers.
-pub const NAMES: [&str; 17] = [
+pub const NAMES: [&str; 18] = [
     "multiplex",
     "read_notes",
     "receiver_fresh",
@@ -90,6 +99,7 @@ pub const NAMES: [&str; 17] = [
     "rack_reset",
     "rack_aligned",
     "swap",
+    "repair",
 ];
 
 /// All that a call answers and leaves: two outcomes are equal or there is a disagreement.
@@ -123,6 +133,7 @@ impl Call {
             Call::Extract(_) => 11,
             Call::Compare(..) => 12,
             Call::Swap(..) => 16,
+            Call::Repair(_) => 17,
         }
     }
 
@@ -146,6 +157,7 @@ impl Call {
             Call::FinderFresh => "window, seen, mode, place",
             Call::FinderFeed(_) => "taken, aligned; window, seen, mode, place",
             Call::Swap(..) => "digits taken",
+            Call::Repair(_) => "changed: word, control of four, stuffing of four",
             Call::Compare(..) => "file, byte, fifteen sums, all, listed; frame and place of each",
         }
     }
@@ -154,6 +166,12 @@ impl Call {
         match self {
             Call::Multiplex(with) | Call::ReadNotes(with) | Call::Extract(with) => with.short(),
             Call::Swap(with, tributary) => format!("tributary {tributary}; {}", with.short()),
+            Call::Repair(worn) => format!(
+                "level {}; earlier {}; line {}",
+                worn.level,
+                worn.earlier,
+                in_short(&worn.line)
+            ),
             Call::Fresh(level) => format!("level {level}"),
             Call::Feed(piece) => format!(
                 "state {:?}; frame store {}; slice {}; first {} count {}",
@@ -220,11 +238,19 @@ impl Call {
             Call::FinderFeed(hunt) => hunted(hunt),
             Call::Extract(with) => extracted(with.clone()),
             Call::Swap(with, tributary) => swapped(with.clone(), *tributary),
+            Call::Repair(worn) => repaired(worn.clone()),
             Call::Compare(one, other) => {
                 let (refusal, numbers) = compared_numbers(&compare(one, other));
                 outcome(refusal, numbers, vec![("one", one.clone()), ("other", other.clone())])
             }
         }
+    }
+}
+
+impl Worn {
+    /// The level, the earlier vote and the line of a call that is lent more.
+    pub fn of(with: Lending) -> Worn {
+        Worn { level: with.level, earlier: with.earlier, line: with.line }
     }
 }
 
@@ -265,6 +291,12 @@ fn swapped(mut with: Lending, tributary: u64) -> Outcome {
     let (level, earlier) = (with.level, with.earlier);
     let answer = swap(level, earlier, tributary, &mut with.line, &with.notes, &with.buffer);
     outcome(answer.refusal, vec![answer.taken], slices(with))
+}
+
+fn repaired(mut worn: Worn) -> Outcome {
+    let answer = repair(worn.level, worn.earlier, &mut worn.line);
+    let numbers = [&[answer.word], &answer.control[..], &answer.stuffing].concat();
+    outcome(answer.refusal, numbers, vec![("line", worn.line)])
 }
 
 pub fn counted_numbers(answer: &Counted) -> Vec<u64> {

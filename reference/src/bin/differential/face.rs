@@ -1,7 +1,7 @@
 //! The product's C face, and the calls made through it with guards around all that is lent.
 
 use crate::call::{
-    finder_numbers, state_numbers, Call, Hunt, Lending, Outcome, Piece, Whole, Writing,
+    finder_numbers, state_numbers, Call, Hunt, Lending, Outcome, Piece, Whole, Worn, Writing,
 };
 
 #[rustfmt::skip]
@@ -72,6 +72,9 @@ extern "C" {
         level: u64, earlier: u64, tributary: u64, line: *mut u8, line_bytes: usize,
         notes: *const u8, notes_bytes: usize, buffer: *const u8, buffer_bytes: usize,
         answer: *mut u64,
+    ) -> u64;
+    pub fn spritbobbin_repair(
+        level: u64, earlier: u64, line: *mut u8, line_bytes: usize, answer: *mut u64,
     ) -> u64;
     pub fn spritbobbin_rack_aligned(records: *const u64, number: usize, answer: *mut u64) -> u64;
 }
@@ -174,6 +177,7 @@ pub fn by_face(call: &Call) -> Outcome {
         Call::FinderFeed(hunt) => finder_feed(hunt),
         Call::Compare(one, other) => compare(one, other),
         Call::Swap(with, tributary) => swap(with, *tributary),
+        Call::Repair(worn) => repair(worn),
     }
 }
 
@@ -246,6 +250,17 @@ fn swap(with: &Lending, tributary: u64) -> Outcome {
         spritbobbin_swap(with.level, with.earlier, tributary, l, lc, n, nc, b, bc, a)
     };
     outcome(refusal, &[answer], &[line, notes, buffer])
+}
+
+fn repair(worn: &Worn) -> Outcome {
+    let mut line = bytes("line", &worn.line);
+    let mut answer = numbers("answer", &[UNWRITTEN; 9]);
+    // Sound as above.
+    let refusal = unsafe {
+        let (l, lc, a) = (line.pointer(), line.count(), answer.pointer());
+        spritbobbin_repair(worn.level, worn.earlier, l, lc, a)
+    };
+    outcome(refusal, &[answer], &[line])
 }
 
 fn fresh(level: u64) -> Outcome {

@@ -5,9 +5,10 @@ use crate::call::{compared_numbers, counted_numbers, read_numbers};
 use crate::face::{self, spritbobbin_capture_read, spritbobbin_capture_write, spritbobbin_compare};
 use crate::face::{spritbobbin_extract, spritbobbin_finder_feed, spritbobbin_line_digit};
 use crate::face::{spritbobbin_multiplex, spritbobbin_read_notes, spritbobbin_receiver_feed};
-use crate::face::{spritbobbin_swap, UNWRITTEN};
+use crate::face::{spritbobbin_repair, spritbobbin_swap, UNWRITTEN};
 use crate::multiframes;
 use crate::rack;
+use crate::repairing;
 use crate::swapping;
 use crate::Run;
 use reference::read_notes;
@@ -15,7 +16,7 @@ use reference::{
     extract, feed, feed_refusal, frames_refusal, fresh, length_refusal, line_digit, multiplex,
 };
 use reference::{finder_feed, finder_refusal, FinderState};
-use reference::{swap, swap_refusal, Swapped};
+use reference::{repair_refusal, swap, swap_refusal, Swapped};
 use std::alloc::{alloc_zeroed, dealloc, Layout};
 
 /// 2 to the 32.
@@ -268,6 +269,13 @@ fn long_line(run: &mut Run, level: u64, line: &mut [u8]) {
     let expected = extracted(level, u64::MAX, line, &[0], &mut [0; 4096]);
     run.expect(11, &inputs, &expected, &raw_extract(level, u64::MAX, line, &[0], &mut [0; 4096]));
     long_swap(run, &inputs, level, line, &[0], &[0; 4096]);
+    let mut answer = [UNWRITTEN; 9];
+    // Sound as above.
+    let refusal = unsafe {
+        spritbobbin_repair(level, u64::MAX, line.as_mut_ptr(), line.len(), answer.as_mut_ptr())
+    };
+    let expected = [&[repair_refusal(level, u64::MAX, line.len() as u64)], &[0; 9][..]].concat();
+    run.expect(17, &inputs, &expected, &[&[refusal], &answer[..]].concat());
     untouched(run, &inputs, line);
 }
 
@@ -367,6 +375,7 @@ fn null_pointers(run: &mut Run) {
     for level in NUMBERS {
         for earlier in EARLIER {
             null_lines(run, level, earlier);
+            repairing::by_length(run, level, earlier, 0);
             for tributary in [0, 1, 4, 5] {
                 swapping::by_lengths(run, level, earlier, tributary, [0; 3]);
             }
@@ -435,6 +444,7 @@ fn false_lengths(run: &mut Run) {
             for lengths in [[long, 1, frame], [frame, long, frame], [long; 3], [frame, 2, long]] {
                 swapping::by_lengths(run, level, 16, 1, lengths);
             }
+            repairing::by_length(run, level, 16, long);
             // The most bytes that eight times over do not fit in 64 bits, and room enough.
             swapping::by_lengths(run, level, 16, 4, [frame, 1, long]);
             false_capture(run, level, long);

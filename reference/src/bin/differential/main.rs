@@ -20,6 +20,7 @@ mod multiframes;
 mod multiplexing;
 mod rack;
 mod receiver;
+mod repairing;
 mod swapping;
 
 use call::{Call, Outcome, NAMES};
@@ -136,6 +137,7 @@ fn main() {
         comparisons::part(&mut run);
         rack::part(&mut run);
         swapping::part(&mut run);
+        repairing::part(&mut run);
     }
     lengths::part(&mut run);
     println!("{}; no disagreement", run.summary());

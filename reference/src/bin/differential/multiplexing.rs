@@ -176,7 +176,7 @@ fn read_and_extract(run: &mut Run, mut with: Lending) {
 }
 
 /// Changes some digits of a line: any, or only control digits, so that groups split.
-fn damage(random: &mut Random, with: &mut Lending) {
+pub fn damage(random: &mut Random, with: &mut Lending) {
     let row = match row(with.level) {
         Some(row) => row,
         None => return,
@@ -245,7 +245,7 @@ pub fn lending(random: &mut Random, level: u64, frames: usize, faults: Faults) -
 }
 
 /// An earlier vote that is accepted everywhere, mostly; else any number.
-fn any_earlier(random: &mut Random) -> u64 {
+pub fn any_earlier(random: &mut Random) -> u64 {
     if random.once_in(4) {
         return random.near(16);
     }

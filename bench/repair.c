@@ -1,0 +1,134 @@
+/*
+ * Times the repair of a line beside a plain one in C, digit by digit as one would write it first, which judges nothing: a line as it was
+ * multiplexed, and one of which a digit in a hundred is wrong. Before timing, both are seen to give the same line and the same counts, and
+ * a line of which words and single control digits are wrong comes back as it was.
+ *
+ * usage: repair REPEATS
+ */
+#define _POSIX_C_SOURCE 199309L
+#include <stdio.h>
+#include <stdlib.h>
+#include <string.h>
+#include <time.h>
+
+#include "engines.h"
+#include "rows.h"
+#include "spritbobbin.h"
+
+enum { FRAMES = 64, ENGINES = 2, TASKS = 2, EARLIER = 9 };
+enum { LINE_BYTES = FRAMES * 366, QUARTER_BYTES = (FRAMES * 723 + 7) / 8 };
+
+static repair_call *const engines[ENGINES] = {spritbobbin_repair, plain_repair};
+static const char *const tasks[TASKS] = {"a line as sent", "a digit in 100"};
+
+static uint8_t sent[LINE_BYTES], worn[LINE_BYTES], line[ENGINES][LINE_BYTES];
+static uint64_t answer[ENGINES][9];
+
+static uint64_t random_number(void)
+{
+    static uint64_t x = 88172645463325252u;
+
+    x ^= x << 13;
+    x ^= x >> 7;
+    x ^= x << 17;
+    return x >> 11;
+}
+
+static double now(void)
+{
+    struct timespec time;
+
+    clock_gettime(CLOCK_MONOTONIC, &time);
+    return 1e9 * (double)time.tv_sec + (double)time.tv_nsec;
+}
+
+static void fail(const struct row *row, const char *what)
+{
+    fprintf(stderr, "bench: level %u: %s\n", (unsigned)row->level, what);
+    exit(1);
+}
+
+static void turn_over(uint8_t *bytes, size_t place)
+{
+    bytes[place / 8] ^= (uint8_t)(0x80 >> place % 8);
+}
+
+static void send(const struct row *row, size_t bytes)
+{
+    static uint8_t notes[FRAMES], buffer[4 * QUARTER_BYTES];
+    uint64_t counts[5];
+
+    for (size_t f = 0; f < FRAMES; f++)
+        notes[f] = (uint8_t)(random_number() & ((16u << row->noted_digits) - 1));
+    for (size_t i = 0; i < sizeof buffer; i++)
+        buffer[i] = (uint8_t)random_number();
+    plain_multiplex(row->level, EARLIER, sent, bytes, notes, FRAMES, buffer, 4 * ((FRAMES * room_digits(row) + 7) / 8), counts);
+}
+
+/* Both engines on copies of a line. */
+static void repair_both(const struct row *row, const uint8_t *from, size_t bytes)
+{
+    for (unsigned e = 0; e < ENGINES; e++) {
+        memcpy(line[e], from, bytes);
+        if (engines[e](row->level, EARLIER, line[e], bytes, answer[e]) != 0)
+            fail(row, "a line is refused");
+    }
+    if (memcmp(line[0], line[1], bytes) != 0 || memcmp(answer[0], answer[1], sizeof answer[0]) != 0)
+        fail(row, "another repair");
+}
+
+/* A line of random digits and notes, and the worn one; both repaired alike. */
+static void make(const struct row *row, size_t bytes)
+{
+    send(row, bytes);
+    memcpy(worn, sent, bytes);
+    for (size_t f = 0; f < FRAMES; f++) {
+        turn_over(worn, f * row->frame_digits + random_number() % row->word_digits);
+        turn_over(worn, f * row->frame_digits + (1 + random_number() % (row->sets - 1)) * row->set_digits + random_number() % 4);
+    }
+    repair_both(row, worn, bytes);
+    if (memcmp(line[0], sent, bytes) != 0)
+        fail(row, "a worn line does not come back");
+    for (size_t place = 0; place < 8 * bytes; place++)
+        if (random_number() % 100 == 0)
+            turn_over(worn, place);
+    repair_both(row, worn, bytes);
+    repair_both(row, line[0], bytes);
+    for (unsigned i = 0; i < 9; i++)
+        if (answer[0][i])
+            fail(row, "a second repair changes something");
+}
+
+int main(int count, char **words)
+{
+    int repeats = count > 1 ? atoi(words[1]) : 0;
+
+    if (repeats < 1) {
+        fprintf(stderr, "usage: repair REPEATS\n");
+        return 2;
+    }
+    puts("| repair            | level | library, ns a digit | plain C, ns a digit |\n|---|---|---:|---:|");
+    for (unsigned task = 0; task < TASKS; task++)
+        for (unsigned level = 0; level < LEVELS; level++) {
+            const struct row *row = &ROWS[level];
+            size_t bytes = FRAMES * row->frame_digits / 8;
+            double best[ENGINES] = {0};
+
+            make(row, bytes);
+            for (int repeat = 0; repeat < repeats; repeat++)
+                for (unsigned e = 0; e < ENGINES; e++) {
+                    double begin, took;
+
+                    memcpy(line[e], task ? worn : sent, bytes);
+                    begin = now();
+                    engines[e](row->level, EARLIER, line[e], bytes, answer[e]);
+                    took = now() - begin;
+                    if (best[e] == 0 || took < best[e])
+                        best[e] = took;
+                }
+            printf("| %-17s | %5u | %19.3f | %19.3f |\n", tasks[task], (unsigned)row->level, best[0] / (8.0 * (double)bytes),
+                   best[1] / (8.0 * (double)bytes));
+        }
+    fprintf(stderr, "bench: the two repairs give the same lines\n");
+    return 0;
+}

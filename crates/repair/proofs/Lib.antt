@@ -1,0 +1,4 @@
+pub mod Mending
+pub mod Frames
+pub mod Answering
+pub mod Answers

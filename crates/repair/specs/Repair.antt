@@ -1,0 +1,102 @@
+-- Repairing a worn line in place: what the call answers and what it leaves in the line, refused or not, for any input. Document 02, request 13: "sets
+-- alignment digits to the word, control groups to their majority and stuffing digits to 1, and prints how many digits it changed of each kind and
+-- tributary".
+use mathlib.Core.Path.{_≡_}
+use mathlib.Core.Bool.{Bool, cond, not}
+use mathlib.Core.List.{List, [], _∷_}
+use Prim.Native.Nat.{ℕ, _*_, _%_}
+use lib.Dec.{eqb}
+use lib.ListN.{length, getD}
+use Rattle.digits.specs.Digits.{digitsOf, bytesOf, tab}
+use Rattle.table.specs.declared.Row.{Row}
+use Rattle.table.specs.Table.{levelOf}
+use Rattle.levels.specs.declared.order.Action.{Action}
+use Rattle.levels.specs.declared.places.Sign.the-variants.{Positive}
+use Rattle.levels.specs.declared.places.Kind.{Kind}
+use Rattle.levels.specs.declared.places.Kind.the-variants.{Word, Service, Control, Justification, Tributary}
+use Rattle.levels.specs.Sizes.{onLevel, framesOf, badLine}
+use Rattle.levels.specs.Places.{kindAt, posOf}
+use Rattle.levels.specs.Order.{actions, carried}
+use Rattle.levels.specs.Word.{wordDigit}
+use Rattle.levels.specs.Judging.{badEarlier}
+use Rattle.reading.specs.Notes.{voteAt, notesOf}
+use Rattle.tally.specs.Tally.{sumNumber, sumOf}
+use Rattle.repair.specs.declared.Repaired.{Repaired}
+
+-- ---- the line
+
+-- what place r of a set becomes, by its kind: stuffed is the majority of its tributary's control group, act what the frame does for that tributary, came
+-- the digit as it came. "alignment digits to the word, control groups to their majority and stuffing digits to 1": a justification place that carries no
+-- digit has a stuffing digit, "unused negative places become 1 too". A service digit stays, and so does every digit that is carried
+abbrev pub repairedBy : Row → Bool → Action → ℕ → ℕ → Kind → ℕ
+repairedBy row stuffed act r came Word = wordDigit row r
+repairedBy row stuffed act r came (Service s) = came
+repairedBy row stuffed act r came Control = cond stuffed 1 0
+repairedBy row stuffed act r came (Justification sign) = cond (carried (Justification sign) act) came 1
+repairedBy row stuffed act r came Tributary = came
+
+-- place p of a line of F frames whose digits came as ds: its frame's own majority, and what the frame does by the notes that are read from ds, "with the
+-- earlier vote" before frame 0 at levels 12 and 14
+unfoldable pub repairedDigit : Row → ℕ → ℕ → List ℕ → ℕ → ℕ
+repairedDigit row earlier F ds p =
+    repairedBy row (voteAt row ds (posOf row p .frame) (p % 4) .stuffed) (actions row earlier (notesOf row ds F) (p % 4) (posOf row p .frame))
+    (posOf row p .place) (getD ds p 0)
+    (kindAt row p)
+
+-- place p of a line of bytes, and the line
+abbrev pub becomes : Row → ℕ → List ℕ → ℕ → ℕ
+becomes row earlier line = repairedDigit row earlier (framesOf row (length line)) (digitsOf line)
+
+unfoldable pub repairedLine : Row → ℕ → List ℕ → List ℕ
+repairedLine row earlier line = bytesOf (length line) (tab (8 * length line) 0 (becomes row earlier line))
+
+-- ---- what is counted
+
+-- the digit at place p changes
+abbrev pub changes : Row → ℕ → List ℕ → ℕ → Bool
+changes row earlier line p = not (eqb (getD (digitsOf line) p 0) (becomes row earlier line p))
+
+-- "how many digits it changed of each kind and tributary": of the places of this kind, of tributary j (from 0) where a tributary owns them, by the one
+-- table of kinds (crate tally). Negative and positive places are one kind
+abbrev pub changedOf : Row → ℕ → List ℕ → Kind → ℕ → ℕ
+changedOf row earlier line kind j = sumOf row (changes row earlier line) (8 * length line) (sumNumber kind j)
+
+abbrev pub four : (ℕ → ℕ) → List ℕ
+four g = g 0 ∷ g 1 ∷ g 2 ∷ g 3 ∷ []
+
+unfoldable pub changed : Row → ℕ → List ℕ → Repaired
+changed row earlier line =
+    record {
+      refusal = 0;
+      word = changedOf row earlier line Word 0;
+      control = four (changedOf row earlier line Control);
+      stuffing = four (changedOf row earlier line (Justification Positive));
+    }
+
+-- ---- the answer
+
+-- the first of 2 and 5 that applies, or 0: "Levels 12 and 14 need the earlier vote (over 15: 5)"
+unfoldable pub numberOf : Row → ℕ → ℕ → ℕ
+numberOf row earlier line = cond (badLine row line) 2 (cond (badEarlier row earlier) 5 0)
+
+-- refused: nothing is changed
+abbrev pub refusedWith : ℕ → Repaired
+refusedWith refusal = record { refusal = refusal; word = 0; control = 0 ∷ 0 ∷ 0 ∷ 0 ∷ []; stuffing = 0 ∷ 0 ∷ 0 ∷ 0 ∷ [] }
+
+abbrev pub repairedOn : Row → ℕ → List ℕ → Repaired
+repairedOn row earlier line =
+    cond (eqb (numberOf row earlier (length line)) 0) (changed row earlier line) (refusedWith (numberOf row earlier (length line)))
+
+abbrev pub repaired : ℕ → ℕ → List ℕ → Repaired
+repaired level earlier line = onLevel (levelOf level) (λ (row : Row). repairedOn row earlier line) (refusedWith 1)
+
+-- the line at the end: repaired, or as it was
+abbrev pub lineOn : Row → ℕ → List ℕ → List ℕ
+lineOn row earlier line = cond (eqb (numberOf row earlier (length line)) 0) (repairedLine row earlier line) line
+
+abbrev pub lineAfter : ℕ → ℕ → List ℕ → List ℕ
+lineAfter level earlier line = onLevel (levelOf level) (λ (row : Row). lineOn row earlier line) line
+
+-- the whole statement of the call: its answer, and the line that it leaves
+abbrev pub RepairMet : ℕ → ℕ → List ℕ → Repaired → List ℕ → Type 0
+RepairMet level earlier line answer left = (answer ≡ repaired level earlier line) × (left ≡ lineAfter level earlier line)
