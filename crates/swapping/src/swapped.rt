@@ -200,7 +200,8 @@ fn swap_on(
         tributary: t.tributary,
         frames: sizes::plus(t.frames, notes.len()),
         taken: sizes::plus(t.taken, r.digits),
-        earlier: passage::last_vote(notes, t.earlier),
+        // The votes alone: a swap takes notes whatever their other bits are.
+        earlier: passage::last_vote(notes, t.earlier) % 16,
         failed: first_failed(failed, written && r.refusal == 0, NEW),
     }
 }
