@@ -1,10 +1,11 @@
--- One tributary's pass: after x columns, every own place of the tributary in them has its digit. Start, one column more, end.
+-- One tributary's pass: after x columns, every own place of the tributary in them has its digit. Start, columns of a run more, one column more, end.
 use mathlib.Core.Path.{_≡_, refl, sym, _∙_, ap}
 use mathlib.Core.Bool.{Bool, cond, true, false, _&&_}
 use mathlib.Core.List.{List, _∷_}
-use Prim.Native.Nat.{ℕ, _+_, _*_, _/_, _%_, _≤_, _<_}
+use Prim.Native.Nat.{ℕ, zero, suc, _+_, _*_, _-_, _/_, _%_, _≤_, _<_}
 use native.Mathlib.Omega.{arith}
 use native.Mathlib.Decide.{decLt, ℕ-discrete}
+use native.Mathlib.Nat.{add-zero, add-suc}
 use lib.Dec.{eqb, ltb}
 use lib.ListN.{length, getD, set}
 use lib.Seq.{getD-set-same, getD-set-other}
@@ -15,14 +16,19 @@ use Rattle.table.specs.declared.Row.{Row}
 use Rattle.levels.specs.declared.places.At.{At}
 use Rattle.levels.specs.declared.order.Action.{Action}
 use Rattle.levels.specs.declared.places.Kind.{Kind}
+use Rattle.levels.specs.declared.places.Kind.the-variants.{Tributary}
 use Rattle.levels.specs.Places.{isOwn, kindOf, kindAt, posOf}
 use Rattle.levels.specs.Table.{Shared}
 use Rattle.levels.specs.Sizes.{Fits}
-use Rattle.levels.specs.Order.{stuffed, actionOf, actions, carried, before}
+use Rattle.levels.specs.Order.{stuffed, actionOf, actions, carried, carries, before}
+use Rattle.levels.proofs.Positions.{Stands, stands-at, pos-of-sum}
+use Rattle.levels.proofs.Runs.{past-head}
 use Rattle.levels.proofs.Walk.{Walking, walk-start, walk-next, Column, column}
 use Rattle.multiplex.specs.Line.{digitBy, lineDigit}
+use Rattle.multiplex.proofs.Running.{set-in-line, before-room}
 use Rattle.swap.specs.Swap.{swappedDigit}
-use Rattle.swap.specs.Filling.{Put, Filled}
+use Rattle.swap.specs.Filling.{among, Ran, Ahead, Put, Filled}
+use Rattle.swap.proofs.Eights.{among-none, by-columns}
 
 -- below x and below x + 1 are the same of every number but x
 same-test : (n x : ℕ) → (n ≡ x → ⊥) → ltb n x ≡ ltb n (x + 1)
@@ -72,6 +78,100 @@ module _ {row : Row} {earlier : ℕ} {notes ds old : List ℕ} {j q x i : ℕ} {
 
     pub next-asks : Shared row × (at .frame ≤ 64) × (at .set < row .sets) × (at .place < row .set)
     next-asks = (so-far .fits .shared, here-is .frame-few, here-is .set-in, here-is .place-in)
+
+    -- k columns ahead by whole bytes
+    module _ (k : ℕ) (go : Ahead row at x k) where
+      abbrev sh : Shared row
+      sh = so-far .fits .shared
+
+      abbrev acts-of : ℕ → Action
+      acts-of = actions row earlier notes j
+
+      stands : Stands row sh (4 * x + j) at
+      stands = stands-at row sh (4 * x + j) at (so-far .walking .place)
+
+      -- where they stand, and that they are the tributary's
+      on : (c : ℕ) → c ≤ k → posOf row (4 * (x + c) + j) ≡ record { frame = at .frame; set = at .set; place = at .place + 4 * c }
+      on c l = pos-of-sum row sh (4 * (x + c) + j) (at .frame) (at .set) (at .place + 4 * c) (omega (arith, stands .sum)) (stands .set-in) (omega (arith, go .inside))
+
+      own-kind : (c : ℕ) → c < k → kindAt row (4 * (x + c) + j) ≡ Tributary
+      own-kind c l = rw (on c (omega arith)) (past-head row sh (at .set) (at .place + 4 * c) (omega (arith, go .run (omega arith) .1)))
+
+      moved : (c : ℕ) → c ≤ k → before row acts-of j (x + c) ≡ i + c
+      unfolding before carries
+      moved zero l = rw (add-zero x) (sym (so-far .walking .index) ∙ omega arith)
+      moved (suc c) l = rw (add-suc x c, own-kind c (omega arith), moved c (omega arith)) (omega arith)
+
+      past : x + k < 2 * length old
+      past =
+          omega (arith, stands .sum, go .inside, set-in-line row (length old) (length notes) q (so-far .fits) (at .frame) (at .set) (here-is .frame-noted) (stands .set-in))
+
+      room : (i + k ≤ 8 * q) × (i + k < 65536)
+      room = rw (moved k (omega arith)) at (before-room row (length old) (length notes) q (so-far .fits) earlier notes j (so-far .tributary) (x + k) (omega (arith, past)))
+
+      pub run-asks : (k % 8 ≡ 0) × (2 * (x / 2) + k ≤ 2 * length mid) × (i + k ≤ 8 * q) × (i + k < 65536) × (j < 4)
+      run-asks = (go .eights, omega (arith, past, so-far .kept), room .0, room .1, so-far .tributary)
+
+      pub run-past : x + k < 2 * length old
+      run-past = past
+
+      pub on-asks : Shared row × (at .set < row .sets) × (at .place + 4 * k < row .set)
+      on-asks = (sh, stands .set-in, go .inside)
+
+      -- what multiplexing sends there
+      own-digit : (p c : ℕ) → p ≡ 4 * (x + c) + j → c < k → lineDigit row earlier notes (λ (n : ℕ). ds) p ≡ getD ds (i + c) 0
+      unfolding lineDigit
+      own-digit p c e l =
+          let column : p / 4 ≡ x + c = omega (arith, so-far .tributary) in
+          let mine : p % 4 ≡ j = omega (arith, so-far .tributary) in
+          let kind : kindAt row p ≡ Tributary = ap (λ (n : ℕ). kindAt row n) e ∙ own-kind c l in
+          rw (kind, mine, column, moved c (omega arith))
+
+      own-place : (p c : ℕ) → p ≡ 4 * (x + c) + j → c < k → isOwn (kindAt row p) ≡ true
+      own-place p c e l = ap (λ (n : ℕ). isOwn (kindAt row n)) e ∙ rw (own-kind c l)
+
+      done-run : (p : ℕ) → cond (among x k p && eqb (p % 4) j) (getD ds (i + (p / 4 - x)) 0) (done row earlier notes ds old j x p) ≡ done row earlier notes ds old j (x + k) p
+      done-run p =
+          by-columns x k p (λ h e. rw (e, lt-ltb (p / 4) x h, lt-ltb (p / 4) (x + k) (omega arith))) inside
+          (λ h e. rw (e, le-ltb (p / 4) x (omega arith), le-ltb (p / 4) (x + k) h))
+        where
+          inside : x ≤ p / 4 → p / 4 < x + k → among x k p ≡ true
+              → cond (among x k p && eqb (p % 4) j) (getD ds (i + (p / 4 - x)) 0) (done row earlier notes ds old j x p) ≡ done row earlier notes ds old j (x + k) p
+          inside h l e =
+              elim (ℕ-discrete (p % 4) j) [
+                | yes m ↦
+                    let place : p ≡ 4 * (x + (p / 4 - x)) + j = omega arith in
+                    rw (e, eq-eqb (p % 4) j m, lt-ltb (p / 4) (x + k) l, own-place p (p / 4 - x) place (omega arith)) (sym (own-digit p (p / 4 - x) place (omega arith)))
+                | no m ↦ rw (e, ne-eqb (p % 4) j m, lt-ltb (p / 4) (x + k) l, le-ltb (p / 4) x h)
+              ]
+
+      -- from the middle of a byte on there are none
+      ran-from : (p b : ℕ) → cond (among (2 * (x / 2)) k p && eqb (p % 4) j) (getD ds (i + (p / 4 - 2 * (x / 2))) 0) b
+          ≡ cond (among x k p && eqb (p % 4) j) (getD ds (i + (p / 4 - x)) 0) b
+      ran-from p b =
+          elim (ℕ-discrete k 0) [
+            | yes z ↦ rw (z, among-none (2 * (x / 2)) p, among-none x p)
+            | no n ↦
+                let even = go .run (omega arith) .0 in
+                let same : 2 * (x / 2) ≡ x = omega arith in
+                rw same
+          ]
+
+      pub filling-run : (new : List ℕ) → Ran mid (2 * (x / 2)) k ds i j new → (at′ : At) → ((p : ℕ) → at ≡ posOf row p → at′ ≡ posOf row (p + 4 * k))
+          → Filling row earlier notes ds old j q (x + k) (i + k) at′ new
+      filling-run new ran at′ step =
+          let same : 4 * x + j + 4 * k ≡ 4 * (x + k) + j = omega arith in
+          record {
+            fits = so-far .fits;
+            tributary = so-far .tributary;
+            walking = record {
+              index = sym (moved k (omega arith));
+              place = step (4 * x + j) (so-far .walking .place) ∙ ap (λ (n : ℕ). posOf row n) same;
+            };
+            kept = ran .kept ∙ so-far .kept;
+            digits = λ p. ran .digits p ∙ rw (so-far .digits p) (ran-from p (done row earlier notes ds old j x p) ∙ done-run p);
+            bytes = ran .bytes;
+          }
 
     -- the notes that were read are the frame's own and the preceding one
     module _ (preceding note : ℕ) (before-own : preceding ≡ getD (earlier ∷ notes) (at .frame) 0) (own : note ≡ getD notes (at .frame) 0) where

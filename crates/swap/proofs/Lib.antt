@@ -1,3 +1,4 @@
+pub mod Eights
 pub mod Puts
 pub mod Filling
 pub mod Accepted

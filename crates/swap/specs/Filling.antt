@@ -1,14 +1,15 @@
 -- What the inner functions leave in the line, place by place. The public call's definitions are in specs/Swap.antt; these lie between them and the loop.
 use mathlib.Core.Path.{_≡_}
-use mathlib.Core.Bool.{Bool, cond}
+use mathlib.Core.Bool.{Bool, cond, _&&_}
 use mathlib.Core.List.{List}
-use Prim.Native.Nat.{ℕ, _+_, _*_, _<_}
+use Prim.Native.Nat.{ℕ, _+_, _*_, _-_, _/_, _%_, _^_, _<_, _≤_}
+use lib.Dec.{eqb, leb, ltb}
 use lib.ListN.{length, getD, set}
 use Rattle.digits.specs.Digits.{digitsOf, Bytes}
 use Rattle.table.specs.declared.Row.{Row}
 use Rattle.levels.specs.declared.order.Action.{Action}
 use Rattle.levels.specs.declared.places.At.{At}
-use Rattle.levels.specs.Places.{isOwn, kindOf}
+use Rattle.levels.specs.Places.{headEnd, isOwn, kindOf}
 use Rattle.levels.specs.Order.{actions, carried, before}
 use Rattle.multiplex.specs.Line.{digitBy}
 use Rattle.swap.specs.Swap.{swappedDigit}
@@ -19,6 +20,26 @@ pub record Put (row : Row) (at : At) (old : List ℕ) (p : ℕ) (ds : List ℕ) 
   pub digits : digitsOf new
       ≡ cond (isOwn (kindOf row (at .set) (at .place))) (set (digitsOf old) p (digitBy row note act j (at .place) (getD ds i 0) (kindOf row (at .set) (at .place)))) (digitsOf old)
   pub bytes : Bytes old → Bytes new
+
+-- the places of tributary j in eight columns, as a number: 1 at each of them
+abbrev pub ownPlaces : ℕ → ℕ
+ownPlaces j = 286331153 * 2 ^ (3 - j)
+
+-- place p stands in the k columns from column x on
+abbrev pub among : ℕ → ℕ → ℕ → Bool
+among x k p = leb x (p / 4) && ltb (p / 4) (x + k)
+
+-- k columns from column x on: tributary j has the digits ds from i on at its places of them, and every other place stays
+pub record Ran (old : List ℕ) (x k : ℕ) (ds : List ℕ) (i j : ℕ) (new : List ℕ) : Type 0 where
+  pub digits : (p : ℕ) → getD (digitsOf new) p 0 ≡ cond (among x k p && eqb (p % 4) j) (getD ds (i + (p / 4 - x)) 0) (getD (digitsOf old) p 0)
+  pub kept : length new ≡ length old
+  pub bytes : Bytes new
+
+-- k columns ahead that go by whole bytes: eights of them, before the set's last column, behind the head, from a byte's first column on
+pub record Ahead (row : Row) (at : At) (x k : ℕ) : Type 0 where
+  pub eights : k % 8 ≡ 0
+  pub inside : at .place + 4 * k < row .set
+  pub run : 0 < k → (x % 2 ≡ 0) × (headEnd row (at .set) ≤ at .place)
 
 -- every own place of tributary j has its digit; every other place stays
 pub record Filled (row : Row) (earlier : ℕ) (notes ds : List ℕ) (j count : ℕ) (old new : List ℕ) : Type 0 where

@@ -1,5 +1,7 @@
 // One tributary of a line swapped in place: its control, justification and tributary places are written anew from new digits and new decisions, and no
 // other digit is touched. specs/Swap.antt says what the call answers and leaves.
+mod columns;
+
 use levels::judging;
 use levels::lent;
 use levels::order;
@@ -10,16 +12,17 @@ use levels::places::TributaryPlace;
 use levels::sizes;
 use table::Level;
 use table::Row;
+use weave::table::spread_table;
 ghost use mathlib.Core.Path.{_≡_};
 ghost use mathlib.Core.Bool.{true};
-ghost use Prim.Native.Nat.{_/_, _*_, _^_, _<_, _≤_};
+ghost use Prim.Native.Nat.{ℕ, _+_, _/_, _*_, _^_, _<_, _≤_};
 ghost use lib.ListN.{length};
 ghost use Rattle.digits.specs.Digits.{digitsOf};
 ghost use Rattle.levels.specs.Table.{Shared};
 ghost use Rattle.levels.specs.Sizes.{Fits};
-ghost use Rattle.levels.specs.Places.{kindOf};
+ghost use Rattle.levels.specs.Places.{kindOf, posOf};
 ghost use Rattle.levels.specs.Order.{stuffed, actionOf, carried};
-ghost use Rattle.swap.specs.Filling.{Put, Filled};
+ghost use Rattle.swap.specs.Filling.{Ahead, Put, Filled};
 ghost use Rattle.swap.specs.Swap.{badTributary, badRoom, numberOf, refusedWith, swappedOn, lineOn, SwapMet};
 
 pub struct Swapped {
@@ -70,11 +73,40 @@ fn put_one(
     i
 }
 
-// The walk over a line, a column of four places at a time: every own place of tributary j (from 0) gets its digit. Answers how many digits it took.
+// How many columns of tributary digits lie ahead in the set that go by whole bytes: as many eights as leave a column, none in a head, none from the
+// middle of a byte on.
+fn ahead(row: Row, at: At, x: usize) -> usize
+    requires { ⌜ Shared row × (at .place < row .set) ⌝ }
+    ensures { λ k. ⌜ Ahead row at x k ⌝ }
+{
+    if x % 2 == 1 {
+        return 0;
+    }
+    if at.place < places::head_end(row, at.set) {
+        return 0;
+    }
+    (row.set - 1 - at.place) / 32 * 8
+}
+
+// So many columns on in the same set.
+fn columns_on(row: Row, at: At, k: usize) -> At
+    requires { ⌜ Shared row × (at .set < row .sets) × (at .place + 4 * k < row .set) ⌝ }
+    ensures { λ r. ⌜ ((p : ℕ) → at ≡ posOf row p → r ≡ posOf row (p + 4 * k)) ⌝ }
+{
+    At {
+        frame: at.frame,
+        set: at.set,
+        place: at.place + 4 * k,
+    }
+}
+
+// The walk over a line: every own place of tributary j (from 0) gets its digit. Each turn takes the columns that go by whole bytes, and one column of
+// four places more. Answers how many digits it took.
 fn fill(row: Row, earlier: u64, line: &mut [u8], notes: &[u8], buffer: &[u8], j: usize) -> usize
     requires { ⌜ (j < 4) × Fits row (length (now line)) (length (now notes)) (length (now buffer)) ⌝ }
     ensures { λ r. ⌜ Filled row earlier (now (notes .entry)) (digitsOf (now (buffer .entry))) j r (now (line .entry)) (now (line .exit)) ⌝ }
 {
+    let table = spread_table();
     let n = 2 * line.len();
     let mut x: usize = 0;
     let mut i = TributaryPlace(0);
@@ -84,6 +116,11 @@ fn fill(row: Row, earlier: u64, line: &mut [u8], notes: &[u8], buffer: &[u8], j:
         place: j,
     };
     while x < n {
+        let k = ahead(row, at, x);
+        columns::put_columns(&table, line, x / 2, buffer, i.0, j, k);
+        i = TributaryPlace(i.0 + k);
+        at = columns_on(row, at, k);
+        x += k;
         let f = at.frame;
         let p = FramePlace(4 * x + j);
         let preceding = order::preceding_of(earlier, notes, f);

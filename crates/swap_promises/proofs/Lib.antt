@@ -1,4 +1,5 @@
 pub mod Places
 pub mod Orders
 pub mod NewFour
+pub mod NewSend
 pub mod Returned

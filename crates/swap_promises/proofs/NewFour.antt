@@ -34,7 +34,7 @@ use Rattle.promises.specs.Calls.{Lent, SendAccepted, sentLine, sentCounts}
 use Rattle.promises.specs.Extraction.{SameBit}
 use Rattle.promises.proofs.Order.{before-same, count-same, actions-same}
 use Rattle.promises.proofs.Accepted.{shared, tributary, send-sizes, send-whole, send-places, send-bytes, send-line, send-count}
-use Rattle.swap_promises.specs.Swapping.{Swap, SwapAccepted, swapLine, swapCount, from0, NewFour}
+use Rattle.swap_promises.specs.Swapping.{Swap, SwapAccepted, swapLine, swapCount, from0, Mixed, NewFour}
 use Rattle.swap_promises.proofs.Places.{same-bytes, swap-level, swap-small, swap-noted, swap-places, swap-line, swap-count}
 
 -- an own place by its kind
@@ -111,6 +111,35 @@ firsts : (n m : ℕ) (xs ys : List ℕ) → take n xs ≡ take m ys → n ≡ m 
 firsts n m xs ys same e i h =
     sym (getD-take n xs i 0 (omega arith)) ∙ ap (λ (l : List ℕ). getD l i 0) same ∙ getD-take m ys i 0 h
 
+-- notes with one's bit j and the other's bits beside it have the one's decisions for tributary j, and the other's for the other three
+module _ (j x y z : ℕ) (one other both : List ℕ) where
+  abbrev AllMixed : Type 0
+  AllMixed = (f : ℕ) → f < length other → Mixed j (getD one f 0) (getD other f 0) (getD both f 0)
+
+  pub own-bits : length one ≡ length other → Mixed j x y z → length both ≡ length other → AllMixed → SameBit j x z one both
+  own-bits frames before same noted =
+      record {
+        before = ap (λ (d : ℕ). eqb d 1) (sym (before .own));
+        frames = frames ∙ sym same;
+        bit = λ f h. ap (λ (d : ℕ). eqb d 1) (sym (noted f (omega (arith, frames)) .own));
+      }
+
+  pub beside-bits : Mixed j x y z → length both ≡ length other → AllMixed → (k : ℕ) → k < 4 → k ≢ j → SameBit k y z other both
+  beside-bits before same noted k hk far =
+      record {
+        before = ap (λ (d : ℕ). eqb d 1) (sym (before .beside k (omega arith) far));
+        frames = sym same;
+        bit = λ f h. ap (λ (d : ℕ). eqb d 1) (sym (noted f h .beside k (omega arith) far));
+      }
+
+-- what a send counts of a tributary, by other notes that have the same bit
+pub count-by : (level y : ℕ) (row : Row) (e : levelOf level ≡ Of row) (four : Lent) → SendAccepted level y four → (k z : ℕ) (notes : List ℕ) → k < 4 → SameBit k z y notes (four .notes)
+    → getD (sentCounts level y four) k 0 ≡ countOf row (actions row z notes k) (length notes)
+count-by level y row e four made k z notes hk bits =
+    send-count level y row e four made k hk
+    ∙ ap (λ (n : ℕ). countOf row (actions row y (four .notes) k) n) (sym (bits .frames))
+    ∙ sym (count-same row (actions row z notes k) (actions row y (four .notes) k) (length notes) (actions-same row z y notes (four .notes) k (length notes) (bits .before) (bits .bit)))
+
 module _ (level x : ℕ) (row : Row) (e : levelOf level ≡ Of row) (send : Lent) (sent : SendAccepted level x send) (s : Swap) (ok : SwapAccepted level (sentLine level x send) s)
     (y : ℕ) (four : Lent) (made : SendAccepted level y four) (new : NewFour level x send (sentLine level x send) s y four) where
   abbrev line : List ℕ
@@ -148,38 +177,22 @@ module _ (level x : ℕ) (row : Row) (e : levelOf level ≡ Of row) (send : Lent
 
   -- the tributary's bit is the swap's, the other three are the send's
   bits-own : SameBit j (s .earlier) y (s .notes) (four .notes)
-  bits-own =
-      record {
-        before = ap (λ (d : ℕ). eqb d 1) (sym (new .before .own));
-        frames = frames ∙ sym (new .frames);
-        bit = λ f h. ap (λ (d : ℕ). eqb d 1) (sym (new .noted f (omega (arith, frames)) .own));
-      }
+  bits-own = own-bits j (s .earlier) x y (s .notes) (send .notes) (four .notes) frames (new .before) (new .frames) (new .noted)
 
   bits-beside : (k : ℕ) → k < 4 → k ≢ j → SameBit k x y (send .notes) (four .notes)
-  bits-beside k hk other =
-      record {
-        before = ap (λ (d : ℕ). eqb d 1) (sym (new .before .beside k (omega arith) other));
-        frames = sym (new .frames);
-        bit = λ f h. ap (λ (d : ℕ). eqb d 1) (sym (new .noted f h .beside k (omega arith) other));
-      }
+  bits-beside k hk other = beside-bits j (s .earlier) x y (s .notes) (send .notes) (four .notes) (new .before) (new .frames) (new .noted) k hk other
 
   -- so are the digits
-  count-by : (k z : ℕ) (notes : List ℕ) → k < 4 → SameBit k z y notes (four .notes) → getD (sentCounts level y four) k 0 ≡ countOf row (actions row z notes k) (length notes)
-  count-by k z notes hk bits =
-      send-count level y row e four made k hk
-      ∙ ap (λ (n : ℕ). countOf row (actions row y (four .notes) k) n) (sym (bits .frames))
-      ∙ sym (count-same row (actions row z notes k) (actions row y (four .notes) k) (length notes) (actions-same row z y notes (four .notes) k (length notes) (bits .before) (bits .bit)))
-
   digits-own : (i : ℕ) → i < countOf row (actions row (s .earlier) (s .notes) j) (length (s .notes)) → getD (digitsOf (s .buffer)) i 0 ≡ getD (news j) i 0
   digits-own i h =
       let count = swap-count level row e line s ok in
-      let counts = count-by j (s .earlier) (s .notes) small bits-own ∙ sym count in
+      let counts = count-by level y row e four made j (s .earlier) (s .notes) small bits-own ∙ sym count in
       sym (firsts (getD (sentCounts level y four) j 0) (swapCount level line s) (news j) (digitsOf (s .buffer)) (new .own) counts i (omega (arith, count)))
 
   digits-beside : (k : ℕ) → k < 4 → k ≢ j → (i : ℕ) → i < countOf row (actions row x (send .notes) k) F → getD (olds k) i 0 ≡ getD (news k) i 0
   digits-beside k hk other i h =
       let count = send-count level x row e send sent k hk in
-      let counts = count-by k x (send .notes) hk (bits-beside k hk other) ∙ sym count in
+      let counts = count-by level y row e four made k x (send .notes) hk (bits-beside k hk other) ∙ sym count in
       sym (firsts (getD (sentCounts level y four) k 0) (getD (sentCounts level x send) k 0) (news k) (olds k) (new .beside k hk other) counts i (omega (arith, count)))
 
   module _ (p : ℕ) (h : p < 8 * length line) where

@@ -3,20 +3,20 @@
 use mathlib.Core.Path.{_≡_}
 use mathlib.Core.Logic.{_≢_}
 use mathlib.Core.Bool.{Bool, cond, false, _&&_, not}
-use mathlib.Core.List.{List}
+use mathlib.Core.List.{List, _++_}
 use Prim.Native.Nat.{ℕ, _-_, _/_, _%_, _^_, _<_}
 use lib.Dec.{eqb}
-use lib.ListN.{length, getD, take}
-use Rattle.digits.specs.Digits.{digitsOf}
+use lib.ListN.{length, getD, take, replicate}
+use Rattle.digits.specs.Digits.{digitsOf, Bytes, tab, withDigit}
 use Rattle.table.specs.declared.Row.{Row}
 use Rattle.table.specs.Table.{levelOf}
 use Rattle.levels.specs.declared.order.Action.{Action}
 use Rattle.levels.specs.declared.places.Kind.{Kind}
 use Rattle.levels.specs.declared.places.Kind.the-variants.{Word, Service, Control, Justification, Tributary}
-use Rattle.levels.specs.Sizes.{onLevel}
+use Rattle.levels.specs.Sizes.{onLevel, quarterOf}
 use Rattle.levels.specs.Places.{kindAt, posOf}
 use Rattle.levels.specs.Order.{decisions, actions, carried}
-use Rattle.promises.specs.Calls.{Lent, sentDigits, readNotes, readDigits, SameButAt}
+use Rattle.promises.specs.Calls.{Lent, SendAccepted, sentLine, sentDigits, readNotes, readDigits, SameButAt}
 use Rattle.promises.specs.Extraction.{extractCounts, extractDigits, SameBit}
 use Rattle.swap.specs.Swap.{swapped, lineAfter}
 
@@ -60,6 +60,38 @@ pub record NewFour (level earlier : ℕ) (send : Lent) (line : List ℕ) (s : Sw
   pub noted : (f : ℕ) → f < length (send .notes) → Mixed (from0 s) (getD (s .notes) f 0) (getD (send .notes) f 0) (getD (four .notes) f 0)
   pub own : sentDigits level vote four (from0 s) ≡ swapDigits level line s
   pub beside : (k : ℕ) → k < 4 → k ≢ from0 s → sentDigits level vote four k ≡ sentDigits level earlier send k
+
+-- the new four made of what the send and the swap were given: each note and the vote before them with bit j replaced, and quarter j replaced by as many of
+-- the swap's bytes, zeros where it has fewer
+abbrev pub mixed : ℕ → ℕ → ℕ → ℕ
+mixed j one other = withDigit other j (one / 2 ^ j % 2)
+
+abbrev pub fitted : ℕ → List ℕ → List ℕ
+fitted q buffer = take q (buffer ++ replicate q 0)
+
+abbrev pub newPart : Lent → Swap → ℕ → List ℕ
+newPart send s k = cond (eqb k (from0 s)) (fitted (length (send .buffer) / 4) (s .buffer)) (quarterOf (send .buffer) k)
+
+abbrev pub newVote : ℕ → Swap → ℕ
+newVote earlier s = mixed (from0 s) (s .earlier) earlier
+
+abbrev pub newFour : Lent → Swap → Lent
+newFour send s =
+    record {
+      line = send .line;
+      notes = tab (length (send .notes)) 0 (λ (f : ℕ). mixed (from0 s) (getD (s .notes) f 0) (getD (send .notes) f 0));
+      buffer = newPart send s 0 ++ (newPart send s 1 ++ (newPart send s 2 ++ newPart send s 3));
+    }
+
+-- there is such a send: this one is accepted, is of the new four, and makes the swapped line; and it can be made, of bytes and a vote of 64 digits where send and
+-- swap were
+pub record NewFourSent (level earlier : ℕ) (send : Lent) (s : Swap) : Type 0 where
+  pub accepted : SendAccepted level (newVote earlier s) (newFour send s)
+  pub new : NewFour level earlier send (sentLine level earlier send) s (newVote earlier s) (newFour send s)
+  pub line : swapLine level (sentLine level earlier send) s ≡ sentLine level (newVote earlier s) (newFour send s)
+  pub vote : earlier < 2 ^ 64 → newVote earlier s < 2 ^ 64
+  pub noted : Bytes (send .notes) → Bytes (newFour send s .notes)
+  pub lent : Bytes (send .buffer) → Bytes (s .buffer) → Bytes (newFour send s .buffer)
 
 -- extraction from the swapped line by the swap's decisions returns the swap's digits, all that it took; `earlier` is the vote before the extraction's notes
 pub record NewExtracted (level earlier : ℕ) (line : List ℕ) (s : Swap) (c : Lent) : Type 0 where

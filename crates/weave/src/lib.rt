@@ -38,7 +38,7 @@ fn place(x: u64) -> usize
 }
 
 // One entry of the table.
-fn spread(table: &[u64; 256], x: u64) -> u64
+pub fn spread(table: &[u64; 256], x: u64) -> u64
     requires { ⌜ (now table ≡ tab 256 0 (spreadOf 8)) × (x < 256) ⌝ }
     ensures { λ r. ⌜ (r ≡ spreadOf 8 x) × (15 * r < 2 ^ 32) ⌝ }
 {

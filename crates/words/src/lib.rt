@@ -31,7 +31,7 @@ fn join(hi: u64, b: u8) -> u64
 }
 
 // The 32 digits of four bytes as a number. Joined by shifts and `|`, the four loads become one.
-fn load4(s: &[u8], at: usize) -> u64
+pub fn load4(s: &[u8], at: usize) -> u64
     requires { ⌜ at + 4 ≤ length (now s) ⌝ }
     ensures { λ r. ⌜ (r ≡ windowAt (digitsOf (now (s .entry))) (8 * at) 32) × (r < 2 ^ 32) ⌝ }
 {
@@ -92,7 +92,7 @@ fn low_byte(x: u64) -> u8
 }
 
 // Four bytes from a number of 32 digits; every other byte stays.
-fn store4(s: &mut [u8], at: usize, out: u64)
+pub fn store4(s: &mut [u8], at: usize, out: u64)
     requires { ⌜ (at + 4 ≤ length (now s)) ⌝ }
     ensures { λ _. ⌜ now (s .exit) ≡ sets (now (s .entry)) at (four out) ⌝ }
 {

@@ -1,83 +1,158 @@
--- `fill`: after x turns every own place of the tributary in the first x columns has its digit (Filling).
+-- `fill`: after each turn every own place of the tributary in the first x columns has its digit (Filling), first in the columns that went by whole
+-- bytes, then in one more.
 use mathlib.Core.Path.{_≡_, refl}
-use Prim.Native.Nat.{_≤_, _<_, _-_, _*_}
+use Prim.Native.Nat.{_≤_, _<_, _-_, _*_, _+_}
 use native.Mathlib.Omega.{arith}
+use borrow.Author.Needs.{needs}
 use lib.ListN.{length}
-use Rattle.digits.specs.Digits.{digitsOf, Bytes}
-use Rattle.swap.proofs.Filling.{Filling, filling-start, here-is, put-asks, next-asks, filling-more, filling-end}
+use Rattle.digits.specs.Digits.{digitsOf, tab, Bytes}
+use Rattle.weave.specs.Weave.{spreadOf}
+use Rattle.swap.proofs.Filling.{Filling, filling-start, here-is, run-asks, run-past, on-asks, filling-run, put-asks, next-asks, filling-more, filling-end}
 use Rattle.swap.proofs.fill.Statement.{statement}
 use Rattle.swap.proofs.fill.Tie as tie
 
 abbrev Inv-loop : tie.InvT-loop
-Inv-loop row earlier line₀ notes buffer j n x₀ i₀ at₀ line x i at =
-    (x ≤ n) × (n ≡ 2 * length line₀) × Filling row earlier notes (digitsOf buffer) line₀ j (length buffer) x (i .0) at line
+Inv-loop row earlier line₀ notes buffer j table n x₀ i₀ at₀ line x i at =
+    (x ≤ n)
+    × (n ≡ 2 * length line₀)
+    × (table ≡ tab 256 0 (spreadOf 8))
+    × Filling row earlier notes (digitsOf buffer) line₀ j (length buffer) x (i .0) at line
 
 abbrev μ-loop : tie.MeasureT-loop
-μ-loop row earlier line₀ notes buffer j n x₀ i₀ at₀ line x i at = n - x
+μ-loop row earlier line₀ notes buffer j table n x₀ i₀ at₀ line x i at = n - x
 
 mul-n : tie.Need-mul-n Inv-loop μ-loop
 mul-n c = omega arith
 
 loop-holds : tie.Need-loop-holds Inv-loop μ-loop
 loop-holds c =
-    let b = c .before .before .before in
-    let bytes : Bytes (b .args .line .now) = λ i. omega (arith, c .before .before .slice-known .given i) in
-    (omega arith, refl, filling-start _ _ _ _ _ _ _ bytes (b .pre .0) (b .pre .1))
+    let b = c .before .before .before .before in
+    let bytes : Bytes (b .args .line .now) = λ i. omega (arith, c .before .before .before .slice-known .given i) in
+    (omega arith, refl, c .spread-table .ensures, filling-start _ _ _ _ _ _ _ bytes (b .pre .0) (b .pre .1))
 
-mul-t17 : tie.Need-mul-t17 Inv-loop μ-loop
-mul-t17 c = omega (arith, here-is (c .before .loop .inv .2) (omega arith) .line-short)
+ahead-requires : tie.Need-ahead-requires Inv-loop μ-loop
+ahead-requires c κs =
+    let l = c .before .loop in
+    let asks = next-asks (l .inv .3) (omega (arith, l .inv .1, c .loop-test .taken)) in
+    (asks .0, asks .3)
 
-add-t18 : tie.Need-add-t18 Inv-loop μ-loop
-add-t18 c = omega (arith, here-is (c .before .loop .inv .2) (omega arith) .line-short)
+put-columns-requires : tie.Need-put-columns-requires Inv-loop μ-loop
+put-columns-requires c κs =
+    let l = c .before .before .before .before .loop in
+    let ahead = c .before .before .ahead in
+    let asks = run-asks (l .inv .3) (omega (arith, l .inv .1, c .before .before .before .loop-test .taken)) (ahead .result) (ahead .ensures) in
+    (l .inv .2, asks .0, asks .1, asks .2, asks .3, asks .4)
+
+add-t24 : tie.Need-add-t24 Inv-loop μ-loop
+add-t24 c =
+    let l = c .before .before .before .before .before .before .before .before .loop in
+    let ahead = c .before .before .before .before .before .before .ahead in
+    let asks = run-asks (l .inv .3) (omega (arith, l .inv .1, c .before .before .before .before .before .before .before .loop-test .taken)) (ahead .result) (ahead .ensures) in
+    omega (arith, asks .3)
+
+columns-on-requires : tie.Need-columns-on-requires Inv-loop μ-loop
+columns-on-requires c κs =
+    let l = c .before .before .before .before .before .before .before .before .loop in
+    let ahead = c .before .before .before .before .before .before .ahead in
+    on-asks (l .inv .3) (omega (arith, l .inv .1, c .before .before .before .before .before .before .before .loop-test .taken)) (ahead .result) (ahead .ensures)
+
+add-x : tie.Need-add-x Inv-loop μ-loop
+add-x c =
+    let l = c .before .before .before .before .before .before .before .before .before .loop in
+    let ahead = c .before .before .before .before .before .before .before .ahead in
+    omega (arith, l .inv .1, run-past (l .inv .3) (omega (arith, l .inv .1, c .before .before .before .before .before .before .before .before .loop-test .taken)) (ahead .result) (ahead .ensures))
+
+mul-t24 : tie.Need-mul-t24 Inv-loop μ-loop
+mul-t24 c =
+    let l = c .before .before .before .before .before .before .before .before .before .loop in
+    let ahead = c .before .before .before .before .before .before .before .ahead in
+    let inside : l .x < 2 * length (c .before .before .before .before .before .before .before .before .before .before .before .before .before .before .args .line .now) = omega (arith, l .inv .1, c .before .before .before .before .before .before .before .before .loop-test .taken) in
+    let past = run-past (l .inv .3) inside (ahead .result) (ahead .ensures) in
+    let run = filling-run (l .inv .3) inside (ahead .result) (ahead .ensures) _ (c .before .before .before .before .put-columns .ensures) _ (c .columns-on .ensures) in
+    omega (arith, here-is run past .line-short, past)
+
+add-t25 : tie.Need-add-t25 Inv-loop μ-loop
+add-t25 c =
+    let l = c .before .before .before .before .before .before .before .before .before .loop in
+    let ahead = c .before .before .before .before .before .before .before .ahead in
+    let inside : l .x < 2 * length (c .before .before .before .before .before .before .before .before .before .before .before .before .before .before .args .line .now) = omega (arith, l .inv .1, c .before .before .before .before .before .before .before .before .loop-test .taken) in
+    let past = run-past (l .inv .3) inside (ahead .result) (ahead .ensures) in
+    let run = filling-run (l .inv .3) inside (ahead .result) (ahead .ensures) _ (c .before .before .before .before .put-columns .ensures) _ (c .columns-on .ensures) in
+    omega (arith, here-is run past .line-short, past)
 
 preceding-of-requires : tie.Need-preceding-of-requires Inv-loop μ-loop
-preceding-of-requires c κs = here-is (c .before .loop .inv .2) (omega arith) .frame-noted
+preceding-of-requires c κs =
+    let l = c .before .before .before .before .before .before .before .before .before .loop in
+    let ahead = c .before .before .before .before .before .before .before .ahead in
+    let inside : l .x < 2 * length (c .before .before .before .before .before .before .before .before .before .before .before .before .before .before .args .line .now) = omega (arith, l .inv .1, c .before .before .before .before .before .before .before .before .loop-test .taken) in
+    let past = run-past (l .inv .3) inside (ahead .result) (ahead .ensures) in
+    let run = filling-run (l .inv .3) inside (ahead .result) (ahead .ensures) _ (c .before .before .before .before .put-columns .ensures) _ (c .columns-on .ensures) in
+    here-is run past .frame-noted
 
 note-of-requires : tie.Need-note-of-requires Inv-loop μ-loop
-note-of-requires c κs = here-is (c .before .before .loop .inv .2) (omega (arith, c .before .loop-test .taken)) .frame-noted
+note-of-requires c κs =
+    let l = c .before .before .before .before .before .before .before .before .before .before .loop in
+    let ahead = c .before .before .before .before .before .before .before .before .ahead in
+    let inside : l .x < 2 * length (c .before .before .before .before .before .before .before .before .before .before .before .before .before .before .before .args .line .now) = omega (arith, l .inv .1, c .before .before .before .before .before .before .before .before .before .loop-test .taken) in
+    let past = run-past (l .inv .3) inside (ahead .result) (ahead .ensures) in
+    let run = filling-run (l .inv .3) inside (ahead .result) (ahead .ensures) _ (c .before .before .before .before .before .put-columns .ensures) _ (c .before .columns-on .ensures) in
+    here-is run past .frame-noted
 
 put-one-requires : tie.Need-put-one-requires Inv-loop μ-loop
 put-one-requires c κs =
-    let c1 = c .before in
-    let c2 = c1 .before in
-    let c4 = c2 .before .before in
-    put-asks (c4 .loop .inv .2) (omega (arith, c4 .loop .inv .1, c2 .before .loop-test .taken)) (c2 .preceding-of .result) (c1 .note-of .result) (c2 .preceding-of .ensures) (c1 .note-of .ensures)
+    let l = c .before .before .before .before .before .before .before .before .before .before .before .before .loop in
+    let ahead = c .before .before .before .before .before .before .before .before .before .before .ahead in
+    let inside : l .x < 2 * length (c .before .before .before .before .before .before .before .before .before .before .before .before .before .before .before .before .before .args .line .now) = omega (arith, l .inv .1, c .before .before .before .before .before .before .before .before .before .before .before .loop-test .taken) in
+    let past = run-past (l .inv .3) inside (ahead .result) (ahead .ensures) in
+    let run = filling-run (l .inv .3) inside (ahead .result) (ahead .ensures) _ (c .before .before .before .before .before .before .before .put-columns .ensures) _ (c .before .before .before .columns-on .ensures) in
+    put-asks run past (c .before .before .preceding-of .result) (c .before .note-of .result) (c .before .before .preceding-of .ensures) (c .before .note-of .ensures)
 
 next-column-requires : tie.Need-next-column-requires Inv-loop μ-loop
 next-column-requires c κs =
-    let c6 = c .before .before .before .before .before .before in
-    next-asks (c6 .before .loop .inv .2) (omega (arith, c6 .before .loop .inv .1, c6 .loop-test .taken))
+    let l = c .before .before .before .before .before .before .before .before .before .before .before .before .before .before .before .loop in
+    let ahead = c .before .before .before .before .before .before .before .before .before .before .before .before .before .ahead in
+    let inside : l .x < 2 * length (c .before .before .before .before .before .before .before .before .before .before .before .before .before .before .before .before .before .before .before .before .args .line .now) = omega (arith, l .inv .1, c .before .before .before .before .before .before .before .before .before .before .before .before .before .before .loop-test .taken) in
+    let past = run-past (l .inv .3) inside (ahead .result) (ahead .ensures) in
+    let run = filling-run (l .inv .3) inside (ahead .result) (ahead .ensures) _ (c .before .before .before .before .before .before .before .before .before .before .put-columns .ensures) _ (c .before .before .before .before .before .before .columns-on .ensures) in
+    next-asks run past
 
-add-x : tie.Need-add-x Inv-loop μ-loop
-add-x c = omega (arith, c .before .before .before .before .before .before .before .loop-test .taken)
+add-x-2 : tie.Need-add-x-2 Inv-loop μ-loop
+add-x-2 c =
+    let l = c .before .before .before .before .before .before .before .before .before .before .before .before .before .before .before .before .loop in
+    let ahead = c .before .before .before .before .before .before .before .before .before .before .before .before .before .before .ahead in
+    let inside : l .x < 2 * length (c .before .before .before .before .before .before .before .before .before .before .before .before .before .before .before .before .before .before .before .before .before .args .line .now) = omega (arith, l .inv .1, c .before .before .before .before .before .before .before .before .before .before .before .before .before .before .before .loop-test .taken) in
+    let past = run-past (l .inv .3) inside (ahead .result) (ahead .ensures) in
+    omega (arith, past, here-is (l .inv .3) inside .line-short)
 
 loop-less : tie.Need-loop-less Inv-loop μ-loop
-loop-less c = omega (arith, c .before .before .before .before .before .before .before .loop-test .taken)
+loop-less c =
+    let l = c .before .before .before .before .before .before .before .before .before .before .before .before .before .before .before .before .loop in
+    let ahead = c .before .before .before .before .before .before .before .before .before .before .before .before .before .before .ahead in
+    let inside : l .x < 2 * length (c .before .before .before .before .before .before .before .before .before .before .before .before .before .before .before .before .before .before .before .before .before .args .line .now) = omega (arith, l .inv .1, c .before .before .before .before .before .before .before .before .before .before .before .before .before .before .before .loop-test .taken) in
+    let past = run-past (l .inv .3) inside (ahead .result) (ahead .ensures) in
+    omega (arith, past, l .inv .1)
 
 loop-again : tie.Need-loop-again Inv-loop μ-loop
 loop-again c =
-    let c3 = c .before .before .before in
-    let c5 = c3 .before .before in
-    let c6 = c5 .before in
-    let c7 = c6 .before in
-    let c8 = c7 .before in
-    let c12 = c8 .before .before .before .before in
-    let note = c5 .note-of in
-    let first = c6 .preceding-of in
-    let put = c3 .put-one in
-    let inside : c8 .loop .x < 2 * length (c12 .args .line .now) = omega (arith, c7 .loop-test .taken, c8 .loop .inv .1) in
-    let more =
-    filling-more (c8 .loop .inv .2) inside (first .result) (note .result) (first .ensures) (note .ensures) (put .result .0) _ (put .ensures) (put .kept .1 .1 .0) _ (c .next-column .ensures) in
-    (omega (arith, c7 .loop-test .taken), c8 .loop .inv .1, more)
+    let l = c .before .before .before .before .before .before .before .before .before .before .before .before .before .before .before .before .loop in
+    let ahead = c .before .before .before .before .before .before .before .before .before .before .before .before .before .before .ahead in
+    let inside : l .x < 2 * length (c .before .before .before .before .before .before .before .before .before .before .before .before .before .before .before .before .before .before .before .before .before .args .line .now) = omega (arith, l .inv .1, c .before .before .before .before .before .before .before .before .before .before .before .before .before .before .before .loop-test .taken) in
+    let past = run-past (l .inv .3) inside (ahead .result) (ahead .ensures) in
+    let run = filling-run (l .inv .3) inside (ahead .result) (ahead .ensures) _ (c .before .before .before .before .before .before .before .before .before .before .before .put-columns .ensures) _ (c .before .before .before .before .before .before .before .columns-on .ensures) in
+    let note = c .before .before .before .before .before .note-of in
+    let first = c .before .before .before .before .before .before .preceding-of in
+    let put = c .before .before .before .put-one in
+    let more = filling-more run past (first .result) (note .result) (first .ensures) (note .ensures) (put .result .0) _ (put .ensures) (put .kept .1 .1 .0) _ (c .next-column .ensures) in
+    (omega (arith, past, l .inv .1), l .inv .1, l .inv .2, more)
 
 same-length : tie.Need-same-length Inv-loop μ-loop
-same-length c = c .before .loop .inv .2 .kept
+same-length c = c .before .loop .inv .3 .kept
 
 returns : tie.Need-returns Inv-loop μ-loop
-returns c = filling-end (c .before .loop .inv .2) (omega (arith, c .before .loop .inv .1))
+returns c = filling-end (c .before .loop .inv .3) (omega (arith, c .before .loop .inv .1))
 
 pub fill-spec : {M : Type 1} → statement M
 fill-spec =
     tie.close
-    (tie.spec Inv-loop μ-loop mul-n loop-holds mul-t17 add-t18 preceding-of-requires note-of-requires put-one-requires next-column-requires add-x loop-less
-    loop-again same-length returns)
+    (tie.spec Inv-loop μ-loop (λ c κs. search needs) mul-n loop-holds ahead-requires put-columns-requires add-t24 columns-on-requires add-x mul-t24 add-t25
+    preceding-of-requires note-of-requires put-one-requires next-column-requires add-x-2 loop-less loop-again same-length returns)
