@@ -88,7 +88,7 @@ module _ (row : Row) (sh : Shared row) (F : ℕ) where
         let free : libertyAt row earlier notes p ≡ kept = rw w (carried-kept (kindAt row p) (actions row earlier notes j (posOf row p .frame)) c) in
         damage .others-kept p in-line free ∙ sent-carried row sh earlier notes tributary F j x hj in-line c
 
-    acts-kept : (j : ℕ) → j < 4 → (f : ℕ) → f < F → actions row earlier (notesOf row ds F) j f ≡ actions row earlier notes j f
+    pub acts-kept : (j : ℕ) → j < 4 → (f : ℕ) → f < F → actions row earlier (notesOf row ds F) j f ≡ actions row earlier notes j f
     acts-kept j hj = actions-same row earlier earlier (notesOf row ds F) notes j F refl (λ f hf. decision-kept f j hf hj)
 
     pub damage-recovered : Room row F tributary → Returned row earlier F notes tributary ds
