@@ -2,99 +2,35 @@
 use crate::files;
 use crate::say;
 
+// One text, as it is printed: many small ones are proved in several times the time.
 pub fn forms() {
-    form(
-        b"demo                                 ",
-        b"a multiplexer that acts a frame late, on built-in data",
-    );
-    form(
-        b"frame LEVEL [NOTE] [FILE.svg]        ",
-        b"the frame of a level; NOTE as 3F: what it holds",
-    );
-    form(
-        b"send LEVEL NOTES TRIBUTARIES LINE    ",
-        b"makes the file LINE",
-    );
-    form(
-        b"take LEVEL LINE NOTES TRIBUTARIES    ",
-        b"takes the file LINE apart, from its first digit on",
-    );
-    form(
-        b"take CAPTURE NOTES TRIBUTARIES       ",
-        b"takes the line of a capture apart",
-    );
-    form(
-        b"plain-send .., plain-take LEVEL ..   ",
-        b"as send and as take of a line, by the plain engine",
-    );
-    form(
-        b"agree LEVEL LINE                     ",
-        b"takes LINE apart and makes it again by both engines",
-    );
-    form(
-        b"notes LEVEL LINE [NOTES]             ",
-        b"the notes of a line as a table; NOTES: writes them",
-    );
-    form(
-        b"extract LEVEL LINE NOTES TRIBUTARIES ",
-        b"takes LINE apart by the notes of a file",
-    );
-    form(
-        b"swap LEVEL TRIBUTARY LINE NOTES DIGITS NEW",
-        b"\n                                                     the file NEW is LINE with this tributary written anew",
-    );
-    form(
-        b"find LEVEL STREAM [PREFIX]           ",
-        b"finds the frames in a recording; PREFIX: takes them apart",
-    );
-    form(
-        b"watch LEVEL STREAM [..]              ",
-        b"up to 64 recordings side by side, LEVEL and STREAM of each",
-    );
-    form(
-        b"keep LEVEL LINE CAPTURE [LABEL]      ",
-        b"makes a capture of up to 64 frames, with a site label",
-    );
-    form(
-        b"show CAPTURE [LINE]                  ",
-        b"what a capture holds; LINE: writes its line out",
-    );
-    form(
-        b"compare ONE OTHER [PICTURE.svg]      ",
-        b"where two captures differ, by kind and tributary",
-    );
-    forms_of_2048();
-    form(b"help                                 ", b"these forms");
     say::text(
-        b"LEVEL is 2, 3, 4, 12 or 14; 12:5 is level 12 where the frame before the first has the votes 5.\n",
+        b"  ./spritbobbin demo                                 a multiplexer that acts a frame late, on built-in data
+  ./spritbobbin frame LEVEL [NOTE] [FILE.svg]        the frame of a level; NOTE as 3F: what it holds
+  ./spritbobbin send LEVEL NOTES TRIBUTARIES LINE    makes the file LINE
+  ./spritbobbin take LEVEL LINE NOTES TRIBUTARIES    takes the file LINE apart, from its first digit on
+  ./spritbobbin take CAPTURE NOTES TRIBUTARIES       takes the line of a capture apart
+  ./spritbobbin plain-send .., plain-take LEVEL ..   as send and as take of a line, by the plain engine
+  ./spritbobbin agree LEVEL LINE                     takes LINE apart and makes it again by both engines
+  ./spritbobbin notes LEVEL LINE [NOTES]             the notes of a line as a table; NOTES: writes them
+  ./spritbobbin extract LEVEL LINE NOTES TRIBUTARIES takes LINE apart by the notes of a file
+  ./spritbobbin swap LEVEL TRIBUTARY LINE NOTES DIGITS NEW
+                                                     the file NEW is LINE with this tributary written anew
+  ./spritbobbin find LEVEL STREAM [PREFIX]           finds the frames in a recording; PREFIX: takes them apart
+  ./spritbobbin watch LEVEL STREAM [..]              up to 64 recordings side by side, LEVEL and STREAM of each
+  ./spritbobbin keep LEVEL LINE CAPTURE [LABEL]      makes a capture of up to 64 frames, with a site label
+  ./spritbobbin show CAPTURE [LINE]                  what a capture holds; LINE: writes its line out
+  ./spritbobbin compare ONE OTHER [PICTURE.svg]      where two captures differ, by kind and tributary
+  ./spritbobbin multiframe [FILE.svg]                the multiframe of 2048 kbit/s
+  ./spritbobbin build CHANNELS SIGNALLING SPARE MULTIFRAMES
+                                                     makes the file MULTIFRAMES
+  ./spritbobbin apart MULTIFRAMES CHANNELS SIGNALLING SPARE
+                                                     takes the file MULTIFRAMES apart
+  ./spritbobbin hunt RECORDING                       finds the frames of 2048 kbit/s in a recording
+  ./spritbobbin help                                 these forms
+LEVEL is 2, 3, 4, 12 or 14; 12:5 is level 12 where the frame before the first has the votes 5.
+",
     );
-}
-
-// The commands on the 2048 kbit/s frame.
-fn forms_of_2048() {
-    form(
-        b"multiframe [FILE.svg]                ",
-        b"the multiframe of 2048 kbit/s",
-    );
-    form(
-        b"build CHANNELS SIGNALLING SPARE MULTIFRAMES",
-        b"\n                                                     makes the file MULTIFRAMES",
-    );
-    form(
-        b"apart MULTIFRAMES CHANNELS SIGNALLING SPARE",
-        b"\n                                                     takes the file MULTIFRAMES apart",
-    );
-    form(
-        b"hunt RECORDING                       ",
-        b"finds the frames of 2048 kbit/s in a recording",
-    );
-}
-
-fn form(words: &[u8], what: &[u8]) {
-    say::text(b"  ./spritbobbin ");
-    say::text(words);
-    say::text(what);
-    say::text(b"\n");
 }
 
 pub fn wrong_call(what: &[u8]) {

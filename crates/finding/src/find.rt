@@ -3,6 +3,7 @@
 use console::files;
 use console::progress;
 use console::say;
+use extracting::apart;
 use passages::passage;
 use passages::passage::OpenFiles;
 use passages::passage::Passage;
@@ -14,7 +15,6 @@ use recordings::watch;
 use recordings::watch::Change;
 use recordings::watch::Heard;
 use table::Row;
-use taking::apart;
 ghost use mathlib.Core.Path.{_≡_};
 ghost use Prim.Native.Nat.{_<_, _≤_};
 ghost use lib.ListN.{length};

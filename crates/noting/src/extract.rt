@@ -1,12 +1,12 @@
 // extract LEVEL LINE NOTES TRIBUTARIES: takes a line of any number of frames apart by the notes of a file, and looks at no control digit.
 use console::files;
 use console::help;
+use extracting::apart;
 use passages::passage;
 use passages::passage::OpenFiles;
 use passages::passage::Passage;
 use recordings::sizes;
 use table::Row;
-use taking::apart;
 use taking::runs;
 ghost use Prim.Native.Nat.{_≤_};
 ghost use Rattle.levels.specs.Table.{Shared};

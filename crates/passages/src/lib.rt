@@ -1,5 +1,4 @@
-// A passage of frames between files and the calls, 64 at a time, and the command send. The crates taking and noting take frames apart by it.
+// A passage of frames between files and the calls, 64 at a time: what is open, what is counted and what is said of it. The commands that make
+// frames and take them apart go by it.
 pub mod acts;
 pub mod passage;
-mod runs;
-pub mod send;

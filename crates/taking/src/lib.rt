@@ -1,7 +1,5 @@
-// The commands take and plain-take, and what they share with the commands notes, extract and find: frames taken apart, up to 64 at a time, by
-// notes that are read from them or by notes that are given.
-pub mod apart;
-mod by;
+// The commands take and plain-take, and what they share with the commands notes and extract: any number of frames taken apart or read, 64
+// at a time, and the rows of a table of notes.
 pub mod rows;
 pub mod runs;
 pub mod take;

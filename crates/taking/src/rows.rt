@@ -1,6 +1,6 @@
 // The notes of frames, read one by one, and said as the rows of a table.
-use crate::apart;
 use console::say;
+use extracting::apart;
 use levels::order;
 use levels::order::Action;
 use passages::passage;

@@ -1,7 +1,7 @@
 // A passage of any number of frames that are taken apart, 64 at a time.
-use crate::apart;
 use crate::rows;
 use console::files;
+use extracting::apart;
 use passages::passage;
 use passages::passage::Passage;
 use recordings::sizes;

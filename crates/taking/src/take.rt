@@ -1,8 +1,8 @@
 // take LEVEL LINE NOTES TRIBUTARIES: takes a line of any number of frames apart; plain-take does by the plain engine.
-use crate::apart;
 use crate::runs;
 use console::files;
 use console::help;
+use extracting::apart;
 use passages::passage;
 use passages::passage::OpenFiles;
 use passages::passage::Passage;

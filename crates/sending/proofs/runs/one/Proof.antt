@@ -2,8 +2,8 @@
 use lib.ListN.{length-take}
 use native.Mathlib.Omega.{arith}
 use borrow.Author.Needs.{needs}
-use Rattle.passages.proofs.runs.one.Statement.{statement}
-use Rattle.passages.proofs.runs.one.Tie as tie
+use Rattle.sending.proofs.runs.one.Statement.{statement}
+use Rattle.sending.proofs.runs.one.Tie as tie
 
 slice-aggregate-one-run : tie.Need-slice-aggregate-one-run
 slice-aggregate-one-run c = simp length-take (omega arith)

@@ -1,8 +1,8 @@
 -- The tributary stays inside the quarters.
 use Prim.Native.Nat.{_≤_, _-_}
 use borrow.Author.Needs.{needs}
-use Rattle.taking.proofs.apart.finish.Statement.{statement}
-use Rattle.taking.proofs.apart.finish.Tie as tie
+use Rattle.extracting.proofs.apart.finish.Statement.{statement}
+use Rattle.extracting.proofs.apart.finish.Tie as tie
 
 abbrev Inv-loop : tie.InvT-loop
 Inv-loop to written byte kept failed₀ j₀ failed j = j ≤ 4

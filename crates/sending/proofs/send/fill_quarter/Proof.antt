@@ -2,8 +2,8 @@
 use lib.ListN.{length-take}
 use native.Mathlib.Omega.{arith}
 use borrow.Author.Needs.{needs}
-use Rattle.passages.proofs.send.fill_quarter.Statement.{statement}
-use Rattle.passages.proofs.send.fill_quarter.Tie as tie
+use Rattle.sending.proofs.send.fill_quarter.Statement.{statement}
+use Rattle.sending.proofs.send.fill_quarter.Tie as tie
 
 -- src/send.rt:139:47
 slice-aggregate-read-at : tie.Need-slice-aggregate-read-at

@@ -1,7 +1,7 @@
 // A passage of any number of frames that are sent, 64 at a time.
-use crate::passage;
-use crate::passage::Passage;
 use crate::send;
+use passages::passage;
+use passages::passage::Passage;
 use recordings::sizes;
 use table::Row;
 ghost use Prim.Native.Nat.{_*_, _≤_};

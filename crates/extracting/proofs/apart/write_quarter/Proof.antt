@@ -2,8 +2,8 @@
 use lib.ListN.{length-take}
 use native.Mathlib.Omega.{arith}
 use borrow.Author.Needs.{needs}
-use Rattle.taking.proofs.apart.write_quarter.Statement.{statement}
-use Rattle.taking.proofs.apart.write_quarter.Tie as tie
+use Rattle.extracting.proofs.apart.write_quarter.Statement.{statement}
+use Rattle.extracting.proofs.apart.write_quarter.Tie as tie
 
 -- src/apart.rt:63:46
 slice-aggregate-write-at : tie.Need-slice-aggregate-write-at

@@ -1,8 +1,8 @@
 -- The tributary stays inside the counts.
 use Prim.Native.Nat.{_≤_, _-_}
 use borrow.Author.Needs.{needs}
-use Rattle.taking.proofs.apart.write.Statement.{statement}
-use Rattle.taking.proofs.apart.write.Tie as tie
+use Rattle.extracting.proofs.apart.write.Statement.{statement}
+use Rattle.extracting.proofs.apart.write.Tie as tie
 
 abbrev Inv-loop : tie.InvT-loop
 Inv-loop buffer counts u₀ j₀ u j = j ≤ 4

@@ -1,7 +1,7 @@
 -- As many frames are sent as there are notes, and their file is no longer than the longest.
 use borrow.Author.Needs.{needs}
-use Rattle.passages.proofs.send.run.Statement.{statement}
-use Rattle.passages.proofs.send.run.Tie as tie
+use Rattle.sending.proofs.send.run.Statement.{statement}
+use Rattle.sending.proofs.send.run.Tie as tie
 
 -- src/send.rt:49:16
 all-requires : tie.Need-all-requires

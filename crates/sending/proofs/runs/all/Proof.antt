@@ -1,8 +1,8 @@
 -- The run stays inside the runs.
 use Prim.Native.Nat.{_≤_, _-_, _+_, _/_}
 use borrow.Author.Needs.{needs}
-use Rattle.passages.proofs.runs.all.Statement.{statement}
-use Rattle.passages.proofs.runs.all.Tie as tie
+use Rattle.sending.proofs.runs.all.Statement.{statement}
+use Rattle.sending.proofs.runs.all.Tie as tie
 
 abbrev Inv-loop : tie.InvT-loop
 Inv-loop row level frames u₀ k₀ u k = k ≤ (frames + 63) / 64

@@ -3,8 +3,8 @@ use Prim.Native.Nat.{_≤_, _-_}
 use mathlib.Core.Path.{_≡_}
 use lib.ListN.{length}
 use borrow.Author.Needs.{needs}
-use Rattle.passages.proofs.send.fill.Statement.{statement}
-use Rattle.passages.proofs.send.fill.Tie as tie
+use Rattle.sending.proofs.send.fill.Statement.{statement}
+use Rattle.sending.proofs.send.fill.Tie as tie
 
 abbrev Inv-loop : tie.InvT-loop
 Inv-loop row f buffer₀ from done ok₀ j₀ buffer ok j = (j ≤ 4) × (length buffer ≡ length buffer₀)

@@ -1,12 +1,12 @@
 // send LEVEL NOTES TRIBUTARIES LINE: makes a line of any number of frames; plain-send by the plain engine. Each tributary's digits are read
 // on from where the run before ended, wherever in a byte that is.
-use crate::passage;
-use crate::passage::OpenFiles;
-use crate::passage::Passage;
 use crate::runs;
 use console::files;
 use console::help;
 use levels::judging::Counted;
+use passages::passage;
+use passages::passage::OpenFiles;
+use passages::passage::Passage;
 use recordings::carry;
 use recordings::sizes;
 use table::Row;
