@@ -30,6 +30,7 @@ mod pictures;
 mod sending;
 mod showing;
 mod stream;
+mod swapping;
 mod taking;
 mod texts;
 mod trips;
@@ -64,6 +65,7 @@ fn main() -> io::Result<()> {
     cases.extend(approving::cases());
     cases.extend(trips::cases());
     cases.extend(voting::cases());
+    cases.extend(swapping::cases());
     cases.extend(calling::cases());
     let mut list = String::new();
     for (k, case) in cases.iter().enumerate() {
