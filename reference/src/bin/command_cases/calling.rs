@@ -25,7 +25,7 @@ const COMMANDS: [&str; 19] = [
 ];
 
 /// Wrong calls. The files that they name are there.
-const WRONG: [&str; 69] = [
+const WRONG: [&str; 72] = [
     "",
     "bogus",
     "sen 2 notes tributaries out",
@@ -63,6 +63,9 @@ const WRONG: [&str; 69] = [
     "swap",
     "swap 2 1 line notes",
     "swap 2 1 line notes tributaries out more",
+    "take :5 line out",
+    "take 12:5 line out",
+    "take :5 line out out",
     "find",
     "find 2",
     "find 2 line out more",

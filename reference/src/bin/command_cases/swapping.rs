@@ -1,9 +1,10 @@
-//! Cases of swap. What the line must be is not worked out by a swap: it is the line that is
+//! Cases of swap, of a line and of a capture. What the line must be is not worked out by a swap: it is the line that is
 //! sent of the new four, by the new votes of the one tributary and the old notes of the rest.
 
 use crate::case::{in_turn, words, Case, OLD};
 use crate::inputs::{level, levels, notes, room, tributaries_after};
-use crate::texts::{cannot, no_level, no_note_each, no_vote, no_whole_frames, written};
+use crate::keeping::{capture, frames};
+use crate::texts::{cannot, no_capture, no_level, no_note_each, no_vote, no_whole_frames, written};
 use crate::worked;
 use reference::frame::Action;
 use reference::level::Row;
@@ -15,6 +16,8 @@ pub fn cases() -> Vec<Case> {
     let mut cases = accepted();
     cases.extend(in_turn(refused(), &OUTPUT));
     cases.extend(wrong_files());
+    cases.extend(captures());
+    cases.extend(in_turn(refused_captures(), &OUTPUT));
     cases
 }
 
@@ -162,4 +165,89 @@ fn wrong_files() -> Vec<Case> {
         ],
     ]
     .concat()
+}
+
+/// The same of a capture: its level and its label stay.
+fn captures() -> Vec<Case> {
+    let mut cases = Vec::new();
+    for (k, row) in levels().into_iter().enumerate() {
+        for (frames, label) in [(0, Some(&b""[..])), (3, Some(b"hop A")), (64, None)] {
+            cases.push(of_capture(row, 1 + (k + frames) % 4, frames, label, "", [0, 0]));
+        }
+    }
+    let most = Some(&b"A label of 32 bytes, no more ..."[..]);
+    cases.push(of_capture(level(12), 2, 64, most, ":F", [0x5, 0xF]));
+    cases.push(of_capture(level(14), 3, 7, None, ":0a", [0x5, 0xA]));
+    cases.push(of_capture(level(3), 4, 2, None, ":ff", [0, 0]));
+    let own = Swapped::new(level(4), 1, 5, [0, 0]);
+    let text = own.text().replace("written: new", "written: capture");
+    cases.push(
+        given_capture(&own.name("swap-capture-by-its-name", ""), &own, None)
+            .had("capture", &capture(own.row, &own.line, None))
+            .accepted(words("swap 1 capture notes digits capture"), &text)
+            .makes("capture", &capture(own.row, &own.new, None)),
+    );
+    cases
+}
+
+fn of_capture(
+    row: &Row,
+    tributary: usize,
+    frames: usize,
+    label: Option<&[u8]>,
+    vote: &str,
+    votes: [u8; 2],
+) -> Case {
+    let one = Swapped::new(row, tributary, frames, votes);
+    given_capture(&one.name("swap-capture", vote), &one, label)
+        .had("new", OLD)
+        .accepted(words(&format!("swap {vote} {tributary} capture notes digits new")), &one.text())
+        .makes("new", &capture(row, &one.new, label))
+}
+
+fn given_capture(name: &str, one: &Swapped, label: Option<&[u8]>) -> Case {
+    Case::new(name)
+        .file("capture", &capture(one.row, &one.line, label))
+        .file("notes", &one.notes)
+        .file("digits", &one.digits)
+}
+
+/// Refused as by the reader with 9 or 1, then with 12, then with 2; a vote over F after these;
+/// then what is wrong with the other files.
+fn refused_captures() -> Vec<Case> {
+    let good = |number: u64| capture(level(number), &frames(level(number), 2), Some(b"hop A"));
+    let case = |name: &str, file: &[u8]| {
+        let case = Case::new(&format!("swap-capture-{name}")).file("capture", file);
+        case.file("notes", &[0; 2]).file("digits", &[0; 68])
+    };
+    let command = |first: &str| words(&format!("swap {first} capture notes digits new"));
+    let (cut, other) = (&good(2)[..100], [&[1, 0, 1, 9][..], &good(2)[4..]].concat());
+    let short = [1, 0, 1, 12, 2, 0, 1, 0];
+    let no_tributary = "refused 12: no tributary 5; TRIBUTARY is 1, 2, 3 or 4.";
+    let mut cases = Vec::new();
+    for (name, file) in [("cut", cut), ("level-9", &other)] {
+        for first in ["1", "5", ":10 1"] {
+            let name = format!("{name}-{}", first.replace(':', "after-").replace(' ', "-"));
+            cases.push(case(&name, file).fails(command(first), &no_capture("capture", file)));
+        }
+    }
+    cases.push(case("line-of-1", &short).fails(command("1"), &no_capture("capture", &short)));
+    let voted = case("line-of-1-no-vote", &short);
+    cases.push(voted.fails(command(":10 1"), &no_capture("capture", &short)));
+    cases.push(case("line-of-1-no-tributary", &short).fails(command("5"), no_tributary));
+    cases.push(case("no-tributary", &good(2)).fails(command("5"), no_tributary));
+    cases.push(case("no-tributary-no-vote", &good(12)).fails(command(":10 5"), no_tributary));
+    cases.push(case("no-vote", &good(12)).fails(command(":10 1"), &no_vote(":10")));
+    cases.push(case("no-vote-of-14", &good(14)).fails(command(":ff 1"), &no_vote(":ff")));
+    cases.push(case("no-level", &good(12)).fails(command(":x 1"), &no_level(":x")));
+    let notes = case("notes-too-few", &good(2)).file("notes", &[0]);
+    cases.push(notes.fails(command("1"), &no_note_each("notes", 1, "capture", 2)));
+    let digits = case("digits-too-few", &good(12)).file("digits", &[0; 64]);
+    let line = "refused 4: digits has 64 bytes, and a tributary of 2 frames of level 12 wants 65 bytes or more.";
+    cases.push(digits.fails(command("1"), line));
+    let none = Case::new("swap-no-capture").file("notes", &[0; 2]).file("digits", &[0; 68]);
+    cases.push(none.fails(command("1"), &cannot("capture", "opened")));
+    let folder = Case::new("swap-capture-is-a-folder").folder("capture");
+    cases.push(folder.fails(command("1"), &cannot("capture", "read")));
+    cases
 }
