@@ -22,6 +22,8 @@ use passages::send;
 use pictures::frame;
 use pictures::frame::Noted;
 use recordings::sizes;
+use repairing::repair_capture;
+use repairing::repair_line;
 use swapping::swap_capture;
 use swapping::swap_line;
 use table::Level;
@@ -62,26 +64,28 @@ const PLAIN_TAKE: u8 = 8;
 
 const AGREE: u8 = 9;
 
-// One tributary of a line.
+// One tributary of a line, and a worn line.
 const SWAP: u8 = 10;
 
+const REPAIR: u8 = 11;
+
 // Those that take no level in that place.
-const SHOW: u8 = 11;
+const SHOW: u8 = 12;
 
-const WATCH: u8 = 12;
+const WATCH: u8 = 13;
 
-const COMPARE: u8 = 13;
+const COMPARE: u8 = 14;
 
 // Those of 2048 kbit/s.
-const BUILD: u8 = 14;
+const BUILD: u8 = 15;
 
-const APART: u8 = 15;
+const APART: u8 = 16;
 
-const HUNT: u8 = 16;
+const HUNT: u8 = 17;
 
-const MULTIFRAME: u8 = 17;
+const MULTIFRAME: u8 = 18;
 
-const NO_COMMAND: u8 = 18;
+const NO_COMMAND: u8 = 19;
 
 // Beside NO_NOTE, where there is none: a word that should be a note and is none.
 const WRONG_NOTE: u16 = 257;
@@ -161,6 +165,9 @@ fn which_of_plain(word: &[u8]) -> u8 {
     if check::same(word, b"swap") {
         return SWAP;
     }
+    if check::same(word, b"repair") {
+        return REPAIR;
+    }
     which_of_2048(word)
 }
 
@@ -194,6 +201,7 @@ fn fits(which: u8, last: usize) -> bool {
         PLAIN_TAKE => last == take::TRIBUTARIES,
         AGREE => last == agree::LINE,
         SWAP => called::fits(last, swap_line::LAST),
+        REPAIR => called::fits(last, repair_line::NEW),
         SHOW => last == opened::CAPTURE || last == opened::LINE,
         WATCH => watch::FIRST < last && last <= watch::LAST && last % 2 == 1,
         COMPARE => last == compared::OTHER || last == compared::PICTURE,
@@ -238,6 +246,9 @@ fn wrong_words_of_plain(which: u8) {
         SWAP => help::wrong_call(
             b"swap takes a level, a tributary and four files, without the level where the first is a capture.",
         ),
+        REPAIR => help::wrong_call(
+            b"repair takes a level and two files, without the level where the first is a capture.",
+        ),
         _ => wrong_words_of_2048(which),
     }
 }
@@ -278,6 +289,7 @@ fn captured(which: u8, last: usize) -> bool {
     match which {
         TAKE => on_capture(which, last, take::TRIBUTARIES),
         SWAP => on_capture(which, last, swap_line::LAST),
+        REPAIR => on_capture(which, last, repair_line::NEW),
         _ => false,
     }
 }
@@ -294,7 +306,8 @@ fn on_capture(which: u8, last: usize, levelled: usize) -> bool {
     }
     match which {
         TAKE => opened::take(by),
-        _ => swap_capture::run(by),
+        SWAP => swap_capture::run(by),
+        _ => repair_capture::run(by),
     }
     true
 }
@@ -389,6 +402,7 @@ fn started(which: u8, last: usize, row: Row, level: u64, earlier: u64)
         PLAIN_TAKE => take::run(row, level, earlier, true),
         AGREE => agree::run(row, level, earlier),
         SWAP => swap_line::run(row, level, earlier),
+        REPAIR => repair_line::run(row, level, earlier),
         _ => keep::run(row, level, last == keep::LABEL),
     }
 }

@@ -44,6 +44,10 @@ pub fn forms() {
         b"\n                                                     the file NEW is LINE with this tributary written anew",
     );
     form(
+        b"repair LEVEL LINE NEW                ",
+        b"the file NEW is LINE with worn digits set right",
+    );
+    form(
         b"find LEVEL STREAM [PREFIX]           ",
         b"finds the frames in a recording; PREFIX: takes them apart",
     );
@@ -66,7 +70,7 @@ pub fn forms() {
     forms_of_2048();
     form(b"help                                 ", b"these forms");
     say::text(
-        b"LEVEL is 2, 3, 4, 12 or 14; 12:5 is level 12 where the frame before the first has the votes 5.\n",
+        b"LEVEL is 2, 3, 4, 12 or 14; 12:5 is level 12 where the frame before the first has the votes 5.\nOn a capture take, swap and repair have CAPTURE for LINE, and no LEVEL, or :5 in its place for those votes.\n",
     );
 }
 

@@ -2,7 +2,7 @@
 
 use crate::case::{words, Case};
 
-const COMMANDS: [&str; 19] = [
+const COMMANDS: [&str; 20] = [
     "demo",
     "frame",
     "send",
@@ -12,6 +12,7 @@ const COMMANDS: [&str; 19] = [
     "notes",
     "extract",
     "swap",
+    "repair",
     "find",
     "watch",
     "keep",
@@ -25,7 +26,7 @@ const COMMANDS: [&str; 19] = [
 ];
 
 /// Wrong calls. The files that they name are there.
-const WRONG: [&str; 72] = [
+const WRONG: [&str; 78] = [
     "",
     "bogus",
     "sen 2 notes tributaries out",
@@ -63,6 +64,12 @@ const WRONG: [&str; 72] = [
     "swap",
     "swap 2 1 line notes",
     "swap 2 1 line notes tributaries out more",
+    "repair",
+    "repair line",
+    "repair 2 line",
+    "repair 12:5 line",
+    "repair :5 line",
+    "repair 2 line out more",
     "take :5 line out",
     "take 12:5 line out",
     "take :5 line out out",

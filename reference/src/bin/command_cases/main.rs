@@ -27,6 +27,7 @@ mod keeping;
 mod multiframes;
 mod noting;
 mod pictures;
+mod repairing;
 mod sending;
 mod showing;
 mod stream;
@@ -66,6 +67,7 @@ fn main() -> io::Result<()> {
     cases.extend(trips::cases());
     cases.extend(voting::cases());
     cases.extend(swapping::cases());
+    cases.extend(repairing::cases());
     cases.extend(calling::cases());
     let mut list = String::new();
     for (k, case) in cases.iter().enumerate() {
