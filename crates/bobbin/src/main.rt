@@ -9,6 +9,7 @@ use console::words::NO_NOTE;
 use demonstration::demo;
 use finding::find;
 use hunting::hunt;
+use keeping::called;
 use keeping::keep;
 use keeping::opened;
 use levels::judging;
@@ -20,8 +21,11 @@ use noting::notes;
 use pictures::frame;
 use pictures::frame::Noted;
 use recordings::sizes;
+use repairing::repair_capture;
+use repairing::repair_line;
 use sending::send;
-use swapping::swapped;
+use swapping::swap_capture;
+use swapping::swap_line;
 use table::Level;
 use table::Row;
 use taking::take;
@@ -60,26 +64,28 @@ const PLAIN_TAKE: u8 = 8;
 
 const AGREE: u8 = 9;
 
-// One tributary of a line.
+// One tributary of a line, and a worn line.
 const SWAP: u8 = 10;
 
+const REPAIR: u8 = 11;
+
 // Those that take no level in that place.
-const SHOW: u8 = 11;
+const SHOW: u8 = 12;
 
-const WATCH: u8 = 12;
+const WATCH: u8 = 13;
 
-const COMPARE: u8 = 13;
+const COMPARE: u8 = 14;
 
 // Those of 2048 kbit/s.
-const BUILD: u8 = 14;
+const BUILD: u8 = 15;
 
-const APART: u8 = 15;
+const APART: u8 = 16;
 
-const HUNT: u8 = 16;
+const HUNT: u8 = 17;
 
-const MULTIFRAME: u8 = 17;
+const MULTIFRAME: u8 = 18;
 
-const NO_COMMAND: u8 = 18;
+const NO_COMMAND: u8 = 19;
 
 // Beside NO_NOTE, where there is none: a word that should be a note and is none.
 const WRONG_NOTE: u16 = 257;
@@ -159,6 +165,9 @@ fn which_of_plain(word: &[u8]) -> u8 {
     if check::same(word, b"swap") {
         return SWAP;
     }
+    if check::same(word, b"repair") {
+        return REPAIR;
+    }
     which_of_2048(word)
 }
 
@@ -183,7 +192,7 @@ fn fits(which: u8, last: usize) -> bool {
     match which {
         FRAME => LEVEL <= last && last <= PICTURE,
         SEND => last == send::LINE,
-        TAKE => last == take::TRIBUTARIES || last == opened::TRIBUTARIES,
+        TAKE => called::fits(last, take::TRIBUTARIES),
         FIND => last == find::STREAM || last == find::PREFIX,
         KEEP => last == keep::CAPTURE || last == keep::LABEL,
         NOTES => last == notes::LINE || last == notes::NOTES,
@@ -191,7 +200,8 @@ fn fits(which: u8, last: usize) -> bool {
         PLAIN_SEND => last == send::LINE,
         PLAIN_TAKE => last == take::TRIBUTARIES,
         AGREE => last == agree::LINE,
-        SWAP => last == swapped::NEW,
+        SWAP => called::fits(last, swap_line::LAST),
+        REPAIR => called::fits(last, repair_line::NEW),
         SHOW => last == opened::CAPTURE || last == opened::LINE,
         WATCH => watch::FIRST < last && last <= watch::LAST && last % 2 == 1,
         COMPARE => last == compared::OTHER || last == compared::PICTURE,
@@ -208,7 +218,9 @@ fn wrong_words(which: u8) {
             b"frame takes a level, then a note and a file for the picture where wanted.",
         ),
         SEND => help::wrong_call(b"send takes a level and three files."),
-        TAKE => help::wrong_call(b"take takes a level and three files, or a capture and two."),
+        TAKE => help::wrong_call(
+            b"take takes a level and three files, or without the level a capture and two.",
+        ),
         FIND => {
             help::wrong_call(b"find takes a level and a file, and a prefix where files are wanted.")
         }
@@ -231,7 +243,12 @@ fn wrong_words_of_plain(which: u8) {
         PLAIN_SEND => help::wrong_call(b"plain-send takes a level and three files, as send does."),
         PLAIN_TAKE => help::wrong_call(b"plain-take takes a level and three files."),
         AGREE => help::wrong_call(b"agree takes a level and a file."),
-        SWAP => help::wrong_call(b"swap takes a level, a tributary and four files."),
+        SWAP => help::wrong_call(
+            b"swap takes a level, a tributary and four files, without the level where the first is a capture.",
+        ),
+        REPAIR => help::wrong_call(
+            b"repair takes a level and two files, without the level where the first is a capture.",
+        ),
         _ => wrong_words_of_2048(which),
     }
 }
@@ -261,13 +278,44 @@ fn counted(which: u8, last: usize) {
         unlevelled(which, last);
         return;
     }
+    if captured(which, last) {
+        return;
+    }
     levelled(which, last);
+}
+
+// Whether a command on a line is called with a capture, and then it is done.
+fn captured(which: u8, last: usize) -> bool {
+    match which {
+        TAKE => on_capture(which, last, take::TRIBUTARIES),
+        SWAP => on_capture(which, last, swap_line::LAST),
+        REPAIR => on_capture(which, last, repair_line::NEW),
+        _ => false,
+    }
+}
+
+// A level and a file too few are no capture and files, but a file is missing. A tributary may look like a level.
+fn on_capture(which: u8, last: usize, levelled: usize) -> bool {
+    let by = called::by(last, levelled);
+    if !by.captured {
+        return false;
+    }
+    if by.short && which != SWAP {
+        wrong_words(which);
+        return true;
+    }
+    match which {
+        TAKE => opened::take(by),
+        SWAP => swap_capture::run(by),
+        _ => repair_capture::run(by),
+    }
+    true
 }
 
 // The commands that take no level.
 fn unlevelled(which: u8, last: usize) {
     match which {
-        SHOW => shown(last),
+        SHOW => opened::show(last == opened::LINE),
         WATCH => watch::run(sizes::least(last, watch::LAST)),
         COMPARE => held(last),
         BUILD => build::run(),
@@ -297,14 +345,6 @@ fn multiframe(last: usize) {
     picture::run(drawn);
 }
 
-fn shown(last: usize) {
-    if last == opened::LINE {
-        opened::run(opened::WRITTEN, 0);
-        return;
-    }
-    opened::run(opened::SHOWN, 0);
-}
-
 // The picture's file is known by its name.
 fn held(last: usize) {
     if last != compared::PICTURE {
@@ -327,7 +367,7 @@ fn levelled(which: u8, last: usize) {
     let found = table::level_of(asked.level);
     match found {
         Level::Of(row) => voted(which, last, row, asked),
-        Level::NoSuchLevel => no_level(which, last, &word[..n]),
+        Level::NoSuchLevel => help::no_level(&word[..n]),
     }
 }
 
@@ -348,63 +388,23 @@ fn no_vote() {
     help::no_vote(&word[..n]);
 }
 
-// Where take has a capture its first word is no level, and that is as it should be.
-fn no_level(which: u8, last: usize, word: &[u8]) {
-    if which == TAKE && last == opened::TRIBUTARIES {
-        opened::run(opened::TAKEN, 0);
-        return;
-    }
-    help::no_level(word);
-}
-
 fn started(which: u8, last: usize, row: Row, level: u64, earlier: u64)
     requires { ⌜ Shared row ⌝ }
 {
     match which {
         FRAME => frame_shown(row, level, earlier, last),
         SEND => send::run(row, level, earlier, false),
-        TAKE => take_line(row, level, earlier, last),
+        TAKE => take::run(row, level, earlier, false),
         FIND => find::run(row, level, earlier, last == find::PREFIX),
         NOTES => notes::run(row, level, earlier, last == notes::NOTES),
         EXTRACT => extract::run(row, level, earlier),
         PLAIN_SEND => send::run(row, level, earlier, true),
         PLAIN_TAKE => take::run(row, level, earlier, true),
         AGREE => agree::run(row, level, earlier),
-        SWAP => swap_one(row, level, earlier),
+        SWAP => swap_line::run(row, level, earlier),
+        REPAIR => repair_line::run(row, level, earlier),
         _ => keep::run(row, level, last == keep::LABEL),
     }
-}
-
-// swap LEVEL TRIBUTARY LINE NOTES DIGITS NEW
-fn swap_one(row: Row, level: u64, earlier: u64)
-    requires { ⌜ Shared row ⌝ }
-{
-    let tributary = read_tributary();
-    if tributary != 0 {
-        swapped::run(row, level, earlier, tributary);
-    }
-}
-
-// The tributary that the call names, or 0 where it is none, and then it is said.
-fn read_tributary() -> u64 {
-    let mut word = io::buffer();
-    let n = os::arg(swapped::TRIBUTARY, &mut word);
-    let tributary = words::tributary(&word[..n]);
-    if tributary == 0 {
-        help::no_tributary(&word[..n]);
-    }
-    tributary
-}
-
-// A level and two files are no capture and two files, but a file is missing.
-fn take_line(row: Row, level: u64, earlier: u64, last: usize)
-    requires { ⌜ Shared row ⌝ }
-{
-    if last == opened::TRIBUTARIES {
-        wrong_words(TAKE);
-        return;
-    }
-    take::run(row, level, earlier, false);
 }
 
 // frame LEVEL [NOTE] [FILE.svg]: the last word is a file where it ends in .svg, and a word before it is a note.

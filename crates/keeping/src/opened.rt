@@ -1,4 +1,6 @@
-// The commands that read a capture: show CAPTURE [LINE], and take CAPTURE NOTES TRIBUTARIES.
+// The commands that read a capture: show CAPTURE [LINE], and take CAPTURE NOTES TRIBUTARIES, or take :VOTE CAPTURE NOTES TRIBUTARIES.
+use crate::called;
+use crate::called::Called;
 use crate::capture;
 use crate::capture::Opened;
 use crate::refusals;
@@ -10,35 +12,43 @@ use taking::take;
 use taking::take::Source;
 ghost use Rattle.levels.specs.Table.{Shared};
 
-// The words of the calls by number.
+// The words of show by number.
 pub const CAPTURE: usize = 2;
 
 pub const LINE: usize = 3;
 
-const NOTES: usize = 3;
-
-pub const TRIBUTARIES: usize = 4;
-
 // What is done with a capture: it is shown, shown and its line written out, or its line is taken apart.
-pub const SHOWN: u8 = 0;
+const SHOWN: u8 = 0;
 
-pub const WRITTEN: u8 = 1;
+const WRITTEN: u8 = 1;
 
-pub const TAKEN: u8 = 2;
+const TAKEN: u8 = 2;
 
-// Under a refusal the reader gives level 0, which is no level.
-pub fn run(which: u8, earlier: u64) {
+pub fn show(writes: bool) {
+    if writes {
+        run(WRITTEN, CAPTURE, 0);
+        return;
+    }
+    run(SHOWN, CAPTURE, 0);
+}
+
+pub fn take(called: Called) {
+    run(TAKEN, called.first, called.earlier);
+}
+
+// Word k names the capture. Under a refusal the reader gives level 0, which is no level.
+fn run(which: u8, k: usize, earlier: u64) {
     let mut room = capture::room();
-    let c = capture::open(CAPTURE, &mut room);
+    let c = capture::open(k, &mut room);
     let r = c.reading;
     let found = table::level_of(r.level);
     match found {
-        Level::Of(row) => read_on(which, earlier, row, c, &room),
-        Level::NoSuchLevel => refusals::say(CAPTURE, c, &room),
+        Level::Of(row) => read_on(which, k, earlier, row, c, &room),
+        Level::NoSuchLevel => refusals::say(k, c, &room),
     }
 }
 
-fn read_on(which: u8, earlier: u64, row: Row, c: Opened, room: &[u8])
+fn read_on(which: u8, k: usize, earlier: u64, row: Row, c: Opened, room: &[u8])
     requires { ⌜ Shared row ⌝ }
 {
     let r = c.reading;
@@ -46,14 +56,17 @@ fn read_on(which: u8, earlier: u64, row: Row, c: Opened, room: &[u8])
         show::run(row, r, room, which == WRITTEN, LINE);
         return;
     }
+    if called::refused(row, earlier) {
+        return;
+    }
     let line = r.line;
     let from = Source {
         fd: c.fd,
         first: line.start,
         bytes: sizes::least(line.bytes, capture::MOST),
-        line: CAPTURE,
-        notes: NOTES,
-        tributaries: TRIBUTARIES,
+        line: k,
+        notes: sizes::plus(k, 1),
+        tributaries: sizes::plus(k, 2),
     };
     take::run_from(row, r.level, earlier, false, from);
 }

@@ -26,7 +26,8 @@ pub fn run(row: Row, r: Reading, room: &[u8], writes: bool, k: usize)
     files::finish(k, fd, whole);
 }
 
-fn say(row: Row, r: Reading, room: &[u8])
+// What the capture in the room holds.
+pub fn say(row: Row, r: Reading, room: &[u8])
     requires { ⌜ Shared row ⌝ }
 {
     let line = r.line;

@@ -1,3 +1,5 @@
-// The command swap: one tributary of a line of any number of frames written anew, from digits and notes of two files.
+// The command swap: one tributary of a line of any number of frames, or of a capture's line, written anew, from digits and notes of two files.
 mod runs;
-pub mod swapped;
+pub mod swap_capture;
+pub mod swap_line;
+mod swapped;

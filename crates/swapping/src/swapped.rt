@@ -1,8 +1,6 @@
-// swap LEVEL TRIBUTARY LINE NOTES DIGITS NEW: the file NEW is the line with this tributary written anew. Its digits are read on from where the run
-// before ended, wherever in a byte that is, and the last vote of a run is the next one's earlier vote.
-use crate::runs;
+// One tributary of a line written anew, a run of frames after the other. Its digits are read on from where the run before ended, wherever in a byte that
+// is, and the last vote of a run is the next one's earlier vote.
 use console::files;
-use console::help;
 use console::say;
 use passages::passage;
 use recordings::carry;
@@ -11,109 +9,41 @@ use table::Row;
 ghost use Prim.Native.Nat.{_<_, _≤_};
 ghost use lib.ListN.{length};
 ghost use Rattle.levels.specs.Table.{Shared};
-ghost use Rattle.recordings.specs.Sizes.{longest};
 
-// The words of the call by number.
-pub const TRIBUTARY: usize = 3;
+// The words after the tributary's, counted from it: the line or the capture, its notes, the digits and the new file.
+pub const LINE: usize = 1;
 
-const LINE: usize = 4;
+pub const NOTES: usize = 2;
 
-const NOTES: usize = 5;
+pub const DIGITS: usize = 3;
 
-const DIGITS: usize = 6;
+pub const NEW: usize = 4;
 
-pub const NEW: usize = 7;
-
-// The files, and the bytes of that of the digits.
+// The files; the byte at which the line begins, in its file and in the new one; and the bytes of that of the digits.
 pub struct Open {
     pub line: i32,
+    pub first: usize,
     pub notes: i32,
     pub digits: i32,
     pub bytes: usize,
     pub new: i32,
 }
 
-// How far it is: the frames and the digits taken so far, the vote of the last of these frames, and which file could not be read or written, or none.
+// The tributary, and the number of its word.
+pub struct Tributary {
+    pub number: u64,
+    pub word: usize,
+}
+
+// How far it is: the frames and the digits taken so far, the vote of the last of these frames, and which file could not be read or written, by its word, or
+// none.
 pub struct Swapping {
     pub open: Open,
-    pub tributary: u64,
+    pub tributary: Tributary,
     pub frames: usize,
     pub taken: usize,
     pub earlier: u64,
     pub failed: usize,
-}
-
-pub fn run(row: Row, level: u64, earlier: u64, tributary: u64)
-    requires { ⌜ Shared row ⌝ }
-{
-    let line = files::open(LINE);
-    if !line.ok {
-        return;
-    }
-    if line.bytes % row.bytes != 0 {
-        help::no_whole_frames(LINE, line.bytes, level, row.bytes);
-        return;
-    }
-    let notes = files::open(NOTES);
-    if !notes.ok {
-        return;
-    }
-    if notes.bytes != line.bytes / row.bytes {
-        help::no_note_each(NOTES, notes.bytes, LINE, line.bytes / row.bytes);
-        return;
-    }
-    run_from(
-        row,
-        level,
-        earlier,
-        tributary,
-        line.fd,
-        notes.fd,
-        notes.bytes,
-    );
-}
-
-// The same with a line and notes of so many frames.
-fn run_from(
-    row: Row,
-    level: u64,
-    earlier: u64,
-    tributary: u64,
-    line: i32,
-    notes: i32,
-    frames: usize,
-)
-    requires { ⌜ Shared row × (frames ≤ longest) ⌝ }
-{
-    let digits = files::open(DIGITS);
-    if !digits.ok {
-        return;
-    }
-    let wanted = sizes::quarter_bytes(row, frames);
-    if digits.bytes < wanted {
-        help::no_digits(DIGITS, digits.bytes, level, frames, wanted);
-        return;
-    }
-    let new = files::create(NEW, b"");
-    if new < 0 {
-        return;
-    }
-    let open = Open {
-        line,
-        notes,
-        digits: digits.fd,
-        bytes: digits.bytes,
-        new,
-    };
-    let start = Swapping {
-        open,
-        tributary,
-        frames: 0,
-        taken: 0,
-        earlier,
-        failed: 0,
-    };
-    end(level, runs::all(row, level, frames, start));
 }
 
 // One run of frames: fills its notes and its digits, then goes on with its part of the line, which stands in its file at this place.
@@ -169,7 +99,7 @@ fn line_on(
     t: Swapping,
 ) -> Swapping {
     let from = t.open;
-    let whole = files::read_at(from.line, line, at);
+    let whole = files::read_at(from.line, line, sizes::plus(from.first, at));
     let unnoted = first_failed(t.failed, noted, NOTES);
     let unfilled = first_failed(unnoted, filled, DIGITS);
     swap_on(
@@ -192,12 +122,13 @@ fn swap_on(
     failed: usize,
     t: Swapping,
 ) -> Swapping {
-    let r = swap::swap(level, t.earlier, t.tributary, line, notes, buffer);
+    let one = t.tributary;
+    let r = swap::swap(level, t.earlier, one.number, line, notes, buffer);
     let to = t.open;
-    let written = files::write_at(to.new, line, at);
+    let written = files::write_at(to.new, line, sizes::plus(to.first, at));
     Swapping {
         open: to,
-        tributary: t.tributary,
+        tributary: one,
         frames: sizes::plus(t.frames, notes.len()),
         taken: sizes::plus(t.taken, r.digits),
         // The votes alone: a swap takes notes whatever their other bits are.
@@ -207,7 +138,7 @@ fn swap_on(
 }
 
 // The word that names the file that failed first, where this one did if not ok.
-fn first_failed(before: usize, ok: bool, word: usize) -> usize {
+pub fn first_failed(before: usize, ok: bool, word: usize) -> usize {
     if ok {
         return before;
     }
@@ -217,23 +148,25 @@ fn first_failed(before: usize, ok: bool, word: usize) -> usize {
     before
 }
 
-fn end(level: u64, t: Swapping) {
+pub fn end(level: u64, t: Swapping) {
     let to = t.open;
+    let one = t.tributary;
+    let new = sizes::plus(one.word, NEW);
     let closed = files::close(to.new);
     let failed = first_failed(t.failed, closed, NEW);
     if failed == 0 {
         passage::say_frames(level, t.frames, b" frames, ");
         say::number(t.taken);
         say::text(b" digits put into tributary ");
-        io::print_decimal(libc::STDOUT_FILENO, t.tributary);
+        io::print_decimal(libc::STDOUT_FILENO, one.number);
         say::text(b".\n");
-        files::keep(NEW, b"");
+        files::keep(new, b"");
         return;
     }
-    files::discard(NEW, b"");
+    files::discard(new, b"");
     if failed == NEW {
-        files::not_whole(NEW, b"");
+        files::not_whole(new, b"");
         return;
     }
-    files::unread(failed);
+    files::unread(sizes::plus(one.word, failed));
 }

@@ -2,7 +2,7 @@
 
 use crate::case::{words, Case};
 
-const COMMANDS: [&str; 18] = [
+const COMMANDS: [&str; 20] = [
     "demo",
     "frame",
     "send",
@@ -11,6 +11,8 @@ const COMMANDS: [&str; 18] = [
     "agree",
     "notes",
     "extract",
+    "swap",
+    "repair",
     "find",
     "watch",
     "keep",
@@ -24,7 +26,7 @@ const COMMANDS: [&str; 18] = [
 ];
 
 /// Wrong calls. The files that they name are there.
-const WRONG: [&str; 66] = [
+const WRONG: [&str; 78] = [
     "",
     "bogus",
     "sen 2 notes tributaries out",
@@ -59,6 +61,18 @@ const WRONG: [&str; 66] = [
     "notes 2 line out more",
     "extract 2 line notes",
     "extract 2 line notes out more",
+    "swap",
+    "swap 2 1 line notes",
+    "swap 2 1 line notes tributaries out more",
+    "repair",
+    "repair line",
+    "repair 2 line",
+    "repair 12:5 line",
+    "repair :5 line",
+    "repair 2 line out more",
+    "take :5 line out",
+    "take 12:5 line out",
+    "take :5 line out out",
     "find",
     "find 2",
     "find 2 line out more",

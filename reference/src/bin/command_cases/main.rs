@@ -27,9 +27,11 @@ mod keeping;
 mod multiframes;
 mod noting;
 mod pictures;
+mod repairing;
 mod sending;
 mod showing;
 mod stream;
+mod swapping;
 mod taking;
 mod texts;
 mod trips;
@@ -64,6 +66,8 @@ fn main() -> io::Result<()> {
     cases.extend(approving::cases());
     cases.extend(trips::cases());
     cases.extend(voting::cases());
+    cases.extend(swapping::cases());
+    cases.extend(repairing::cases());
     cases.extend(calling::cases());
     let mut list = String::new();
     for (k, case) in cases.iter().enumerate() {

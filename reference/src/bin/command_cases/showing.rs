@@ -1,9 +1,9 @@
 //! Cases of show, and of take with a capture.
 
 use crate::case::{in_turn, words, Case, OLD};
-use crate::inputs::{damaged, level, levels, room};
+use crate::inputs::{damaged, level, levels, notes, room, tributaries_after};
 use crate::keeping::{capture, frames};
-use crate::texts::{self, cannot, no_capture, written};
+use crate::texts::{self, cannot, no_capture, no_level, no_vote, written};
 use crate::worked;
 use reference::level::Row;
 use reference::read_capture;
@@ -14,6 +14,7 @@ pub fn cases() -> Vec<Case> {
     let mut cases = accepted();
     cases.extend(in_turn(refused(), &["line"]));
     cases.extend(taken());
+    cases.extend(taken_after());
     cases.extend(trips());
     cases.extend(wrong_files());
     cases
@@ -53,7 +54,7 @@ fn accepted() -> Vec<Case> {
 }
 
 /// Files that are no captures, with their names: every way in which one can be wrong.
-fn no_captures() -> Vec<(String, Vec<u8>)> {
+pub fn no_captures() -> Vec<(String, Vec<u8>)> {
     let good = capture(level(2), &frames(level(2), 1), Some(b"hop A"));
     let mut files = Vec::new();
     // Cut at the head and in the body of each field; not where the line ends, or the label.
@@ -139,6 +140,51 @@ fn taken() -> Vec<Case> {
         let case = Case::new(&format!("take-capture-{name}")).file("capture", file);
         cases.extend(case.fails(words(command), &no_capture("capture", file)).twice(&OUTPUTS));
     }
+    cases
+}
+
+/// With the vote of the frame before the first in the level's place.
+fn taken_after() -> Vec<Case> {
+    let takes = |number: u64, word: &str, before: u8, frames: usize| {
+        let row = level(number);
+        let list = notes(row, frames, 160 + number);
+        let buffer = tributaries_after(row, before, &list, 170 + number);
+        let line = worked::send_after(row, before, &list, &buffer).line;
+        let taken = worked::take_after(row, before, &line);
+        assert!(taken.notes == list);
+        Case::new(&format!("take-capture-{number}-after-{word}"))
+            .file("capture", &capture(row, &line, Some(b"hop A")))
+            .accepted(
+                words(&format!("take :{word} capture notes tributaries")),
+                &(texts::taken(row, &taken) + &written(&OUTPUTS)),
+            )
+            .makes("notes", &list)
+            .makes("tributaries", &buffer)
+    };
+    let mut cases = vec![
+        takes(12, "5", 5, 1),
+        takes(12, "0F", 15, 64),
+        takes(14, "a", 10, 7),
+        takes(14, "00", 0, 3),
+        // Levels 2 to 4 do not look at the vote.
+        takes(2, "F", 0, 3),
+        takes(4, "ff", 0, 3),
+    ];
+    // Answered as by the reader, and then the vote is judged.
+    let file = |number| capture(level(number), &frames(level(number), 1), None);
+    let given = |name: &str, file: &[u8]| Case::new(name).file("capture", file);
+    let command = |word: &str| words(&format!("take {word} capture notes tributaries"));
+    for (number, word) in [(12, ":10"), (14, ":1F")] {
+        let case = given(&format!("take-capture-{number}-no-vote"), &file(number));
+        cases.extend(case.fails(command(word), &no_vote(word)).twice(&OUTPUTS));
+    }
+    for word in [":", ":x", ":005", ":5:5", "5:"] {
+        let name = format!("take-capture-no-level-{}", word.replace(':', "-"));
+        cases.push(given(&name, &file(12)).fails(command(word), &no_level(word)));
+    }
+    let bad = &file(12)[..9];
+    let case = given("take-capture-cut-no-vote", bad);
+    cases.push(case.fails(command(":10"), &no_capture("capture", bad)));
     cases
 }
 

@@ -1,0 +1,69 @@
+// How many digits were changed, of each kind and tributary: added up over the runs, and said as the comparison says its sums.
+use console::say;
+use recordings::sizes;
+use repair::Repaired;
+
+// Of the word, and of each tributary's control and stuffing digits.
+pub struct Sums {
+    pub word: usize,
+    pub control: [usize; 4],
+    pub stuffing: [usize; 4],
+}
+
+pub fn none() -> Sums {
+    Sums {
+        word: 0,
+        control: [0; 4],
+        stuffing: [0; 4],
+    }
+}
+
+// The sums with those of one run.
+pub fn add(s: Sums, r: Repaired) -> Sums {
+    let control = s.control;
+    let more = r.control;
+    let stuffing = s.stuffing;
+    let further = r.stuffing;
+    Sums {
+        word: sizes::plus(s.word, r.word),
+        control: four(control, more),
+        stuffing: four(stuffing, further),
+    }
+}
+
+fn four(a: [usize; 4], b: [usize; 4]) -> [usize; 4] {
+    [
+        sizes::plus(a[0], b[0]),
+        sizes::plus(a[1], b[1]),
+        sizes::plus(a[2], b[2]),
+        sizes::plus(a[3], b[3]),
+    ]
+}
+
+// All of four.
+fn all(a: [usize; 4]) -> usize {
+    sizes::plus(sizes::plus(a[0], a[1]), sizes::plus(a[2], a[3]))
+}
+
+pub fn table(s: Sums) {
+    let c = s.control;
+    let d = s.stuffing;
+    let changed = sizes::plus(s.word, sizes::plus(all(c), all(d)));
+    say::line(b"digits repaired: ", changed);
+    if changed == 0 {
+        return;
+    }
+    say::column(b"\n  alignment word  ", s.word);
+    say::text(b"\n                  control  stuffing\n");
+    two(b"  tributary 1     ", c[0], d[0]);
+    two(b"  tributary 2     ", c[1], d[1]);
+    two(b"  tributary 3     ", c[2], d[2]);
+    two(b"  tributary 4     ", c[3], d[3]);
+}
+
+fn two(words: &[u8], control: usize, stuffing: usize) {
+    say::text(words);
+    say::right(7, control);
+    say::right(10, stuffing);
+    say::text(b"\n");
+}
