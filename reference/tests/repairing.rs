@@ -29,12 +29,13 @@ fn repaired(level: u64, earlier: u64, line: &[u8]) -> (Repaired, Vec<u8>) {
 /// 1, so the third, at 636, is set, and the justification digit at 640, which was 0, is stuffing now.
 #[test]
 fn a_split_group_at_level_2() {
-    let worn = bytes(106, &[(0, 0xF4), (26, 0x08), (53, 0x80)]);
-    let right = bytes(106, &[(0, 0xF4), (26, 0x08), (53, 0x80), (79, 0x08), (80, 0x80)]);
+    let worn = bytes(106, &[(0, 0xF4), (1, 0x10), (26, 0x08), (53, 0x80)]);
+    let set = [(0, 0xF4), (1, 0x10), (26, 0x08), (53, 0x80), (79, 0x08), (80, 0x80)];
+    let right = bytes(106, &set);
     assert_eq!(repaired(2, 16, &worn), (changed(0, [1, 0, 0, 0], [1, 0, 0, 0]), right));
     // Only one of them set: the vote is 0, and nothing is stuffed.
-    let worn = bytes(106, &[(0, 0xF4), (26, 0x08)]);
-    let right = bytes(106, &[(0, 0xF4)]);
+    let worn = bytes(106, &[(0, 0xF4), (1, 0x10), (26, 0x08)]);
+    let right = bytes(106, &[(0, 0xF4), (1, 0x10)]);
     assert_eq!(repaired(2, 16, &worn), (changed(0, [1, 0, 0, 0], [0; 4]), right));
 }
 
@@ -171,7 +172,8 @@ fn any_line() {
 fn sent_and_worn(random: &mut Random, row: &Row, earlier: u64) -> (Vec<u8>, Vec<u8>) {
     let frames = 1 + random.index(6);
     let known = ((1_u32 << row.note_bits()) - 1) as u8;
-    let notes: Vec<u8> = random.bytes(frames).iter().map(|note| note & known).collect();
+    let note = |note: &u8| note & known | row.national_bits();
+    let notes: Vec<u8> = random.bytes(frames).iter().map(note).collect();
     let buffer = random.bytes(4 * ((frames * row.most_digits() + 7) / 8));
     let mut line = vec![0; frames * row.frame_bytes()];
     assert_eq!(multiplex(row.level, earlier, &mut line, &notes, &buffer).refusal, 0);
