@@ -392,7 +392,8 @@ fn notes_with_bits_that_the_level_lacks() {
 
 /// What multiplexing answers to so many notes from quarters that are zero: refusal and named frame.
 fn judged(level: u64, notes: &[u8]) -> (u64, u64) {
-    let (answer, _) = from_zero(level, notes.len() * row(level).unwrap().frame_bytes(), notes, 8000);
+    let (answer, _) =
+        from_zero(level, notes.len() * row(level).unwrap().frame_bytes(), notes, 8000);
     assert!(answer.refusal == 0 || answer.counts == [0; 4]);
     (answer.refusal, answer.frame)
 }

@@ -312,8 +312,9 @@ fn long_buffer(run: &mut Run, level: u64, frame_bytes: usize, buffer: &mut [u8])
         buffer[j * quarter..][..100].copy_from_slice(&run.random.bytes(100));
     }
     let (mut ours, mut theirs) = (vec![0; frame_bytes], vec![0; frame_bytes]);
-    let expected = multiplexed(level, 3, &mut ours, &[5], buffer);
-    let sent = raw_multiplex(level, 3, &mut theirs, &[5], buffer);
+    let note = 5 | reference::level::row(level).map_or(0, |row| row.national_bits());
+    let expected = multiplexed(level, 3, &mut ours, &[note], buffer);
+    let sent = raw_multiplex(level, 3, &mut theirs, &[note], buffer);
     run.expect(0, &inputs, &expected, &sent);
     let wide = |line: Vec<u8>| line.into_iter().map(u64::from).collect::<Vec<_>>();
     run.expect(0, &format!("{inputs}: the line"), &wide(ours), &wide(theirs.clone()));
