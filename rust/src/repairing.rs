@@ -42,7 +42,7 @@ impl Repaired {
 ///
 /// # fn main() -> Result<(), spritbobbin::Refusal> {
 /// let mut line = [0; 106];
-/// multiplex(Level::Two, 0, &mut line, &[0b0001], &[0; 104])?;
+/// multiplex(Level::Two, 0, &mut line, &[0b10_0001], &[0; 104])?;
 /// let sent = line;
 ///
 /// line[0] ^= 0xC0; // two alignment digits

@@ -17,7 +17,8 @@ fn sent(level: Level) -> Vec<u8> {
     let length = level.buffer_bytes(FRAMES);
     let buffer: Vec<u8> = (0..length).map(|at| (at * at / 5 + at) as u8).collect();
     let mut line = vec![0; FRAMES * level.frame_bytes()];
-    multiplex(level, EARLIER, &mut line, &NOTES, &buffer).unwrap();
+    let notes = NOTES.map(|note| note | level.national_bits());
+    multiplex(level, EARLIER, &mut line, &notes, &buffer).unwrap();
     line
 }
 
@@ -115,7 +116,7 @@ fn what_is_read_stays() {
 #[test]
 fn a_split_group_decides() {
     let mut line = [0; 106];
-    multiplex(Level::Two, 0, &mut line, &[0], &[0; 104]).unwrap();
+    multiplex(Level::Two, 0, &mut line, &[0x20], &[0; 104]).unwrap();
     turn_over(&mut line, 212);
     turn_over(&mut line, 424);
     let repaired = repair(Level::Two, 0, &mut line).unwrap();
