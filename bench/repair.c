@@ -59,7 +59,7 @@ static void send(const struct row *row, size_t bytes)
     uint64_t counts[5];
 
     for (size_t f = 0; f < FRAMES; f++)
-        notes[f] = (uint8_t)(random_number() & ((16u << row->noted_digits) - 1));
+        notes[f] = sendable(row, random_number());
     for (size_t i = 0; i < sizeof buffer; i++)
         buffer[i] = (uint8_t)random_number();
     plain_multiplex(row->level, EARLIER, sent, bytes, notes, FRAMES, buffer, 4 * ((FRAMES * room_digits(row) + 7) / 8), counts);
