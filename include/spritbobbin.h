@@ -282,6 +282,7 @@ enum {
     SPRITBOBBIN_DISSENT = 1,     /* reading notes: dissenting digits of tributary 1; then of 2, 3, 4 */
     SPRITBOBBIN_SWAPPED = 0,     /* a swap: digits taken from the buffer */
     SPRITBOBBIN_WORD_REPAIRED = 0, /* a repair: alignment digits changed; then see below */
+    SPRITBOBBIN_NATIONAL_REPAIRED = 9, /* a repair: national digits changed */
     SPRITBOBBIN_TAKEN = 0,       /* receiver: digits taken */
     SPRITBOBBIN_READY = 1,       /* receiver: 1 if a frame is ready */
     SPRITBOBBIN_ALARM = 2,       /* receiver: 1 if alarm indication stands at the end */
@@ -390,17 +391,20 @@ uint64_t spritbobbin_swap(uint64_t level, uint64_t earlier, uint64_t tributary, 
  * to their majority, and stuffing digits to 1. A stuffing digit is one of a justification place, or
  * of a negative one, that carries nothing by the majorities of the line as it came: in the same
  * frame, and at levels 12 and 14 in the frame before it too, which is earlier for frame 0. Service
- * digits and digits of tributaries stay.
+ * digits and digits of tributaries stay, but for this: where national is not 0, the national digits
+ * of levels 2 to 4 are set to 1 too. At levels 12 and 14 that does nothing, and is not refused.
  *
- * The notes read from the result are those read from the line before, and so are the tributaries,
- * with the same earlier. A second call changes nothing. A line that multiplexing made with the same
- * earlier comes back exactly as it was sent, if nothing else was damaged than alignment and stuffing
- * digits, and of each control group fewer than half.
+ * The notes read from the result are those read from the line before, but for the national digits that
+ * were asked for, and so are the tributaries, with the same earlier. A second call changes nothing. A
+ * line that multiplexing made with the same earlier comes back exactly as it was sent, if nothing else
+ * was damaged than alignment and stuffing digits, and of each control group fewer than half; with
+ * national, national digits too.
  *
  * answer: how many digits were changed: alignment digits, then the control digits of tributaries 1
- * to 4, then the stuffing digits of tributaries 1 to 4. Returns 0, 1, 2 or 5.
+ * to 4, then the stuffing digits of tributaries 1 to 4, then national digits. Returns 0, 1, 2 or 5.
  */
-uint64_t spritbobbin_repair(uint64_t level, uint64_t earlier, uint8_t *line, size_t line_bytes, uint64_t answer[9]);
+uint64_t spritbobbin_repair(uint64_t level, uint64_t earlier, uint64_t national, uint8_t *line, size_t line_bytes,
+                            uint64_t answer[10]);
 
 /*
  * The plain engine: a second engine that goes digit by digit and shares only the level table with

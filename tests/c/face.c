@@ -289,11 +289,11 @@ static void swaps(void)
 static void refused_repair(uint64_t level, uint64_t earlier, size_t line_bytes, uint64_t refusal)
 {
     uint8_t *line = lend(line_bytes, 0xA5);
-    uint64_t answer[9];
+    uint64_t answer[10];
 
     memset(answer, 0xA5, sizeof answer);
-    check(spritbobbin_repair(level, earlier, line, line_bytes, answer) == refusal, "the refusal of a repair");
-    check(all_zero(answer, 9) && all(line, line_bytes, 0xA5), "a refused repair counts and writes nothing");
+    check(spritbobbin_repair(level, earlier, 1, line, line_bytes, answer) == refusal, "the refusal of a repair");
+    check(all_zero(answer, 10) && all(line, line_bytes, 0xA5), "a refused repair counts and writes nothing");
     free(line);
 }
 
@@ -302,29 +302,37 @@ static void refused_repair(uint64_t level, uint64_t earlier, size_t line_bytes, 
    frame 1 those of 1, 3 and 4; no positive one is stuffed. */
 static void repairs(void)
 {
-    uint8_t *line = lend(264, 0), *case_1 = lend(106, 0);
-    uint64_t answer[9];
+    uint8_t *line = lend(264, 0), *case_1 = lend(106, 0), *zeros = lend(366, 0);
+    uint64_t answer[10];
 
     line[33] = 0x40;
     line[66] = 0x60;
     memset(answer, 0xA5, sizeof answer);
-    check(spritbobbin_repair(12, 5, line, 264, answer) == SPRITBOBBIN_ACCEPTED && answer[SPRITBOBBIN_WORD_REPAIRED] == 10, "two words are repaired");
+    check(spritbobbin_repair(12, 5, 1, line, 264, answer) == SPRITBOBBIN_ACCEPTED && answer[SPRITBOBBIN_WORD_REPAIRED] == 10, "two words are repaired");
     check(answer[SPRITBOBBIN_CONTROL_REPAIRED(1)] == 0 && answer[SPRITBOBBIN_CONTROL_REPAIRED(2)] == 1
           && answer[SPRITBOBBIN_CONTROL_REPAIRED(3)] == 1 && answer[SPRITBOBBIN_CONTROL_REPAIRED(4)] == 0, "control groups are set to their majority");
     check(answer[SPRITBOBBIN_STUFFING_REPAIRED(1)] == 1 && answer[SPRITBOBBIN_STUFFING_REPAIRED(2)] == 2
           && answer[SPRITBOBBIN_STUFFING_REPAIRED(3)] == 1 && answer[SPRITBOBBIN_STUFFING_REPAIRED(4)] == 0, "unused negative places are set to 1");
     check(line[0] == 0xE6 && line[33] == 0x40 && line[66] == 0x40 && line[99] == 0x4E && line[100] == 0, "frame 0, its service digits as they came");
     check(line[132] == 0xE6 && line[165] == 0 && line[198] == 0 && line[231] == 0x04 && line[232] == 0, "frame 1");
-    check(spritbobbin_repair(12, 5, line, 264, answer) == 0 && all_zero(answer, 9), "a second repair changes nothing");
+    check(spritbobbin_repair(12, 5, 1, line, 264, answer) == 0 && all_zero(answer, 10), "a second repair changes nothing");
 
     case_1[0] = 0xF4;
     case_1[1] = 0x10;
     case_1[26] = 0x08; /* two of three control digits of tributary 1 make its justification digit stuffing */
     case_1[53] = 0x80;
-    check(spritbobbin_repair(2, UINT64_MAX, case_1, 106, answer) == 0 && answer[0] == 0, "level 2 does not look at the earlier vote");
+    check(spritbobbin_repair(2, UINT64_MAX, 0, case_1, 106, answer) == 0 && answer[0] == 0, "level 2 does not look at the earlier vote");
     check(answer[SPRITBOBBIN_CONTROL_REPAIRED(1)] == 1 && answer[SPRITBOBBIN_STUFFING_REPAIRED(1)] == 1, "a split group decides");
     check(case_1[79] == 0x08 && case_1[80] == 0x80 && all_zero(answer + 2, 3) && all_zero(answer + 6, 3), "by its majority");
-    check(spritbobbin_repair(4, 0, NULL, 0, answer) == 0 && all_zero(answer, 9), "a line without frames");
+    check(case_1[1] == 0x10 && answer[SPRITBOBBIN_NATIONAL_REPAIRED] == 0, "a national digit of 1 is none to be repaired");
+    check(spritbobbin_repair(4, 0, 1, NULL, 0, answer) == 0 && all_zero(answer, 10), "a line without frames");
+
+    case_1[1] = 0x20;
+    check(spritbobbin_repair(2, 0, 0, case_1, 106, answer) == 0 && all_zero(answer, 10) && case_1[1] == 0x20, "service digits stay");
+    check(spritbobbin_repair(2, 0, 1, case_1, 106, answer) == 0 && case_1[1] == 0x30, "the switch sets the national digit, and leaves the remote alarm");
+    check(answer[SPRITBOBBIN_NATIONAL_REPAIRED] == 1 && all_zero(answer, 9), "and counts it");
+    check(spritbobbin_repair(4, 0, UINT64_MAX, zeros, 366, answer) == 0 && zeros[0] == 0xFA && zeros[1] == 0x07, "any number is on, and level 4 has three");
+    check(answer[SPRITBOBBIN_NATIONAL_REPAIRED] == 3 && answer[SPRITBOBBIN_WORD_REPAIRED] == 6, "which are counted");
 
     refused_repair(5, 16, 131, SPRITBOBBIN_REFUSED_LEVEL);
     refused_repair(12, 16, 131, SPRITBOBBIN_REFUSED_LINE);
@@ -333,6 +341,7 @@ static void repairs(void)
     refused_repair(14, UINT64_MAX, 0, SPRITBOBBIN_REFUSED_NOTE_BITS);
     free(line);
     free(case_1);
+    free(zeros);
 }
 
 /* Two frames with notes of their own and a buffer of 0x5A and 0xC3, sent, read and extracted by both engines, and

@@ -269,12 +269,13 @@ fn long_line(run: &mut Run, level: u64, line: &mut [u8]) {
     let expected = extracted(level, u64::MAX, line, &[0], &mut [0; 4096]);
     run.expect(11, &inputs, &expected, &raw_extract(level, u64::MAX, line, &[0], &mut [0; 4096]));
     long_swap(run, &inputs, level, line, &[0], &[0; 4096]);
-    let mut answer = [UNWRITTEN; 9];
+    let mut answer = [UNWRITTEN; 10];
     // Sound as above.
     let refusal = unsafe {
-        spritbobbin_repair(level, u64::MAX, line.as_mut_ptr(), line.len(), answer.as_mut_ptr())
+        let (at, bytes) = (line.as_mut_ptr(), line.len());
+        spritbobbin_repair(level, u64::MAX, 1, at, bytes, answer.as_mut_ptr())
     };
-    let expected = [&[repair_refusal(level, u64::MAX, line.len() as u64)], &[0; 9][..]].concat();
+    let expected = [&[repair_refusal(level, u64::MAX, line.len() as u64)], &[0; 10][..]].concat();
     run.expect(17, &inputs, &expected, &[&[refusal], &answer[..]].concat());
     untouched(run, &inputs, line);
 }
