@@ -163,8 +163,8 @@ fn wrong_national() -> Vec<Case> {
         given(&name, &list, &buffer).fails(command(row), &no_national("notes", row, first))
     };
     let mut cases: Vec<Case> = NATIONAL.into_iter().map(refused).collect();
-    // Refusal 5 comes first, in a later note too.
-    for with in [(2, 2, &[(0, 0x20)]), (3, 64, &[(0, 0x20)])] {
+    // Refusal 5 comes first, in a later note too, however many frames later.
+    for with in [(2, 2, &[(0, 0x20)]), (3, 64, &[(0, 0x20)]), (2, 150, &[(3, 0x20)])] {
         let (row, mut list, buffer) = given_notes((with.0, with.1, with.2));
         let last = list.len() - 1;
         list[last] |= 0x40;
