@@ -123,7 +123,7 @@ static void make_input(struct input *input, const struct row *row)
     input->earlier = random_number() % 16;
     fill_randomly(input->notes, FRAMES);
     for (unsigned f = 0; f < FRAMES; f++)
-        input->notes[f] &= (uint8_t)((16u << row->noted_digits) - 1);
+        input->notes[f] = sendable(row, input->notes[f]);
     fill_randomly(input->buffer, input->buffer_bytes);
     plain_multiplex(row->level, input->earlier, input->line, length, input->notes, FRAMES, input->buffer, input->buffer_bytes, answer);
     for (size_t i = 0; i <= length; i++)

@@ -32,7 +32,7 @@ typedef uint64_t swap_call(uint64_t level, uint64_t earlier, uint64_t tributary,
 swap_call plain_swap;
 
 /* The repair of a line, in the plain engine only. */
-typedef uint64_t repair_call(uint64_t level, uint64_t earlier, uint8_t *line, size_t line_bytes, uint64_t answer[9]);
+typedef uint64_t repair_call(uint64_t level, uint64_t earlier, uint64_t national, uint8_t *line, size_t line_bytes, uint64_t answer[10]);
 
 repair_call plain_repair;
 

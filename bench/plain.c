@@ -218,12 +218,12 @@ static unsigned majorities(const struct row *row, const uint8_t *line, size_t st
     return votes;
 }
 
-uint64_t plain_repair(uint64_t level, uint64_t earlier, uint8_t *line, size_t line_bytes, uint64_t answer[9])
+uint64_t plain_repair(uint64_t level, uint64_t earlier, uint64_t national, uint8_t *line, size_t line_bytes, uint64_t answer[10])
 {
     const struct row *row = row_of(level);
     unsigned other = (unsigned)earlier;
 
-    memset(answer, 0, 9 * sizeof answer[0]);
+    memset(answer, 0, 10 * sizeof answer[0]);
     for (size_t place = 0; place < 8 * line_bytes;) {
         unsigned own = majorities(row, line, place), stuffed, idle;
 
@@ -248,7 +248,9 @@ uint64_t plain_repair(uint64_t level, uint64_t earlier, uint8_t *line, size_t li
                 case JUSTIFICATION:
                     answer[5 + j] += stuffed >> j & 1 ? changed(line, place, 1) : 0;
                     break;
-                case NOTED:
+                case NOTED: /* the first is the remote alarm */
+                    answer[9] += national && at > row->word_digits ? changed(line, place, 1) : 0;
+                    break;
                 case SERVICE:
                 case TRIBUTARY:
                     break;

@@ -1,6 +1,6 @@
 /*
  * Times the repair of a line beside a plain one in C, digit by digit as one would write it first, which judges nothing: a line as it was
- * multiplexed, and one of which a digit in a hundred is wrong. Before timing, both are seen to give the same line and the same counts, and
+ * multiplexed, and one of which a digit in a hundred is wrong, without national digits and with them. Before timing, both are seen to give the same line and the same counts, and
  * a line of which words and single control digits are wrong comes back as it was.
  *
  * usage: repair REPEATS
@@ -15,14 +15,14 @@
 #include "rows.h"
 #include "spritbobbin.h"
 
-enum { FRAMES = 64, ENGINES = 2, TASKS = 2, EARLIER = 9 };
+enum { FRAMES = 64, ENGINES = 2, TASKS = 3, EARLIER = 9 };
 enum { LINE_BYTES = FRAMES * 366, QUARTER_BYTES = (FRAMES * 723 + 7) / 8 };
 
 static repair_call *const engines[ENGINES] = {spritbobbin_repair, plain_repair};
-static const char *const tasks[TASKS] = {"a line as sent", "a digit in 100"};
+static const char *const tasks[TASKS] = {"a line as sent", "a digit in 100", "national too"};
 
 static uint8_t sent[LINE_BYTES], worn[LINE_BYTES], line[ENGINES][LINE_BYTES];
-static uint64_t answer[ENGINES][9];
+static uint64_t answer[ENGINES][10];
 
 static uint64_t random_number(void)
 {
@@ -59,18 +59,18 @@ static void send(const struct row *row, size_t bytes)
     uint64_t counts[5];
 
     for (size_t f = 0; f < FRAMES; f++)
-        notes[f] = (uint8_t)(random_number() & ((16u << row->noted_digits) - 1));
+        notes[f] = sendable(row, random_number());
     for (size_t i = 0; i < sizeof buffer; i++)
         buffer[i] = (uint8_t)random_number();
     plain_multiplex(row->level, EARLIER, sent, bytes, notes, FRAMES, buffer, 4 * ((FRAMES * room_digits(row) + 7) / 8), counts);
 }
 
-/* Both engines on copies of a line. */
-static void repair_both(const struct row *row, const uint8_t *from, size_t bytes)
+/* Both engines on copies of a line, national digits too or not. */
+static void repair_both(const struct row *row, uint64_t national, const uint8_t *from, size_t bytes)
 {
     for (unsigned e = 0; e < ENGINES; e++) {
         memcpy(line[e], from, bytes);
-        if (engines[e](row->level, EARLIER, line[e], bytes, answer[e]) != 0)
+        if (engines[e](row->level, EARLIER, national, line[e], bytes, answer[e]) != 0)
             fail(row, "a line is refused");
     }
     if (memcmp(line[0], line[1], bytes) != 0 || memcmp(answer[0], answer[1], sizeof answer[0]) != 0)
@@ -86,15 +86,16 @@ static void make(const struct row *row, size_t bytes)
         turn_over(worn, f * row->frame_digits + random_number() % row->word_digits);
         turn_over(worn, f * row->frame_digits + (1 + random_number() % (row->sets - 1)) * row->set_digits + random_number() % 4);
     }
-    repair_both(row, worn, bytes);
+    repair_both(row, 0, worn, bytes);
     if (memcmp(line[0], sent, bytes) != 0)
         fail(row, "a worn line does not come back");
     for (size_t place = 0; place < 8 * bytes; place++)
         if (random_number() % 100 == 0)
             turn_over(worn, place);
-    repair_both(row, worn, bytes);
-    repair_both(row, line[0], bytes);
-    for (unsigned i = 0; i < 9; i++)
+    repair_both(row, 0, worn, bytes);
+    repair_both(row, 1, worn, bytes);
+    repair_both(row, 1, line[0], bytes);
+    for (unsigned i = 0; i < 10; i++)
         if (answer[0][i])
             fail(row, "a second repair changes something");
 }
@@ -121,7 +122,7 @@ int main(int count, char **words)
 
                     memcpy(line[e], task ? worn : sent, bytes);
                     begin = now();
-                    engines[e](row->level, EARLIER, line[e], bytes, answer[e]);
+                    engines[e](row->level, EARLIER, task == 2, line[e], bytes, answer[e]);
                     took = now() - begin;
                     if (best[e] == 0 || took < best[e])
                         best[e] = took;

@@ -31,6 +31,14 @@ static inline const struct row *row_of(uint64_t level)
     return &ROWS[level <= 4 ? level - 2 : level / 2 - 3];
 }
 
+/* A note as it can be sent: of its bits those that the level has, and 1 for every national digit, which are all that are noted but the first. */
+static inline uint8_t sendable(const struct row *row, uint64_t note)
+{
+    unsigned known = (16u << row->noted_digits) - 1, national = row->noted_digits ? known & ~31u : 0;
+
+    return (uint8_t)((note & known) | national);
+}
+
 /* The digits that a quarter must have for each frame. */
 static inline unsigned room_digits(const struct row *row)
 {

@@ -83,7 +83,7 @@ static void make(const struct row *row)
     of.quarter = (FRAMES * room_digits(row) + 7) / 8;
     of.earlier = random_number() % 16;
     for (size_t f = 0; f < FRAMES; f++)
-        of.notes[f] = (uint8_t)(random_number() & ((16u << row->noted_digits) - 1));
+        of.notes[f] = sendable(row, random_number());
     for (size_t i = 0; i < 4 * of.quarter; i++)
         of.buffer[i] = (uint8_t)random_number();
     run(row, 2, 1);

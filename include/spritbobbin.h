@@ -22,8 +22,9 @@
  * buffer      the digits of the four tributaries, in four equal quarters, quarter j for
  *             tributary j. A tributary's digits are the first of its quarter and run on from
  *             frame to frame without a gap.
- * note        one byte for each frame: which tributaries are stuffed, and the service digits; at
- *             levels 12 and 14 the vote of each tributary, and nothing else.
+ * note        one byte for each frame: which tributaries are stuffed, and the service digits, of
+ *             which the national ones are sent as 1; at levels 12 and 14 the vote of each
+ *             tributary, and nothing else.
  * earlier     at levels 12 and 14, the vote of the frame before the first: see below.
  * capture     a file that keeps a line: see spritbobbin_capture_write.
  * rack        a list of receivers, one to a line: see spritbobbin_rack_feed.
@@ -103,6 +104,8 @@
  *   9  writing a capture: the label is over 32 bytes; reading one: the bytes are no run of a
  *      capture's fields, and the answer names the byte where the field at fault begins or should
  *      begin, counted from 0
+ *  10  multiplexing, levels 2 to 4: a note has not all national digits of its level 1, which are
+ *      bit 5, and at level 4 bits 5, 6 and 7; the answer names the first such frame, counted from 0
  *  11  building a multiframe: the signalling of one of channels 1 to 15 is 0000; the answer names
  *      the first such channel
  *  12  a swap: the tributary is not 1, 2, 3 or 4
@@ -110,14 +113,15 @@
  * For a capture 4 means that the file's buffer is shorter than the file; for a swap, that the
  * buffer has fewer digits than F times the level's room.
  *
- * Where several apply, the first in this order is returned: 1, 2, 3, 4, 5 for the two multiplex
- * calls; 1, 12, 2, 3, 4, 5 for a swap; 1, 2, 5 for a repair; 6, 2, 7 for a piece; 1, 2, 9, 4 for
- * writing a capture, 9, 1, 2 for reading one; 2, 11 for building a multiframe; for a comparison see
- * spritbobbin_compare; for a rack 8, 2 and then as a piece, or 1 for a reset.
+ * Where several apply, the first in this order is returned: 1, 2, 3, 4, 5, 10 for multiplexing (5
+ * in any note before 10 in any); 1, 2, 3, 4, 5 for extraction; 1, 12, 2, 3, 4, 5 for a swap; 1, 2, 5
+ * for a repair; 6, 2, 7 for a piece; 1, 2, 9, 4 for writing a capture, 9, 1, 2 for reading one; 2, 11
+ * for building a multiframe; for a comparison see spritbobbin_compare; for a rack 8, 2 and then as a
+ * piece, or 1 for a reset.
  *
  * A refused call writes nothing that it was lent, but the answer: all its numbers are 0, except the
- * named frame under 5, the named byte under 9, the named channel under 11 and the file at fault of a
- * comparison. (A fresh state and the places of a comparison are answers too.)
+ * named frame under 5 and 10, the named byte under 9, the named channel under 11 and the file at
+ * fault of a comparison. (A fresh state and the places of a comparison are answers too.)
  *
  *
  * EXAMPLE
@@ -150,7 +154,7 @@
  *     int main(void)
  *     {
  *         uint8_t line[FRAME] = {0}, stream[4 * FRAME], buffer[4 * QUARTER] = {0};
- *         uint8_t notes[1] = {SPRITBOBBIN_STUFFED_1 | SPRITBOBBIN_REMOTE_ALARM};
+ *         uint8_t notes[1] = {SPRITBOBBIN_STUFFED_1 | SPRITBOBBIN_NATIONAL_1};
  *         uint64_t sent[5], noted[5], taken[5];
  *         int i;
  *
@@ -195,6 +199,7 @@ enum {
     SPRITBOBBIN_REFUSED_DIGITS = 7,
     SPRITBOBBIN_REFUSED_RACK_LINE = 8,
     SPRITBOBBIN_REFUSED_FIELD = 9,
+    SPRITBOBBIN_REFUSED_NATIONAL = 10,
     SPRITBOBBIN_REFUSED_SIGNALLING = 11,
     SPRITBOBBIN_REFUSED_TRIBUTARY = 12
 };
@@ -248,7 +253,7 @@ enum {
     SPRITBOBBIN_STUFFED_3 = 4,
     SPRITBOBBIN_STUFFED_4 = 8,
     SPRITBOBBIN_REMOTE_ALARM = 16, /* levels 2 to 4: the remote alarm digit is 1 */
-    SPRITBOBBIN_NATIONAL_1 = 32,   /* levels 2 to 4: the first national digit is 1 */
+    SPRITBOBBIN_NATIONAL_1 = 32,   /* levels 2 to 4: the first national digit is 1, as it is sent */
     SPRITBOBBIN_NATIONAL_2 = 64,   /* level 4 only */
     SPRITBOBBIN_NATIONAL_3 = 128   /* level 4 only */
 };
@@ -272,11 +277,12 @@ enum {
 /* What stands where in the answers. The four digit counts, of tributaries 1 to 4, are elements 0
    to 3 of the answers of multiplexing and of extraction. */
 enum {
-    SPRITBOBBIN_NAMED_FRAME = 4, /* multiplexing and extraction: under 5 */
+    SPRITBOBBIN_NAMED_FRAME = 4, /* multiplexing and extraction: under 5, and multiplexing under 10 */
     SPRITBOBBIN_ALIGNMENT = 0,   /* reading notes: alignment digits that differ from the word */
     SPRITBOBBIN_DISSENT = 1,     /* reading notes: dissenting digits of tributary 1; then of 2, 3, 4 */
     SPRITBOBBIN_SWAPPED = 0,     /* a swap: digits taken from the buffer */
     SPRITBOBBIN_WORD_REPAIRED = 0, /* a repair: alignment digits changed; then see below */
+    SPRITBOBBIN_NATIONAL_REPAIRED = 9, /* a repair: national digits changed */
     SPRITBOBBIN_TAKEN = 0,       /* receiver: digits taken */
     SPRITBOBBIN_READY = 1,       /* receiver: 1 if a frame is ready */
     SPRITBOBBIN_ALARM = 2,       /* receiver: 1 if alarm indication stands at the end */
@@ -323,7 +329,10 @@ enum {
  * F * n - s digits, the first so many of its quarter. At levels 12 and 14 it sends F * n digits,
  * less the stuffed, plus those of negative places (above). Further digits are not looked at.
  *
- * answer: the four digit counts, the named frame. Returns 0, 1, 2, 3, 4 or 5.
+ * National digits are retired: at levels 2 to 4 every note must have them all 1. Reading still
+ * reports them as they came, and extraction and a swap take notes of any kind.
+ *
+ * answer: the four digit counts, the named frame. Returns 0, 1, 2, 3, 4, 5 or 10.
  */
 uint64_t spritbobbin_multiplex(uint64_t level, uint64_t earlier, uint8_t *line, size_t line_bytes,
                                const uint8_t *notes, size_t notes_bytes,
@@ -351,7 +360,8 @@ uint64_t spritbobbin_read_notes(uint64_t level, const uint8_t *line, size_t line
  * the end of its quarter. Where a note says stuffed, the justification digit is left out; at levels
  * 12 and 14 each note and the one before it say what is left out, the first note and earlier.
  *
- * answer: the four digit counts, the named frame. Returns 0, 1, 2, 3, 4 or 5, as multiplexing does.
+ * answer: the four digit counts, the named frame. Returns 0, 1, 2, 3, 4 or 5, as multiplexing does,
+ * and never 10.
  */
 uint64_t spritbobbin_extract(uint64_t level, uint64_t earlier, const uint8_t *line, size_t line_bytes,
                              const uint8_t *notes, size_t notes_bytes,
@@ -381,17 +391,20 @@ uint64_t spritbobbin_swap(uint64_t level, uint64_t earlier, uint64_t tributary, 
  * to their majority, and stuffing digits to 1. A stuffing digit is one of a justification place, or
  * of a negative one, that carries nothing by the majorities of the line as it came: in the same
  * frame, and at levels 12 and 14 in the frame before it too, which is earlier for frame 0. Service
- * digits and digits of tributaries stay.
+ * digits and digits of tributaries stay, but for this: where national is not 0, the national digits
+ * of levels 2 to 4 are set to 1 too. At levels 12 and 14 that does nothing, and is not refused.
  *
- * The notes read from the result are those read from the line before, and so are the tributaries,
- * with the same earlier. A second call changes nothing. A line that multiplexing made with the same
- * earlier comes back exactly as it was sent, if nothing else was damaged than alignment and stuffing
- * digits, and of each control group fewer than half.
+ * The notes read from the result are those read from the line before, but for the national digits that
+ * were asked for, and so are the tributaries, with the same earlier. A second call changes nothing. A
+ * line that multiplexing made with the same earlier comes back exactly as it was sent, if nothing else
+ * was damaged than alignment and stuffing digits, and of each control group fewer than half; with
+ * national, national digits too.
  *
  * answer: how many digits were changed: alignment digits, then the control digits of tributaries 1
- * to 4, then the stuffing digits of tributaries 1 to 4. Returns 0, 1, 2 or 5.
+ * to 4, then the stuffing digits of tributaries 1 to 4, then national digits. Returns 0, 1, 2 or 5.
  */
-uint64_t spritbobbin_repair(uint64_t level, uint64_t earlier, uint8_t *line, size_t line_bytes, uint64_t answer[9]);
+uint64_t spritbobbin_repair(uint64_t level, uint64_t earlier, uint64_t national, uint8_t *line, size_t line_bytes,
+                            uint64_t answer[10]);
 
 /*
  * The plain engine: a second engine that goes digit by digit and shares only the level table with

@@ -151,4 +151,11 @@ impl Row {
     pub fn note_bits(&self) -> usize {
         4 + self.remote_alarm_digits + self.national_digits
     }
+
+    /// The bits of a note that are national digits: bit 5, at level 4 bits 5 to 7. None where the
+    /// level has no national digits.
+    pub fn national_bits(&self) -> u8 {
+        let ones = (1_u32 << self.national_digits) - 1;
+        (ones << 5) as u8
+    }
 }

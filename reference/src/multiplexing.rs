@@ -8,7 +8,7 @@ use crate::level::{row, Row, MOST_FRAMES};
 #[derive(Clone, Debug, Default, PartialEq, Eq)]
 pub struct Counted {
     pub refusal: u64,
-    /// The first frame whose note is wrong, or 0 for a wrong earlier vote, under 5 only.
+    /// The first frame whose note is wrong, under 5 and 10 only; 0 for a wrong earlier vote.
     pub frame: u64,
     pub counts: [u64; 4],
 }
@@ -102,6 +102,10 @@ pub fn multiplex(
         Ok(row) => row,
         Err(refused) => return refused,
     };
+    // After 5 over all notes, and of multiplexing alone: request 14.
+    if let Some(frame) = first_note_without_national(row, notes) {
+        return Counted { refusal: 10, frame: frame as u64, counts: [0; 4] };
+    }
     // At most so many digits of a quarter are looked at, however long it is.
     let most = notes.len() * row.most_digits();
     let quarter = buffer.len() / 4;
@@ -158,4 +162,9 @@ pub fn extract(level: u64, earlier: u64, line: &[u8], notes: &[u8], buffer: &mut
 /// The first frame whose note has a bit for a service digit that the level lacks.
 fn first_wrong_note(row: &Row, notes: &[u8]) -> Option<usize> {
     notes.iter().position(|&note| u32::from(note) >= 1 << row.note_bits())
+}
+
+/// The first frame whose note does not say 1 for every national digit that the level has.
+fn first_note_without_national(row: &Row, notes: &[u8]) -> Option<usize> {
+    notes.iter().position(|&note| note & row.national_bits() != row.national_bits())
 }

@@ -1,4 +1,4 @@
-//! A worn line repaired: request 13.
+//! A worn line repaired: request 13, with request 14's switch.
 
 use crate::digits::{pack, unpack};
 use crate::frame::{self, Place};
@@ -14,6 +14,8 @@ pub struct Repaired {
     pub control: [u64; 4],
     /// Of each tributary; an unused negative place is a stuffing digit too.
     pub stuffing: [u64; 4],
+    /// With the switch on only.
+    pub national: u64,
 }
 
 /// The refusals of repairing, in their order. It takes the line's length only, so that it also
@@ -33,9 +35,10 @@ pub fn repair_refusal(level: u64, earlier: u64, line_bytes: u64) -> u64 {
     0
 }
 
-/// Sets alignment digits to the word, control groups to their majority and stuffing digits to 1.
-/// What is a stuffing digit is said by the majorities of the line as it came.
-pub fn repair(level: u64, earlier: u64, line: &mut [u8]) -> Repaired {
+/// Sets alignment digits to the word, control groups to their majority and stuffing digits to 1, and
+/// where `national` is not 0 national digits to 1. What is a stuffing digit is said by the majorities
+/// of the line as it came.
+pub fn repair(level: u64, earlier: u64, national: u64, line: &mut [u8]) -> Repaired {
     let refusal = repair_refusal(level, earlier, line.len() as u64);
     let mut answer = Repaired { refusal, ..Repaired::default() };
     let row = match row(level).filter(|_| refusal == 0) {
@@ -47,7 +50,10 @@ pub fn repair(level: u64, earlier: u64, line: &mut [u8]) -> Repaired {
     for bytes in line.chunks_mut(row.frame_bytes()) {
         let came = unpack(bytes, row.frame_digits);
         let note = frame::read(row, &came).note;
-        let repaired = repaired(row, before, note, &came);
+        let mut repaired = repaired(row, before, note, &came);
+        if national != 0 {
+            set_national(row, &mut repaired);
+        }
         for (place, (old, new)) in frame::layout(row).into_iter().zip(came.iter().zip(&repaired)) {
             answer.count(place, u64::from(old != new));
         }
@@ -71,13 +77,23 @@ fn repaired(row: &Row, before: u8, note: u8, came: &[u8]) -> Vec<u8> {
     frame::layout(row).into_iter().zip(came).map(should).collect()
 }
 
+/// Sets the national digits to 1; levels 12 and 14 have none, only other service digits.
+fn set_national(row: &Row, digits: &mut [u8]) {
+    for (place, digit) in frame::layout(row).into_iter().zip(digits) {
+        if matches!(place, Place::National(_)) {
+            *digit = 1;
+        }
+    }
+}
+
 impl Repaired {
     fn count(&mut self, place: Place, changed: u64) {
         match place {
             Place::Word(_) => self.word += changed,
             Place::Control(j) => self.control[j] += changed,
             Place::Negative(j) | Place::Justification(j) => self.stuffing[j] += changed,
-            Place::RemoteAlarm | Place::National(_) | Place::Service | Place::Tributary(_) => {}
+            Place::National(_) => self.national += changed,
+            Place::RemoteAlarm | Place::Service | Place::Tributary(_) => {}
         }
     }
 }

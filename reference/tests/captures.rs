@@ -27,7 +27,7 @@ fn refused(file: &[u8]) -> (u64, u64) {
 
 fn case_1() -> Vec<u8> {
     let mut line = vec![0; 106];
-    assert_eq!(multiplex(2, 0, &mut line, &[0], &[0; 104]).refusal, 0);
+    assert_eq!(multiplex(2, 0, &mut line, &[0x20], &[0; 104]).refusal, 0);
     line
 }
 
@@ -37,6 +37,7 @@ fn the_example() {
     let file = written(2, &line, None, 200).unwrap();
     assert_eq!(file.len(), 113);
     assert_eq!(file[..7], [0x01, 0x00, 0x01, 0x02, 0x02, 0x00, 0x6A]);
+    assert_eq!(file[7..10], [0xF4, 0x10, 0x00]);
     assert_eq!(file[7..], line);
     let read = read_capture(&file);
     assert_eq!(read, Read { refusal: 0, level: 2, line: 7..113, label: None, byte: 0 });

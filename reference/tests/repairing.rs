@@ -7,7 +7,7 @@ use reference::random::Random;
 use reference::{compare, extract, multiplex, read_notes, repair, write_capture, Repaired};
 
 fn changed(word: u64, control: [u64; 4], stuffing: [u64; 4]) -> Repaired {
-    Repaired { refusal: 0, word, control, stuffing }
+    Repaired { refusal: 0, word, control, stuffing, national: 0 }
 }
 
 /// A line of the given bytes, all others zero.
@@ -19,9 +19,14 @@ fn bytes(length: usize, set: &[(usize, u8)]) -> Vec<u8> {
     line
 }
 
+/// With the switch for national digits off.
 fn repaired(level: u64, earlier: u64, line: &[u8]) -> (Repaired, Vec<u8>) {
+    switched(level, earlier, 0, line)
+}
+
+fn switched(level: u64, earlier: u64, national: u64, line: &[u8]) -> (Repaired, Vec<u8>) {
     let mut line = line.to_vec();
-    let answer = repair(level, earlier, &mut line);
+    let answer = repair(level, earlier, national, &mut line);
     (answer, line)
 }
 
@@ -29,12 +34,13 @@ fn repaired(level: u64, earlier: u64, line: &[u8]) -> (Repaired, Vec<u8>) {
 /// 1, so the third, at 636, is set, and the justification digit at 640, which was 0, is stuffing now.
 #[test]
 fn a_split_group_at_level_2() {
-    let worn = bytes(106, &[(0, 0xF4), (26, 0x08), (53, 0x80)]);
-    let right = bytes(106, &[(0, 0xF4), (26, 0x08), (53, 0x80), (79, 0x08), (80, 0x80)]);
+    let worn = bytes(106, &[(0, 0xF4), (1, 0x10), (26, 0x08), (53, 0x80)]);
+    let set = [(0, 0xF4), (1, 0x10), (26, 0x08), (53, 0x80), (79, 0x08), (80, 0x80)];
+    let right = bytes(106, &set);
     assert_eq!(repaired(2, 16, &worn), (changed(0, [1, 0, 0, 0], [1, 0, 0, 0]), right));
     // Only one of them set: the vote is 0, and nothing is stuffed.
-    let worn = bytes(106, &[(0, 0xF4), (26, 0x08)]);
-    let right = bytes(106, &[(0, 0xF4)]);
+    let worn = bytes(106, &[(0, 0xF4), (1, 0x10), (26, 0x08)]);
+    let right = bytes(106, &[(0, 0xF4), (1, 0x10)]);
     assert_eq!(repaired(2, 16, &worn), (changed(0, [1, 0, 0, 0], [0; 4]), right));
 }
 
@@ -100,12 +106,16 @@ fn split_groups_of_five() {
 #[test]
 fn refusals() {
     let refusal = |level, earlier, line: usize| {
-        let (answer, after) = repaired(level, earlier, &vec![0xA5; line]);
-        if answer.refusal != 0 {
-            assert_eq!(answer, Repaired { refusal: answer.refusal, ..Repaired::default() });
-            assert_eq!(after, vec![0xA5; line], "a refused call wrote");
-        }
-        answer.refusal
+        let [off, on] = [0, 1].map(|national| {
+            let (answer, after) = switched(level, earlier, national, &vec![0xA5; line]);
+            if answer.refusal != 0 {
+                assert_eq!(answer, Repaired { refusal: answer.refusal, ..Repaired::default() });
+                assert_eq!(after, vec![0xA5; line], "a refused call wrote");
+            }
+            answer.refusal
+        });
+        assert_eq!(off, on, "the switch is never a reason to refuse");
+        off
     };
     for level in [0, 1, 5, 11, 13, 15, 258, 256 + 12, u64::MAX] {
         assert_eq!(refusal(level, 16, 105), 1);
@@ -166,12 +176,62 @@ fn any_line() {
     }
 }
 
+/// Lines of zeros with the switch on: at levels 2 and 3 place 11 becomes 1, at level 4 places 13, 14 and
+/// 15, and the remote alarm stays; at levels 12 and 14 no service digit changes. Any number is on.
+#[test]
+fn national_digits_with_the_switch() {
+    for (level, head, national) in
+        [(2, [0xF4, 0x10], 1), (3, [0xF4, 0x10], 1), (4, [0xFA, 0x07], 3)]
+    {
+        let frame = row(level).unwrap().frame_bytes();
+        for on in [1, 2, 256, 1 << 32, u64::MAX] {
+            let (answer, line) = switched(level, 16, on, &vec![0; 3 * frame]);
+            let words = 3 * if level == 4 { 6 } else { 5 };
+            assert_eq!(
+                answer,
+                Repaired { national: 3 * national, ..changed(words, [0; 4], [0; 4]) }
+            );
+            assert_eq!(line, bytes(frame, &[(0, head[0]), (1, head[1])]).repeat(3));
+            assert_eq!(switched(level, 16, on, &line), (changed(0, [0; 4], [0; 4]), line));
+        }
+    }
+    for level in [12, 14] {
+        let line = vec![0; row(level).unwrap().frame_bytes()];
+        assert_eq!(switched(level, 5, 1, &line), repaired(level, 5, &line));
+    }
+}
+
+/// On any line: the switch adds to the repair the national digits that were 0, counts them, and the
+/// notes read back differ in those bits alone; the tributaries do not.
+#[test]
+fn any_line_with_the_switch() {
+    let mut random = Random::new(14);
+    for round in 0..60 {
+        let row = row(LEVELS[round % 5]).unwrap();
+        let frames = random.index(6);
+        let line = random.bytes(frames * row.frame_bytes());
+        let earlier = random.below(16);
+        let (without, off) = repaired(row.level, earlier, &line);
+        let (answer, on) = switched(row.level, earlier, 1, &line);
+        assert_eq!(Repaired { national: 0, ..answer.clone() }, without);
+        let (notes, counts, digits) = readings(row, earlier, &line);
+        let national: Vec<u8> = notes.iter().map(|note| note | row.national_bits()).collect();
+        assert_eq!(readings(row, earlier, &on), (national, counts, digits));
+        let mut sums = [0; 15];
+        sums[2] = answer.national;
+        assert_eq!(compared(row.level, &off, &on), sums);
+        let zeros = notes.iter().map(|note| (!note & row.national_bits()).count_ones());
+        assert_eq!(answer.national, u64::from(zeros.sum::<u32>()));
+    }
+}
+
 /// A multiplexed line, and the same with damage of demand 3's sort, service digits excepted: alignment
 /// and stuffing digits at will, and in each control group at most one digit of three or two of five.
 fn sent_and_worn(random: &mut Random, row: &Row, earlier: u64) -> (Vec<u8>, Vec<u8>) {
     let frames = 1 + random.index(6);
     let known = ((1_u32 << row.note_bits()) - 1) as u8;
-    let notes: Vec<u8> = random.bytes(frames).iter().map(|note| note & known).collect();
+    let note = |note: &u8| note & known | row.national_bits();
+    let notes: Vec<u8> = random.bytes(frames).iter().map(note).collect();
     let buffer = random.bytes(4 * ((frames * row.most_digits() + 7) / 8));
     let mut line = vec![0; frames * row.frame_bytes()];
     assert_eq!(multiplex(row.level, earlier, &mut line, &notes, &buffer).refusal, 0);
@@ -213,5 +273,12 @@ fn a_worn_line_comes_back_as_it_was_sent() {
         let all = answer.word + (0..4).map(|j| answer.control[j] + answer.stuffing[j]).sum::<u64>();
         assert_eq!(all, compared(row.level, &line, &worn).iter().sum::<u64>());
         assert!(all > 0, "nothing was worn");
+        // National digits come back too with the switch, and it changes none that was sent.
+        let mut more = unpack(&worn, 8 * worn.len());
+        for (place, digit) in layout(row).into_iter().cycle().zip(&mut more) {
+            *digit ^= u8::from(matches!(place, Place::National(_)) && random.once_in(2));
+        }
+        assert_eq!(switched(row.level, earlier, 1, &pack(&more)).1, line);
+        assert_eq!(switched(row.level, earlier, 1, &worn), (answer, line));
     }
 }

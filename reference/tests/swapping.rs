@@ -153,7 +153,8 @@ struct Send {
 
 fn any_send(random: &mut Random, row: &Row, frames: usize) -> Send {
     let quarter = (frames * row.most_digits() + 7) / 8;
-    let notes = random.bytes(frames).iter().map(|note| note & 15).collect();
+    let note = |note: &u8| note & 15 | row.national_bits();
+    let notes = random.bytes(frames).iter().map(note).collect();
     Send { earlier: random.below(16), notes, buffer: random.bytes(4 * quarter) }
 }
 

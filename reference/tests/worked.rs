@@ -22,6 +22,16 @@ fn earlier(level: u64) -> u64 {
     }
 }
 
+/// The national digits of an accepted send, as the bits of a note: all 1 at levels 2 to 4, and
+/// none at levels 12 and 14.
+fn national(level: u64) -> u8 {
+    match level {
+        2 | 3 => 0x20,
+        4 => 0xE0,
+        _ => 0,
+    }
+}
+
 /// Multiplexes from quarters that are zero.
 fn from_zero(level: u64, line: usize, notes: &[u8], buffer: usize) -> (Counted, Vec<u8>) {
     from_zero_after(level, earlier(level), line, notes, buffer)
@@ -48,7 +58,7 @@ fn refusal(level: u64, line: usize, notes: &[u8], buffer: usize) -> u64 {
     if answer.refusal != 0 {
         assert_eq!(answer.counts, [0; 4]);
     }
-    if answer.refusal != 5 {
+    if answer.refusal != 5 && answer.refusal != 10 {
         assert_eq!(answer.frame, 0);
     }
     answer.refusal
@@ -150,9 +160,9 @@ fn feed_refused(state: &State, slice: usize, first: u64, count: u64) -> u64 {
 
 #[test]
 fn case_1() {
-    let (answer, line) = from_zero(2, 106, &[0], 104);
+    let (answer, line) = from_zero(2, 106, &[0x20], 104);
     assert_eq!(answer, accepted([206; 4]));
-    assert_eq!(line, bytes(106, &[(0, 0xF4)]));
+    assert_eq!(line, bytes(106, &[(0, 0xF4), (1, 0x10)]));
 }
 
 #[test]
@@ -165,9 +175,10 @@ fn case_2() {
 
 #[test]
 fn case_3() {
-    let (answer, line) = from_zero(3, 192, &[1], 192);
+    let (answer, line) = from_zero(3, 192, &[0x21], 192);
     assert_eq!(answer, accepted([377, 378, 378, 378]));
-    assert_eq!(line, bytes(192, &[(0, 0xF4), (48, 0x80), (96, 0x80), (144, 0x88)]));
+    let set = [(0, 0xF4), (1, 0x10), (48, 0x80), (96, 0x80), (144, 0x88)];
+    assert_eq!(line, bytes(192, &set));
 }
 
 #[test]
@@ -181,7 +192,7 @@ fn case_4() {
 /// The place in a frame of one digit of one tributary: where the line changes if the digit
 /// does.
 fn place_of(level: u64, tributary: usize, digit: usize, note: u8) -> Vec<usize> {
-    place_after(level, earlier(level), tributary, digit, &[note])
+    place_after(level, earlier(level), tributary, digit, &[note | national(level)])
 }
 
 /// The same in a line of several frames after an earlier vote.
@@ -196,7 +207,8 @@ fn place_after(
     let quarter = 91 * notes.len();
     let mut buffer = vec![0; 4 * quarter];
     let line = notes.len() * row.frame_bytes();
-    let (_, without) = from_zero_after(level, earlier, line, notes, buffer.len());
+    let (answer, without) = from_zero_after(level, earlier, line, notes, buffer.len());
+    assert_eq!(answer.refusal, 0);
     buffer[(tributary - 1) * quarter + digit / 8] = 0x80 >> (digit % 8);
     let mut with = without.clone();
     multiplex(level, earlier, &mut with, notes, &buffer);
@@ -220,7 +232,7 @@ fn cases_5_to_7() {
 /// The note, the dissent and the count of a zero frame with this group for tributary 1.
 fn read_group(level: u64, group: &str) -> (u8, u64, u64) {
     let row = row(level).unwrap();
-    let (_, line) = from_zero(level, row.frame_bytes(), &[0], 4 * 91);
+    let (_, line) = from_zero(level, row.frame_bytes(), &[national(level)], 4 * 91);
     let mut list = unpack(&line, row.frame_digits);
     for (k, digit) in digits(group).into_iter().enumerate() {
         list[(k + 1) * row.set_digits] = digit;
@@ -229,7 +241,8 @@ fn read_group(level: u64, group: &str) -> (u8, u64, u64) {
     let answer = receive(level, &pack(&list), &mut notes, &mut [0; 4 * 91]);
     assert_eq!((answer.refusal, answer.alignment), (0, 0));
     assert_eq!(answer.dissent[1..], [0; 3]);
-    (notes[0], answer.dissent[0], answer.counts[0])
+    assert_eq!(notes[0] & !0x0F, national(level));
+    (notes[0] & 0x0F, answer.dissent[0], answer.counts[0])
 }
 
 #[test]
@@ -245,11 +258,11 @@ fn case_8() {
 
 #[test]
 fn case_9() {
-    assert_eq!(refusal(2, 64 * 106, &[0; 64], 4 * 1648), 0);
-    assert_eq!(refusal(2, 65 * 106, &[0; 65], 4 * 1674), 2);
-    assert_eq!(refusal(2, 105, &[0], 104), 2);
-    assert_eq!(refusal(2, 106, &[0], 4 * 26), 0);
-    assert_eq!(refusal(2, 106, &[0], 4 * 25), 4);
+    assert_eq!(refusal(2, 64 * 106, &[0x20; 64], 4 * 1648), 0);
+    assert_eq!(refusal(2, 65 * 106, &[0x20; 65], 4 * 1674), 2);
+    assert_eq!(refusal(2, 105, &[0x20], 104), 2);
+    assert_eq!(refusal(2, 106, &[0x20], 4 * 26), 0);
+    assert_eq!(refusal(2, 106, &[0x20], 4 * 25), 4);
     assert_eq!(back_refusal(2, 64 * 106, 64, 4 * 1648), 0);
     assert_eq!(back_refusal(2, 65 * 106, 65, 4 * 1674), 2);
     assert_eq!(back_refusal(2, 105, 1, 104), 2);
@@ -265,7 +278,8 @@ fn case_10() {
 
 #[test]
 fn case_11() {
-    let (_, line) = from_zero(2, 106, &[0], 104);
+    let (_, line) = from_zero(2, 106, &[0x20], 104);
+    assert_eq!(line[..3], [0xF4, 0x10, 0x00]);
     let four = line.repeat(4);
     let first = feed(&start(2), &four, 0, 3392);
     assert_eq!((first.refusal, first.taken, first.ready), (0, 2544, true));
@@ -278,7 +292,7 @@ fn case_11() {
 
 #[test]
 fn case_11_in_pieces() {
-    let (_, line) = from_zero(2, 106, &[0], 104);
+    let (_, line) = from_zero(2, 106, &[0x20], 104);
     for size in [1, 7, 1000] {
         let (mut state, mut at, mut ready) = (start(2), 0, Vec::new());
         while at < 3392 {
@@ -331,7 +345,7 @@ fn lines_at_their_borders() {
         [(2, 106, 1674), (3, 192, 3072), (4, 366, 5875), (12, 132, 2089), (14, 272, 4372)]
     {
         for (frames, expected) in [(64, 0), (65, 2)] {
-            let notes = vec![0; frames];
+            let notes = vec![national(level); frames];
             assert_eq!(refusal(level, frames * frame_bytes, &notes, 4 * quarter), expected);
             assert_eq!(back_refusal(level, frames * frame_bytes, frames, 4 * quarter), expected);
         }
@@ -355,7 +369,7 @@ fn buffers_at_their_borders() {
     for (level, line, quarter) in
         [(2, 106, 26), (3, 192, 48), (4, 366, 91), (12, 132, 33), (14, 272, 68)]
     {
-        assert_eq!(refusal(level, line, &[0], 4 * quarter), 0);
+        assert_eq!(refusal(level, line, &[national(level)], 4 * quarter), 0);
         assert_eq!(back_refusal(level, line, 1, 4 * quarter), 0);
         for buffer in [0, 4 * quarter - 4, 4 * quarter - 1, 4 * quarter + 1, 4 * quarter + 2] {
             assert_eq!(refusal(level, line, &[0], buffer), 4);
@@ -369,11 +383,80 @@ fn notes_with_bits_that_the_level_lacks() {
     for level in [2, 3] {
         for note in [0x40, 0x80, 0xC0, 0xFF] {
             let line = row(level).unwrap().frame_bytes();
-            let (answer, _) = from_zero(level, 5 * line, &[0, 0x3F, note, 0, 0x80], 8000);
+            let (answer, _) = from_zero(level, 5 * line, &[0x20, 0x3F, note, 0, 0x80], 8000);
             assert_eq!(answer, Counted { refusal: 5, frame: 2, counts: [0; 4] });
         }
     }
-    assert_eq!(refusal(4, 366, &[0xC0], 364), 0);
+    assert_eq!(refusal(4, 366, &[0xE0], 364), 0);
+}
+
+/// What multiplexing answers to so many notes from quarters that are zero: refusal and named frame.
+fn judged(level: u64, notes: &[u8]) -> (u64, u64) {
+    let (answer, _) =
+        from_zero(level, notes.len() * row(level).unwrap().frame_bytes(), notes, 8000);
+    assert!(answer.refusal == 0 || answer.counts == [0; 4]);
+    (answer.refusal, answer.frame)
+}
+
+/// Request 14: every national digit of the level is 1, in every note, and the first frame without is named.
+#[test]
+fn national_digits_are_retired() {
+    for level in [2, 3] {
+        for note in 0..0x40 {
+            assert_eq!(judged(level, &[note]), if note & 0x20 == 0 { (10, 0) } else { (0, 0) });
+        }
+        assert_eq!(judged(level, &[0x20, 0x3F, 0x1F, 0x20, 0]), (10, 2));
+        assert_eq!(judged(level, &[0x20, 0x20, 0x30, 0x2F, 0x10]), (10, 4));
+    }
+    // At level 4 bits 5, 6 and 7, each missing alone or with others; the remote alarm is free.
+    for note in 0..=0xFF {
+        assert_eq!(judged(4, &[note]), if note >> 5 == 7 { (0, 0) } else { (10, 0) });
+        assert_eq!(judged(4, &[0xE0, 0xFF, note]), if note >> 5 == 7 { (0, 0) } else { (10, 2) });
+    }
+    // Never at levels 12 and 14, where these bits must be 0.
+    for level in [12, 14] {
+        for note in 0..=0xFF {
+            assert_eq!(judged(level, &[note]), if note < 16 { (0, 0) } else { (5, 0) });
+        }
+    }
+    // No note is at fault where there is none.
+    for level in [2, 3, 4, 12, 14] {
+        assert_eq!(judged(level, &[]), (0, 0));
+    }
+}
+
+/// 10 comes after 5 over all notes, and after all that comes before 5.
+#[test]
+fn national_digits_are_asked_for_last() {
+    assert_eq!(judged(2, &[0, 0x40]), (5, 1));
+    assert_eq!(judged(3, &[0, 0x20, 0xA0]), (5, 2));
+    assert_eq!(judged(2, &[0x40, 0]), (5, 0));
+    assert_eq!(judged(2, &[0x20, 0]), (10, 1));
+    for (level, line, quarter) in [(2, 106, 26), (3, 192, 48), (4, 366, 91)] {
+        assert_eq!(refusal(5, line, &[0], 4 * quarter), 1);
+        assert_eq!(refusal(level, line - 1, &[0], 4 * quarter), 2);
+        assert_eq!(refusal(level, line, &[0, 0], 4 * quarter), 3);
+        assert_eq!(refusal(level, line, &[0], 4 * quarter - 4), 4);
+        assert_eq!(refusal(level, line, &[0], 4 * quarter - 1), 4);
+        assert_eq!(refusal(level, line, &[0], 4 * quarter), 10);
+    }
+}
+
+/// Reading reports the digits as they came, and extraction goes by such notes.
+#[test]
+fn national_digits_are_read_as_they_came() {
+    for (level, line, quarter) in [(2, 106, 26), (3, 192, 48), (4, 366, 91)] {
+        let (_, sent) = from_zero(level, line, &[national(level)], 4 * quarter);
+        let mut worn = unpack(&sent, 8 * line);
+        let places = frame::layout(row(level).unwrap());
+        for (place, digit) in places.into_iter().zip(&mut worn) {
+            *digit &= u8::from(!matches!(place, Place::National(_)));
+        }
+        let (mut notes, mut back) = ([0xA5], vec![0xA5; 4 * quarter]);
+        assert_eq!(receive(level, &pack(&worn), &mut notes, &mut back).refusal, 0);
+        assert_eq!((notes, judged(level, &notes)), ([0], (10, 0)));
+        assert_eq!(back, vec![0; 4 * quarter]);
+    }
 }
 
 #[test]
@@ -398,9 +481,9 @@ fn the_order_of_faults() {
 
 #[test]
 fn room_is_asked_for_unstuffed_frames() {
-    assert_eq!(refusal(2, 8 * 106, &[0x0F; 8], 4 * 205), 4);
-    assert_eq!(refusal(2, 8 * 106, &[0x0F; 8], 4 * 206), 0);
-    assert_eq!(from_zero(2, 8 * 106, &[0x0F; 8], 4 * 206).0, accepted([8 * 205; 4]));
+    assert_eq!(refusal(2, 8 * 106, &[0x2F; 8], 4 * 205), 4);
+    assert_eq!(refusal(2, 8 * 106, &[0x2F; 8], 4 * 206), 0);
+    assert_eq!(from_zero(2, 8 * 106, &[0x2F; 8], 4 * 206).0, accepted([8 * 205; 4]));
 }
 
 #[test]
@@ -420,27 +503,33 @@ fn digits_run_on_from_frame_to_frame() {
     let mut buffer = vec![0; 4 * 52];
     buffer[206 / 8] = 0x80 >> (206 % 8);
     let mut line = vec![0; 212];
-    multiplex(2, NOT_LOOKED_AT, &mut line, &[0, 0], &buffer);
-    assert_eq!(line, bytes(212, &[(0, 0xF4), (106, 0xF4), (107, 0x08)]));
-    multiplex(2, NOT_LOOKED_AT, &mut line, &[1, 0], &buffer);
+    multiplex(2, NOT_LOOKED_AT, &mut line, &[0x20, 0x20], &buffer);
+    assert_eq!(line, bytes(212, &[(0, 0xF4), (1, 0x10), (106, 0xF4), (107, 0x18)]));
+    multiplex(2, NOT_LOOKED_AT, &mut line, &[0x21, 0x20], &buffer);
     assert_eq!(unpack(&line, 1696)[848 + 12..848 + 17], [0, 0, 0, 0, 1]);
 }
 
+/// Sent, the national digits are 1; read, each has its own bit.
 #[test]
 fn service_digits_of_level_4() {
+    for (note, byte) in [(0xE0, 0x07), (0xF0, 0x0F)] {
+        let (answer, line) = from_zero(4, 366, &[note], 364);
+        assert_eq!((answer.refusal, line), (0, bytes(366, &[(0, 0xFA), (1, byte)])));
+    }
     for (note, byte) in [(0x10, 0x08), (0x20, 0x04), (0x40, 0x02), (0x80, 0x01)] {
-        let (_, line) = from_zero(4, 366, &[note], 364);
-        assert_eq!(line, bytes(366, &[(0, 0xFA), (1, byte)]));
+        let (line, mut notes) = (bytes(366, &[(0, 0xFA), (1, byte)]), [0xA5]);
+        assert_eq!(read_notes(4, &line, &mut notes), Noted::default());
+        assert_eq!(notes, [note]);
     }
 }
 
 #[test]
 fn old_notes_are_not_judged() {
-    let (_, line) = from_zero(2, 106, &[0], 104);
+    let (_, line) = from_zero(2, 106, &[0x20], 104);
     let mut notes = [0xC0];
     let answer = receive(2, &line, &mut notes, &mut [0xFF; 104]);
     assert_eq!(answer.refusal, 0);
-    assert_eq!(notes, [0]);
+    assert_eq!(notes, [0x20]);
 }
 
 #[test]
@@ -464,7 +553,7 @@ fn decisions_are_used_in_their_own_frame() {
     // lose a carried one, and all that follows would be shifted.
     for (level, line, quarter) in [(2, 106, 206), (3, 192, 378), (4, 366, 723)] {
         let sent: Vec<u8> = (0..4 * quarter).map(|k| (k * 151 % 251) as u8).collect();
-        let notes = [0x05, 0x0A, 0x0A, 0x05, 0x01, 0x00, 0x0E, 0x0F];
+        let notes = [0x05, 0x0A, 0x0A, 0x05, 0x01, 0x00, 0x0E, 0x0F].map(|n| n | national(level));
         let mut bytes = vec![0; 8 * line];
         let there = multiplex(level, NOT_LOOKED_AT, &mut bytes, &notes, &sent);
         let stuffed = |j: usize| notes.iter().filter(|&&note| note >> j & 1 == 1).count();
@@ -565,7 +654,7 @@ fn pieces_at_their_borders() {
     assert_eq!(feed_refused(&start(2), 1, u64::MAX, 2), 7);
     assert_eq!(feed_refused(&start(2), 1, 2, u64::MAX), 7);
     assert_eq!(feed_refused(&start(2), 1, u64::MAX, u64::MAX), 7);
-    let (_, line) = from_zero(2, 106, &[0], 104);
+    let (_, line) = from_zero(2, 106, &[0x20], 104);
     assert_eq!(feed(&start(2), &line.repeat(3), 0, 2545).refusal, 7);
     assert_eq!(feed(&start(2), &line.repeat(3), 0, 2544).taken, 2544);
 }
@@ -665,7 +754,7 @@ fn feeding_agrees_with_the_search_through_the_whole_stream() {
 fn extraction_goes_by_the_notes_given() {
     // Alternating decisions, extracted by the same notes a frame late: tributary 1, whose
     // decision does not change, comes out as before, the others do not.
-    let (notes, late) = ([0x01, 0x0F, 0x01, 0x0F], [0x0F, 0x01, 0x0F, 0x01]);
+    let (notes, late) = ([0x21, 0x2F, 0x21, 0x2F], [0x2F, 0x21, 0x2F, 0x21]);
     let sent: Vec<u8> = (0..4 * 103).map(|k| (k * 151 % 251) as u8).collect();
     let mut line = vec![0; 4 * 106];
     assert_eq!(multiplex(2, NOT_LOOKED_AT, &mut line, &notes, &sent).refusal, 0);
@@ -907,9 +996,9 @@ fn earlier_votes_that_are_refused() {
         // A quarter without room for 257 or 538 digits, though 255 or 536 are sent.
         assert_eq!(refused(level, 15, line, &[15], 4 * quarter - 4), (4, 0));
     }
-    assert_eq!(refused(2, 16, 106, &[0], 104), (0, 0));
-    assert_eq!(refused(3, u64::MAX, 192, &[0], 192), (0, 0));
-    assert_eq!(refused(4, 16, 366, &[0], 364), (0, 0));
+    assert_eq!(refused(2, 16, 106, &[0x20], 104), (0, 0));
+    assert_eq!(refused(3, u64::MAX, 192, &[0x20], 192), (0, 0));
+    assert_eq!(refused(4, 16, 366, &[0xE0], 364), (0, 0));
 }
 
 /// Levels 2 to 4 do the same whatever the earlier vote.
@@ -919,10 +1008,12 @@ fn earlier_votes_that_are_not_looked_at() {
     for level in 2..=4 {
         let bytes = 2 * row(level).unwrap().frame_bytes();
         let (mut one, mut other) = (vec![0; bytes], vec![0xFF; bytes]);
-        let answer = multiplex(level, 0, &mut one, &[0x05, 0x0A], &sent);
+        let notes = [0x05, 0x0A].map(|note| note | national(level));
+        let answer = multiplex(level, 0, &mut one, &notes, &sent);
+        assert_eq!(answer.refusal, 0);
         let (mut ours, mut theirs) = (vec![0; 4 * 182], vec![0xFF; 4 * 182]);
         for earlier in [5, 15, 16, u64::MAX] {
-            assert_eq!(multiplex(level, earlier, &mut other, &[0x05, 0x0A], &sent), answer);
+            assert_eq!(multiplex(level, earlier, &mut other, &notes, &sent), answer);
             assert_eq!(one, other);
             assert_eq!(extract(level, 0, &one, &[0x0A, 0x05], &mut ours), answer);
             assert_eq!(extract(level, earlier, &one, &[0x0A, 0x05], &mut theirs), answer);

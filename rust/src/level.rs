@@ -44,15 +44,16 @@ struct Row {
     tributary_digits: usize,
     room_digits: usize,
     note_bits: u8,
+    national_bits: u8,
 }
 
 #[rustfmt::skip]
 const TABLE: [Row; 5] = [
-    Row { number:  2, kilobits:   8_448, frame_digits:   848, word_digits: 10, tributary_digits: 206, room_digits: 206, note_bits: 0x3F },
-    Row { number:  3, kilobits:  34_368, frame_digits: 1_536, word_digits: 10, tributary_digits: 378, room_digits: 378, note_bits: 0x3F },
-    Row { number:  4, kilobits: 139_264, frame_digits: 2_928, word_digits: 12, tributary_digits: 723, room_digits: 723, note_bits: 0xFF },
-    Row { number: 12, kilobits:   8_448, frame_digits: 1_056, word_digits:  8, tributary_digits: 256, room_digits: 257, note_bits: 0x0F },
-    Row { number: 14, kilobits: 139_264, frame_digits: 2_176, word_digits: 10, tributary_digits: 537, room_digits: 538, note_bits: 0x0F },
+    Row { number:  2, kilobits:   8_448, frame_digits:   848, word_digits: 10, tributary_digits: 206, room_digits: 206, note_bits: 0x3F, national_bits: 0x20 },
+    Row { number:  3, kilobits:  34_368, frame_digits: 1_536, word_digits: 10, tributary_digits: 378, room_digits: 378, note_bits: 0x3F, national_bits: 0x20 },
+    Row { number:  4, kilobits: 139_264, frame_digits: 2_928, word_digits: 12, tributary_digits: 723, room_digits: 723, note_bits: 0xFF, national_bits: 0xE0 },
+    Row { number: 12, kilobits:   8_448, frame_digits: 1_056, word_digits:  8, tributary_digits: 256, room_digits: 257, note_bits: 0x0F, national_bits: 0x00 },
+    Row { number: 14, kilobits: 139_264, frame_digits: 2_176, word_digits: 10, tributary_digits: 537, room_digits: 538, note_bits: 0x0F, national_bits: 0x00 },
 ];
 
 impl Level {
@@ -111,6 +112,20 @@ impl Level {
     /// The bits that a note of this level may have set.
     pub fn note_bits(self) -> u8 {
         self.row().note_bits
+    }
+
+    /// The bits of the national digits, which every note that is sent must have set: bit 5, at level 4
+    /// bits 5 to 7, and none at levels 12 and 14.
+    ///
+    /// ```
+    /// use spritbobbin::{multiplex, Level};
+    ///
+    /// let level = Level::Four;
+    /// let note = 0b0001 | level.national_bits(); // tributary 1 is stuffed
+    /// assert!(multiplex(level, 0, &mut [0; 366], &[note], &[0; 364]).is_ok());
+    /// ```
+    pub fn national_bits(self) -> u8 {
+        self.row().national_bits
     }
 
     /// Whether a frame acts on the vote of the frame before it too, so that multiplexing and

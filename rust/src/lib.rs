@@ -35,7 +35,9 @@
 //! | 5 | 32 | the first national digit is 1 | 2 to 4 |
 //! | 6, 7 | 64, 128 | the second, third national digit is 1 | 4 |
 //!
-//! A stuffed tributary sends one digit fewer in that frame.
+//! A stuffed tributary sends one digit fewer in that frame. National digits are retired: a note that
+//! is sent has them all 1, which are its level's [`Level::national_bits`]. A note that is read has them
+//! as they came.
 //!
 //! # Levels 12 and 14
 //!
@@ -54,7 +56,8 @@
 //!
 //! # fn main() -> Result<(), spritbobbin::Refusal> {
 //! let level = Level::Two;
-//! let notes = [0b0000_0001, 0, 0]; // tributary 1 is stuffed in the first of three frames
+//! // Tributary 1 is stuffed in the first of three frames; the national digit is 1 in each.
+//! let notes = [0b0010_0001, 0b0010_0000, 0b0010_0000];
 //! let buffer = vec![0b1010_1010; level.buffer_bytes(notes.len())];
 //! let mut line = vec![0; notes.len() * level.frame_bytes()];
 //!

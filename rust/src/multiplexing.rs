@@ -31,13 +31,14 @@ pub struct Extracted {
 /// Builds the frames of a line: writes the whole line from the notes and the buffer's quarters.
 ///
 /// There are as many frames as the line has room for. Digits of a quarter past those sent are not
-/// looked at. `earlier` is the vote before the first frame, 0 to 15, bit j - 1 for tributary j;
+/// looked at. National digits are sent as 1: each note of levels 2 to 4 must have its
+/// [`Level::national_bits`] set. `earlier` is the vote before the first frame, 0 to 15, bit j - 1 for tributary j;
 /// levels 2 to 4 do not look at it.
 ///
 /// # Errors
 ///
 /// In this order: [`Refusal::Line`], [`Refusal::Notes`], [`Refusal::Buffer`],
-/// [`Refusal::Earlier`], [`Refusal::NoteBits`]. The line is then as it was.
+/// [`Refusal::Earlier`], [`Refusal::NoteBits`], [`Refusal::National`]. The line is then as it was.
 ///
 /// # Examples
 ///
@@ -46,10 +47,10 @@ pub struct Extracted {
 ///
 /// # fn main() -> Result<(), spritbobbin::Refusal> {
 /// let mut line = [0xFF; 106];
-/// let sent = multiplex(Level::Two, 0, &mut line, &[0], &[0; 104])?;
+/// let sent = multiplex(Level::Two, 0, &mut line, &[0b10_0000], &[0; 104])?;
 /// assert_eq!(sent.digits, [206; 4]);
-/// assert_eq!(line[0], 0xF4); // the word 1111010000 begins
-/// assert!(line[1..].iter().all(|byte| *byte == 0));
+/// assert_eq!(line[..2], [0xF4, 0x10]); // the word 1111010000, no remote alarm, the national digit
+/// assert!(line[2..].iter().all(|byte| *byte == 0));
 /// # Ok(())
 /// # }
 /// ```
@@ -195,7 +196,8 @@ pub(crate) fn read_notes_by(
 /// # Errors
 ///
 /// In this order: [`Refusal::Line`], [`Refusal::Notes`], [`Refusal::Buffer`],
-/// [`Refusal::Earlier`], [`Refusal::NoteBits`]. The buffer is then as it was.
+/// [`Refusal::Earlier`], [`Refusal::NoteBits`]. The buffer is then as it was. National digits of any
+/// kind are accepted.
 ///
 /// # Examples
 ///
@@ -273,6 +275,7 @@ impl Lent {
             // The earlier vote is judged before the notes.
             5 if level.refuses_earlier(earlier) => Refusal::Earlier { level, earlier },
             5 => Refusal::NoteBits { level, frame },
+            10 => Refusal::National { level, frame },
             _ => Refusal::Unknown { number },
         }
     }

@@ -140,13 +140,15 @@ extern "C" {
         answer: &mut [u64; 1],
     ) -> u64;
 
-    /// Answer: changed digits of the words, then control, then stuffing of tributaries 1 to 4.
+    /// Answer: changed digits of the words, then control, then stuffing of tributaries 1 to 4, then
+    /// national digits.
     pub fn spritbobbin_repair(
         level: u64,
         earlier: u64,
+        national: u64,
         line: *mut u8,
         line_bytes: usize,
-        answer: &mut [u64; 9],
+        answer: &mut [u64; 10],
     ) -> u64;
 
     /// State: level, window, digits seen, mode, place, the stretch's digits and zeros, 1 if the

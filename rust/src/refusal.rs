@@ -15,7 +15,7 @@ use crate::rack::MOST_LINES;
 /// use spritbobbin::{multiplex, Level};
 ///
 /// let mut line = [0; 3 * 106];
-/// let refusal = multiplex(Level::Two, 0, &mut line, &[0, 0, 0x40], &[0; 312]).unwrap_err();
+/// let refusal = multiplex(Level::Two, 0, &mut line, &[0x20, 0x20, 0x60], &[0; 312]).unwrap_err();
 /// assert_eq!(refusal.number(), 5);
 /// assert_eq!(
 ///     refusal.to_string(),
@@ -77,6 +77,13 @@ pub enum Refusal {
     },
     /// A note has a bit that notes of its level have not.
     NoteBits {
+        /// The level asked for.
+        level: Level,
+        /// The first such frame, counted from 0.
+        frame: usize,
+    },
+    /// A note to be sent at level 2, 3 or 4 has a national digit of 0.
+    National {
         /// The level asked for.
         level: Level,
         /// The first such frame, counted from 0.
@@ -152,6 +159,7 @@ impl Refusal {
             Refusal::Digits { .. } => 7,
             Refusal::RackLine { .. } => 8,
             Refusal::Label { .. } | Refusal::Field { .. } => 9,
+            Refusal::National { .. } => 10,
             Refusal::Signalling { .. } => 11,
             Refusal::Tributary { .. } => 12,
             Refusal::Unknown { number } => *number,
@@ -190,6 +198,7 @@ impl fmt::Display for Refusal {
                  since frame 0 of {level} acts on it too"
             ),
             Refusal::NoteBits { level, frame } => wrong_note(out, level, frame),
+            Refusal::National { level, frame } => no_national(out, level, frame),
             Refusal::State => write!(
                 out,
                 "the receiver state is not valid: resume from one that a receiver gave, \
@@ -256,6 +265,15 @@ fn wrong_note(out: &mut fmt::Formatter<'_>, level: Level, frame: usize) -> fmt::
     } else {
         write!(out, "bit 6 or 7 set: clear both, since {level} has only one national digit, bit 5")
     }
+}
+
+fn no_national(out: &mut fmt::Formatter<'_>, level: Level, frame: usize) -> fmt::Result {
+    let bits = if level.national_bits() == 0x20 { "bit 5" } else { "bits 5, 6 and 7" };
+    write!(
+        out,
+        "the note of frame {frame} (counted from 0) has a national digit of 0: set {bits}, \
+         since {level} sends national digits as 1"
+    )
 }
 
 fn wrong_line(out: &mut fmt::Formatter<'_>, level: Level, bytes: usize) -> fmt::Result {

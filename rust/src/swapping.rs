@@ -26,13 +26,13 @@ use crate::{Level, Refusal};
 /// # fn main() -> Result<(), spritbobbin::Refusal> {
 /// let (mut line, mut anew) = ([0; 106], [0; 106]);
 /// let mut buffer = [0; 104];
-/// multiplex(Level::Two, 0, &mut line, &[0], &buffer)?;
+/// multiplex(Level::Two, 0, &mut line, &[0b10_0000], &buffer)?;
 ///
 /// // Tributary 2 is of ones, and stuffed.
 /// assert_eq!(swap(Level::Two, 0, 2, &mut line, &[0b0010], &[0xFF; 26])?, 205);
 ///
 /// buffer[26..52].fill(0xFF);
-/// multiplex(Level::Two, 0, &mut anew, &[0b0010], &buffer)?;
+/// multiplex(Level::Two, 0, &mut anew, &[0b10_0010], &buffer)?;
 /// assert_eq!(line, anew);
 /// # Ok(())
 /// # }

@@ -19,10 +19,10 @@ fn written(
 #[test]
 fn the_example() {
     let mut line = [0; 106];
-    multiplex(Level::Two, 0, &mut line, &[0], &[0; 104]).unwrap();
+    multiplex(Level::Two, 0, &mut line, &[0x20], &[0; 104]).unwrap();
     let file = written(Level::Two, &line, None, 113).unwrap();
     assert_eq!(file.len(), 113);
-    assert_eq!(file[..9], [0x01, 0x00, 0x01, 0x02, 0x02, 0x00, 0x6A, 0xF4, 0x00]);
+    assert_eq!(file[..9], [0x01, 0x00, 0x01, 0x02, 0x02, 0x00, 0x6A, 0xF4, 0x10]);
     assert_eq!(file[7..], line);
 }
 

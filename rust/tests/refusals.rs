@@ -2,8 +2,8 @@
 
 use spritbobbin::{extract, multiplex, read_notes, Level, Receiver, Refusal, State};
 
-/// The refusals of multiplexing and of extraction, which are the same, that are lent so many bytes and
-/// these notes; and that reading notes is refused for the line and the number of notes alone.
+/// The refusals of multiplexing and of extraction, which are the same but for refusal 10, that are lent
+/// so many bytes and these notes; and that reading notes is refused for the line and the number of notes alone.
 fn refusals_after(
     earlier: u8,
     level: Level,
@@ -43,7 +43,7 @@ fn borders() {
     for level in Level::ALL {
         let (frame, room) = (level.frame_bytes(), |frames| level.buffer_bytes(frames));
         for frames in [0, 1, 2, 7, 8, 63, 64] {
-            let notes = vec![0; frames];
+            let notes = vec![level.national_bits(); frames];
             assert_eq!(numbers(level, frames * frame, &notes, room(frames)), [0; 2]);
             assert_eq!(numbers(level, frames * frame, &notes, room(frames) + 4), [0; 2]);
             assert_eq!(numbers(level, frames * frame, &notes, room(frames) + 1), [4; 2]);
@@ -63,8 +63,8 @@ fn borders() {
 #[test]
 fn room_is_asked_for_whole_frames_even_where_stuffed() {
     // Eight stuffed frames need 1640 digits, 205 bytes; 1648 are asked for.
-    assert_eq!(numbers(Level::Two, 8 * 106, &[0x0F; 8], 4 * 205), [4; 2]);
-    assert_eq!(numbers(Level::Two, 8 * 106, &[0x0F; 8], 4 * 206), [0; 2]);
+    assert_eq!(numbers(Level::Two, 8 * 106, &[0x2F; 8], 4 * 205), [4; 2]);
+    assert_eq!(numbers(Level::Two, 8 * 106, &[0x2F; 8], 4 * 206), [0; 2]);
     // A stuffed frame of level 12 needs 255 digits, 32 bytes; 257 are asked for.
     let stuffed =
         |room| refusals_after(15, Level::Twelve, 132, &[0x0F], room).map(|it| it.is_some());
@@ -87,8 +87,45 @@ fn bits_6_and_7_belong_to_level_4() {
             let both = refusals(level, 4 * level.frame_bytes(), &notes, level.buffer_bytes(4));
             assert_eq!(both, [Some(Refusal::NoteBits { level, frame: 2 }); 2]);
         }
+        let notes = notes.map(|note| note | 0xE0);
         assert_eq!(numbers(Level::Four, 4 * 366, &notes, 4 * 362), [0; 2]);
     }
+}
+
+/// Every note by itself, and after and before one that is sent: multiplexing refuses with 10 exactly
+/// those that the level knows and that lack a national digit, and names the first. Extraction never does.
+#[test]
+fn national_digits_are_sent_as_1() {
+    for level in Level::ALL {
+        let (frame, national) = (level.frame_bytes(), level.national_bits());
+        for note in (0..=0xFF).filter(|note| note & !level.note_bits() == 0) {
+            let wrong = note & national != national;
+            let named = |frame| wrong.then_some(Refusal::National { level, frame });
+            let of = |notes: &[u8]| {
+                refusals(level, notes.len() * frame, notes, level.buffer_bytes(notes.len()))
+            };
+            assert_eq!(of(&[note]), [named(0), None], "{level}, {note:02x}");
+            assert_eq!(of(&[national, note, note]), [named(1), None], "{level}, {note:02x}");
+            assert_eq!(of(&[note, national]), [named(0), None], "{level}, {note:02x}");
+        }
+        assert_eq!(refusals(level, 0, &[], 0), [None; 2]);
+    }
+}
+
+/// A bit that the level lacks is refused before, in any note; so is a short buffer.
+#[test]
+fn national_digits_come_last() {
+    for level in [Level::Two, Level::Three] {
+        let (line, room) = (3 * level.frame_bytes(), level.buffer_bytes(3));
+        let bits = |frame| [Some(Refusal::NoteBits { level, frame }); 2];
+        assert_eq!(refusals(level, line, &[0, 0x20, 0x40], room), bits(2));
+        assert_eq!(refusals(level, line, &[0x20, 0x80, 0], room), bits(1));
+        let buffer = Some(Refusal::Buffer { level, bytes: room - 4, frames: 3 });
+        assert_eq!(refusals(level, line, &[0; 3], room - 4), [buffer; 2]);
+    }
+    assert_eq!(numbers(Level::Four, 366, &[0], 360), [4; 2]);
+    assert_eq!(numbers(Level::Four, 366, &[0; 2], 364), [3; 2]);
+    assert_eq!(numbers(Level::Four, 366, &[0], 364), [10, 0]);
 }
 
 #[test]
@@ -166,6 +203,16 @@ fn each_says_what_is_wrong_and_what_to_do() {
         printed(Level::Twelve, 132, &[0x10], 132),
         "the note of frame 0 (counted from 0) has one of bits 4 to 7 set: clear them, \
          since a note of level 12 has only votes"
+    );
+    assert_eq!(
+        printed(Level::Three, 2 * 192, &[0x20, 0x10], 380),
+        "the note of frame 1 (counted from 0) has a national digit of 0: set bit 5, \
+         since level 3 sends national digits as 1"
+    );
+    assert_eq!(
+        printed(Level::Four, 366, &[0xDF], 364),
+        "the note of frame 0 (counted from 0) has a national digit of 0: set bits 5, 6 and 7, \
+         since level 4 sends national digits as 1"
     );
     assert_eq!(
         refusals_after(16, Level::Fourteen, 272, &[0], 272)[0].unwrap().to_string(),

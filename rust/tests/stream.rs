@@ -6,8 +6,8 @@ use spritbobbin::{multiplex, FrameStream, Level, Mode, Receiver};
 
 /// A line of so many frames, with tributaries that do not imitate the word.
 fn line(level: Level, frames: usize) -> Vec<u8> {
-    let notes: Vec<u8> =
-        (0..frames).map(|frame| (frame * 7 % 64) as u8 & level.note_bits()).collect();
+    let note = |frame| (frame * 7 % 64) as u8 & level.note_bits() | level.national_bits();
+    let notes: Vec<u8> = (0..frames).map(note).collect();
     let mut line = vec![0; frames * level.frame_bytes()];
     multiplex(level, 0, &mut line, &notes, &vec![0b0101_1011; level.buffer_bytes(frames)]).unwrap();
     line

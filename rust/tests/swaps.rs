@@ -17,7 +17,8 @@ impl Four {
         let length = level.buffer_bytes(FRAMES);
         Four {
             earlier: (seed * 7 + 3) as u8 & 15,
-            notes: [0, 1, 2, 3, 4].map(|frame| (frame * 11 + seed * 5) as u8 & 15),
+            notes: [0, 1, 2, 3, 4]
+                .map(|frame| (frame * 11 + seed * 5) as u8 & 15 | level.national_bits()),
             buffer: (0..length).map(|at| (at * at / 3 + at * seed + seed) as u8).collect(),
         }
     }

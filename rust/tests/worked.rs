@@ -45,7 +45,7 @@ fn works(level: Level, earlier: u8, notes: &[u8], digits: [usize; 4], set: &[(us
 
 #[test]
 fn case_1() {
-    works(Level::Two, 0, &[0], [206; 4], &[(0, 0xF4)]);
+    works(Level::Two, 0, &[0x20], [206; 4], &[(0, 0xF4), (1, 0x10)]);
 }
 
 #[test]
@@ -56,8 +56,8 @@ fn case_2() {
 
 #[test]
 fn case_3() {
-    let set = [(0, 0xF4), (48, 0x80), (96, 0x80), (144, 0x88)];
-    works(Level::Three, 0, &[1], [377, 378, 378, 378], &set);
+    let set = [(0, 0xF4), (1, 0x10), (48, 0x80), (96, 0x80), (144, 0x88)];
+    works(Level::Three, 0, &[0x21], [377, 378, 378, 378], &set);
 }
 
 #[test]
@@ -124,7 +124,7 @@ fn the_negative_place_has_the_earlier_digit() {
 
 /// Whether tributary 1 reads as stuffed from these control digits, and how many dissent.
 fn vote(level: Level, control: &[u8]) -> (bool, usize) {
-    let (_, mut line) = from_zeros(level, 0, &[0]);
+    let (_, mut line) = from_zeros(level, 0, &[level.national_bits()]);
     let sets = control.len() + 1;
     for (set, digit) in control.iter().enumerate() {
         // The first digit of every set after the first, which begins within a byte at level 2.
@@ -134,7 +134,8 @@ fn vote(level: Level, control: &[u8]) -> (bool, usize) {
     let mut notes = [0];
     let noted = read_notes(level, &line, &mut notes).unwrap();
     assert_eq!(noted.dissent[1..], [0; 3]);
-    (notes == [1], noted.dissent[0])
+    assert_eq!(notes[0] & !1, level.national_bits());
+    (notes[0] & 1 == 1, noted.dissent[0])
 }
 
 #[test]
@@ -155,11 +156,11 @@ fn multiplexed(level: Level, line: usize, notes: &[u8], buffer: usize) -> u64 {
 
 #[test]
 fn case_9() {
-    assert_eq!(multiplexed(Level::Two, 64 * 106, &[0; 64], 4 * 1648), 0);
-    assert_eq!(multiplexed(Level::Two, 65 * 106, &[0; 65], 4 * 1674), 2);
-    assert_eq!(multiplexed(Level::Two, 105, &[0], 4 * 26), 2);
-    assert_eq!(multiplexed(Level::Two, 106, &[0], 4 * 26), 0);
-    assert_eq!(multiplexed(Level::Two, 106, &[0], 4 * 25), 4);
+    assert_eq!(multiplexed(Level::Two, 64 * 106, &[0x20; 64], 4 * 1648), 0);
+    assert_eq!(multiplexed(Level::Two, 65 * 106, &[0x20; 65], 4 * 1674), 2);
+    assert_eq!(multiplexed(Level::Two, 105, &[0x20], 4 * 26), 2);
+    assert_eq!(multiplexed(Level::Two, 106, &[0x20], 4 * 26), 0);
+    assert_eq!(multiplexed(Level::Two, 106, &[0x20], 4 * 25), 4);
 }
 
 #[test]
@@ -170,7 +171,8 @@ fn case_10() {
 
 #[test]
 fn case_11() {
-    let (_, frame) = from_zeros(Level::Two, 0, &[0]);
+    let (_, frame) = from_zeros(Level::Two, 0, &[0x20]);
+    assert_eq!(frame, bytes(106, &[(0, 0xF4), (1, 0x10)]));
     let stream = frame.repeat(4);
     let mut receiver = Receiver::new(Level::Two);
 
@@ -209,7 +211,8 @@ fn digits_by(level: Level, earlier: u8, notes: &[u8]) -> [usize; 4] {
 #[test]
 fn alternating_decisions_come_back() {
     for level in Level::ALL {
-        let notes: Vec<u8> = (0..64).map(|frame| [0x05, 0x0A, 0x0F, 0x00][frame % 4]).collect();
+        let note = |frame: usize| [0x05, 0x0A, 0x0F, 0x00][frame % 4] | level.national_bits();
+        let notes: Vec<u8> = (0..64).map(note).collect();
         let earlier = 0x09;
         let length = level.buffer_bytes(64);
         let buffer: Vec<u8> = (0..length).map(|at| (at * at / 7 + at) as u8).collect();
@@ -253,9 +256,11 @@ fn a_run_in_two_lines() {
 #[test]
 fn levels_2_to_4_do_not_look_at_the_earlier_vote() {
     for level in [Level::Two, Level::Three, Level::Four] {
-        let line = from_zeros(level, 0, &[0x05, 0x0A]);
+        let notes = [0x05, 0x0A].map(|note| note | level.national_bits());
+        let line = from_zeros(level, 0, &notes);
+        assert!(line.0.is_ok());
         for earlier in [15, 16, 255] {
-            assert_eq!(from_zeros(level, earlier, &[0x05, 0x0A]), line);
+            assert_eq!(from_zeros(level, earlier, &notes), line);
         }
     }
 }

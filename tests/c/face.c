@@ -50,15 +50,15 @@ static int all_zero(const uint64_t *numbers, size_t count)
 }
 
 /* Multiplexes notes of one value and a buffer of zeros, extracts the line by these notes, and reads the notes back.
-   Checks the refusals, which are multiplexing's but that reading has no buffer and judges no old notes, that a refused
-   call leaves what it was lent, and what case 1 says. */
+   Checks the refusals, which are multiplexing's but that extraction never gives 10, and that reading has no buffer and judges
+   no old notes, that a refused call leaves what it was lent, and what case 1 says. */
 static void both_ways(uint64_t level, size_t frame_bytes, size_t frames, size_t notes_bytes,
                       uint8_t note, size_t buffer_bytes, uint64_t sent)
 {
     size_t line_bytes = frame_bytes * frames;
     uint8_t *line = lend(line_bytes, 0xA5), *notes = lend(notes_bytes, note);
     uint8_t *buffer = lend(buffer_bytes, 0);
-    uint64_t answer[5], read = sent > 3 ? 0 : sent;
+    uint64_t answer[5], taken = sent == SPRITBOBBIN_REFUSED_NATIONAL ? 0 : sent, read = sent > 3 ? 0 : sent;
 
     memset(answer, 0xA5, sizeof answer);
     check(spritbobbin_multiplex(level, 0, line, line_bytes, notes, notes_bytes, buffer, buffer_bytes, answer) == sent,
@@ -69,19 +69,19 @@ static void both_ways(uint64_t level, size_t frame_bytes, size_t frames, size_t 
         check(all_zero(answer, 4), "a refused multiplexing counts nothing");
     } else if (frames) {
         check(answer[0] == 206 * frames && answer[3] == 206 * frames, "206 digits in a frame");
-        check(line[0] == 0xF4 && all(line + 1, 105, 0), "the frame of case 1");
-        check(line[line_bytes - 106] == 0xF4 && all(line + line_bytes - 105, 105, 0), "the last frame");
+        check(line[0] == 0xF4 && line[1] == 0x10 && all(line + 2, 104, 0), "the frame of case 1");
+        check(line[line_bytes - 106] == 0xF4 && line[line_bytes - 105] == 0x10 && all(line + line_bytes - 104, 104, 0), "the last frame");
     }
 
     if (buffer)
         memset(buffer, 0x5A, buffer_bytes);
     memset(answer, 0xA5, sizeof answer);
-    check(spritbobbin_extract(level, 0, line, line_bytes, notes, notes_bytes, buffer, buffer_bytes, answer) == sent,
+    check(spritbobbin_extract(level, 0, line, line_bytes, notes, notes_bytes, buffer, buffer_bytes, answer) == taken,
           "the refusal of extraction");
-    if (sent) {
+    if (taken) {
         check(all(buffer, buffer_bytes, 0x5A), "a refused extraction writes nothing");
         check(all_zero(answer, 5), "a refused extraction counts nothing, and names frame 0 or none");
-    } else {
+    } else if (!sent) {
         check(answer[1] == 206 * frames && all(buffer, buffer_bytes, 0), "what went in comes out");
     }
 
@@ -102,7 +102,7 @@ static void both_ways(uint64_t level, size_t frame_bytes, size_t frames, size_t 
 static void counts_dissent(void)
 {
     size_t line_bytes = 2 * SPRITBOBBIN_FRAME_BYTES_4, set_bytes = 61, buffer_bytes = 4 * 181;
-    uint8_t *line = lend(line_bytes, 0), *notes = lend(2, 0), *buffer = lend(buffer_bytes, 0);
+    uint8_t *line = lend(line_bytes, 0), *notes = lend(2, 0xE0), *buffer = lend(buffer_bytes, 0);
     uint64_t answer[5], *dissent = answer + SPRITBOBBIN_DISSENT;
 
     check(spritbobbin_multiplex(4, 0, line, line_bytes, notes, 2, buffer, buffer_bytes, answer) == 0, "sent");
@@ -111,7 +111,7 @@ static void counts_dissent(void)
     line[SPRITBOBBIN_FRAME_BYTES_4 + 5 * set_bytes] ^= 0x50;
     check(spritbobbin_read_notes(4, line, line_bytes, notes, 2, answer) == 0, "read");
     check(dissent[0] == 0 && dissent[1] == 3 && dissent[2] == 0 && dissent[3] == 1, "three digits of tributary 2, one of 4");
-    check(notes[0] == 0 && notes[1] == 0 && answer[SPRITBOBBIN_ALIGNMENT] == 0, "which change no decision");
+    check(notes[0] == 0xE0 && notes[1] == 0xE0 && answer[SPRITBOBBIN_ALIGNMENT] == 0, "which change no decision");
     free(line);
     free(notes);
     free(buffer);
@@ -128,6 +128,39 @@ static void names_the_frame(void)
     check(all_zero(answer, 4) && answer[SPRITBOBBIN_NAMED_FRAME] == 2, "refusal 5 names frame 2");
     check(spritbobbin_extract(3, 0, line, 768, notes, 4, buffer, 756, answer) == SPRITBOBBIN_REFUSED_NOTE_BITS, "extraction's too");
     check(all_zero(answer, 4) && answer[SPRITBOBBIN_NAMED_FRAME] == 2, "and names frame 2");
+    free(line);
+    free(notes);
+    free(buffer);
+}
+
+/* National digits are sent as 1: the frame named is the first whose note says otherwise, for both engines, after a bit that the level lacks in any
+   note, and only by multiplexing. At level 4 there are three. A note of level 12 has none. */
+static void national_digits(void)
+{
+    uint8_t *line = lend(4 * SPRITBOBBIN_FRAME_BYTES_4, 0xA5), *notes = lend(4, SPRITBOBBIN_NATIONAL_1), *buffer = lend(4 * 362, 0);
+    uint64_t answer[5], three = SPRITBOBBIN_NATIONAL_1 | SPRITBOBBIN_NATIONAL_2 | SPRITBOBBIN_NATIONAL_3, bit;
+
+    notes[2] = SPRITBOBBIN_REMOTE_ALARM;
+    notes[3] = 0;
+    check(spritbobbin_multiplex(3, 0, line, 768, notes, 4, buffer, 756, answer) == SPRITBOBBIN_REFUSED_NATIONAL, "refusal 10");
+    check(all_zero(answer, 4) && answer[SPRITBOBBIN_NAMED_FRAME] == 2 && all(line, 768, 0xA5), "names frame 2, and nothing is written");
+    check(spritbobbin_plain_multiplex(3, 0, line, 768, notes, 4, buffer, 756, answer) == SPRITBOBBIN_REFUSED_NATIONAL, "the plain engine's too");
+    check(all_zero(answer, 4) && answer[SPRITBOBBIN_NAMED_FRAME] == 2 && all(line, 768, 0xA5), "and names frame 2");
+    check(spritbobbin_extract(3, 0, line, 768, notes, 4, buffer, 756, answer) == SPRITBOBBIN_ACCEPTED && answer[0] == 4 * 378, "extraction does not ask");
+    notes[3] = SPRITBOBBIN_NATIONAL_2;
+    check(spritbobbin_multiplex(3, 0, line, 768, notes, 4, buffer, 756, answer) == SPRITBOBBIN_REFUSED_NOTE_BITS, "5 before 10, in a later note too");
+    check(answer[SPRITBOBBIN_NAMED_FRAME] == 3, "naming frame 3");
+    check(spritbobbin_multiplex(3, 0, line, 768, notes, 4, buffer, 752, answer) == SPRITBOBBIN_REFUSED_BUFFER && all_zero(answer, 5), "4 before both");
+
+    for (bit = SPRITBOBBIN_NATIONAL_1; bit <= SPRITBOBBIN_NATIONAL_3; bit *= 2) {
+        memset(notes, (int)three, 4);
+        check(spritbobbin_multiplex(4, 0, line, 1464, notes, 4, buffer, 1448, answer) == SPRITBOBBIN_ACCEPTED && line[1] == 0x07, "three of level 4");
+        notes[1] = notes[3] = (uint8_t)(three & ~bit);
+        check(spritbobbin_multiplex(4, 0, line, 1464, notes, 4, buffer, 1448, answer) == SPRITBOBBIN_REFUSED_NATIONAL, "each of the three");
+        check(all_zero(answer, 4) && answer[SPRITBOBBIN_NAMED_FRAME] == 1, "names frame 1");
+    }
+    memset(notes, 0, 4);
+    check(spritbobbin_multiplex(12, 0, line, 528, notes, 4, buffer, 516, answer) == SPRITBOBBIN_ACCEPTED, "level 12 has none");
     free(line);
     free(notes);
     free(buffer);
@@ -189,6 +222,7 @@ static void earlier_vote(void)
     check(spritbobbin_multiplex(12, 16, line, 264, notes, 1, buffer, 260, answer) == SPRITBOBBIN_REFUSED_NOTES, "3 before it");
     check(spritbobbin_multiplex(14, 16, NULL, 0, NULL, 0, NULL, 0, answer) == SPRITBOBBIN_REFUSED_NOTE_BITS, "in a line without frames too");
     check(spritbobbin_multiplex(14, 15, NULL, 0, NULL, 0, NULL, 0, answer) == SPRITBOBBIN_ACCEPTED, "which is accepted else");
+    notes[0] = SPRITBOBBIN_NATIONAL_1;
     check(spritbobbin_multiplex(2, UINT64_MAX, one, 106, notes, 1, room, 104, answer) == SPRITBOBBIN_ACCEPTED && answer[0] == 206, "level 2 does not look at it");
     free(line);
     free(notes);
@@ -219,9 +253,10 @@ static void swaps(void)
     uint64_t answer[1], places = 0, i;
 
     line[0] = 0xF4;
+    line[1] = 0x10;
     check(spritbobbin_swap(2, UINT64_MAX, 2, line, 106, notes, 1, buffer, 26, answer) == 0 && answer[SPRITBOBBIN_SWAPPED] == 205, "205 digits are swapped in");
-    check(line[0] == 0xF4 && line[1] == 0x04 && line[2] == 0x44 && line[26] == 0x44 && line[105] == 0x44, "the digits of tributary 2");
-    for (i = 8; i < 848; i++)
+    check(line[0] == 0xF4 && line[1] == 0x14 && line[2] == 0x44 && line[26] == 0x44 && line[105] == 0x44, "the digits of tributary 2");
+    for (i = 12; i < 848; i++)
         places += spritbobbin_line_digit(line, 106, i);
     check(places == 209, "all of its places, three control digits and one stuffed, and no other");
 
@@ -254,11 +289,11 @@ static void swaps(void)
 static void refused_repair(uint64_t level, uint64_t earlier, size_t line_bytes, uint64_t refusal)
 {
     uint8_t *line = lend(line_bytes, 0xA5);
-    uint64_t answer[9];
+    uint64_t answer[10];
 
     memset(answer, 0xA5, sizeof answer);
-    check(spritbobbin_repair(level, earlier, line, line_bytes, answer) == refusal, "the refusal of a repair");
-    check(all_zero(answer, 9) && all(line, line_bytes, 0xA5), "a refused repair counts and writes nothing");
+    check(spritbobbin_repair(level, earlier, 1, line, line_bytes, answer) == refusal, "the refusal of a repair");
+    check(all_zero(answer, 10) && all(line, line_bytes, 0xA5), "a refused repair counts and writes nothing");
     free(line);
 }
 
@@ -267,28 +302,37 @@ static void refused_repair(uint64_t level, uint64_t earlier, size_t line_bytes, 
    frame 1 those of 1, 3 and 4; no positive one is stuffed. */
 static void repairs(void)
 {
-    uint8_t *line = lend(264, 0), *case_1 = lend(106, 0);
-    uint64_t answer[9];
+    uint8_t *line = lend(264, 0), *case_1 = lend(106, 0), *zeros = lend(366, 0);
+    uint64_t answer[10];
 
     line[33] = 0x40;
     line[66] = 0x60;
     memset(answer, 0xA5, sizeof answer);
-    check(spritbobbin_repair(12, 5, line, 264, answer) == SPRITBOBBIN_ACCEPTED && answer[SPRITBOBBIN_WORD_REPAIRED] == 10, "two words are repaired");
+    check(spritbobbin_repair(12, 5, 1, line, 264, answer) == SPRITBOBBIN_ACCEPTED && answer[SPRITBOBBIN_WORD_REPAIRED] == 10, "two words are repaired");
     check(answer[SPRITBOBBIN_CONTROL_REPAIRED(1)] == 0 && answer[SPRITBOBBIN_CONTROL_REPAIRED(2)] == 1
           && answer[SPRITBOBBIN_CONTROL_REPAIRED(3)] == 1 && answer[SPRITBOBBIN_CONTROL_REPAIRED(4)] == 0, "control groups are set to their majority");
     check(answer[SPRITBOBBIN_STUFFING_REPAIRED(1)] == 1 && answer[SPRITBOBBIN_STUFFING_REPAIRED(2)] == 2
           && answer[SPRITBOBBIN_STUFFING_REPAIRED(3)] == 1 && answer[SPRITBOBBIN_STUFFING_REPAIRED(4)] == 0, "unused negative places are set to 1");
     check(line[0] == 0xE6 && line[33] == 0x40 && line[66] == 0x40 && line[99] == 0x4E && line[100] == 0, "frame 0, its service digits as they came");
     check(line[132] == 0xE6 && line[165] == 0 && line[198] == 0 && line[231] == 0x04 && line[232] == 0, "frame 1");
-    check(spritbobbin_repair(12, 5, line, 264, answer) == 0 && all_zero(answer, 9), "a second repair changes nothing");
+    check(spritbobbin_repair(12, 5, 1, line, 264, answer) == 0 && all_zero(answer, 10), "a second repair changes nothing");
 
     case_1[0] = 0xF4;
+    case_1[1] = 0x10;
     case_1[26] = 0x08; /* two of three control digits of tributary 1 make its justification digit stuffing */
     case_1[53] = 0x80;
-    check(spritbobbin_repair(2, UINT64_MAX, case_1, 106, answer) == 0 && answer[0] == 0, "level 2 does not look at the earlier vote");
+    check(spritbobbin_repair(2, UINT64_MAX, 0, case_1, 106, answer) == 0 && answer[0] == 0, "level 2 does not look at the earlier vote");
     check(answer[SPRITBOBBIN_CONTROL_REPAIRED(1)] == 1 && answer[SPRITBOBBIN_STUFFING_REPAIRED(1)] == 1, "a split group decides");
     check(case_1[79] == 0x08 && case_1[80] == 0x80 && all_zero(answer + 2, 3) && all_zero(answer + 6, 3), "by its majority");
-    check(spritbobbin_repair(4, 0, NULL, 0, answer) == 0 && all_zero(answer, 9), "a line without frames");
+    check(case_1[1] == 0x10 && answer[SPRITBOBBIN_NATIONAL_REPAIRED] == 0, "a national digit of 1 is none to be repaired");
+    check(spritbobbin_repair(4, 0, 1, NULL, 0, answer) == 0 && all_zero(answer, 10), "a line without frames");
+
+    case_1[1] = 0x20;
+    check(spritbobbin_repair(2, 0, 0, case_1, 106, answer) == 0 && all_zero(answer, 10) && case_1[1] == 0x20, "service digits stay");
+    check(spritbobbin_repair(2, 0, 1, case_1, 106, answer) == 0 && case_1[1] == 0x30, "the switch sets the national digit, and leaves the remote alarm");
+    check(answer[SPRITBOBBIN_NATIONAL_REPAIRED] == 1 && all_zero(answer, 9), "and counts it");
+    check(spritbobbin_repair(4, 0, UINT64_MAX, zeros, 366, answer) == 0 && zeros[0] == 0xFA && zeros[1] == 0x07, "any number is on, and level 4 has three");
+    check(answer[SPRITBOBBIN_NATIONAL_REPAIRED] == 3 && answer[SPRITBOBBIN_WORD_REPAIRED] == 6, "which are counted");
 
     refused_repair(5, 16, 131, SPRITBOBBIN_REFUSED_LEVEL);
     refused_repair(12, 16, 131, SPRITBOBBIN_REFUSED_LINE);
@@ -297,6 +341,7 @@ static void repairs(void)
     refused_repair(14, UINT64_MAX, 0, SPRITBOBBIN_REFUSED_NOTE_BITS);
     free(line);
     free(case_1);
+    free(zeros);
 }
 
 /* Two frames with notes of their own and a buffer of 0x5A and 0xC3, sent, read and extracted by both engines, and
@@ -369,18 +414,20 @@ static void receiver(void)
     const uint8_t word_12[1] = {0xE6};
     uint64_t state[9], answer[4];
 
-    for (i = 0; i < length; i += SPRITBOBBIN_FRAME_BYTES_2)
+    for (i = 0; i < length; i += SPRITBOBBIN_FRAME_BYTES_2) {
         stream[i] = 0xF4;
+        stream[i + 1] = 0x10;
+    }
     check(spritbobbin_receiver_fresh(2, state, frame) == SPRITBOBBIN_ACCEPTED && state[0] == 2, "a fresh receiver");
     check(all_zero(state + 1, 8) && all(frame, 366, 0), "a fresh receiver is all zero but for the level");
 
     check(spritbobbin_receiver_feed(state, frame, stream, length, 0, 3392, answer) == 0, "case 11 is accepted");
     check(answer[SPRITBOBBIN_TAKEN] == 2544 && answer[SPRITBOBBIN_READY] == 1, "the first frame of case 11");
     check(answer[SPRITBOBBIN_WORDS] == 3, "three words tested");
-    check(frame[0] == 0xF4 && all(frame + 1, 365, 0) && answer[SPRITBOBBIN_ALARM] == 0, "case 1's bytes");
+    check(frame[0] == 0xF4 && frame[1] == 0x10 && all(frame + 2, 364, 0) && answer[SPRITBOBBIN_ALARM] == 0, "case 1's bytes");
     check(spritbobbin_receiver_feed(state, frame, stream, length, 2544, 848, answer) == 0, "case 11 goes on");
     check(answer[SPRITBOBBIN_TAKEN] == 848 && answer[SPRITBOBBIN_READY] == 1, "the second frame of case 11");
-    check(frame[0] == 0xF4 && all(frame + 1, 365, 0), "the same bytes");
+    check(frame[0] == 0xF4 && frame[1] == 0x10 && all(frame + 2, 364, 0), "the same bytes");
     check(state[SPRITBOBBIN_STATE_MODE] == SPRITBOBBIN_ALIGNED && state[SPRITBOBBIN_STATE_PLACE] == 838, "aligned");
 
     check(spritbobbin_receiver_feed(state, frame, NULL, 0, 0, 0, answer) == 0 && all_zero(answer, 4), "an empty piece");
@@ -506,12 +553,12 @@ static void refused_file(const char *bytes, size_t length, uint64_t refusal, uin
 /* The example of request 1, and the refusals of both calls. */
 static void captures(void)
 {
-    static const uint8_t head[] = {0x01, 0x00, 0x01, 0x02, 0x02, 0x00, 0x6A, 0xF4};
-    uint8_t line[106] = {0xF4}, file[113];
+    static const uint8_t head[] = {0x01, 0x00, 0x01, 0x02, 0x02, 0x00, 0x6A, 0xF4, 0x10};
+    uint8_t line[106] = {0xF4, 0x10}, file[113];
     uint64_t wrote[2];
 
     check(spritbobbin_capture_write(2, line, 106, NULL, 0, 0, file, 113, wrote) == 0 && wrote[0] == 113, "113 bytes whole");
-    check(!memcmp(file, head, sizeof head) && all(file + 8, 105, 0), "the bytes of the example");
+    check(!memcmp(file, head, sizeof head) && all(file + 9, 104, 0), "the bytes of the example");
 
     capture(2, 106, SIZE_MAX, 113, 0);
     capture(2, 0, SIZE_MAX, 7, 0);
@@ -691,29 +738,32 @@ int main(void)
     static const uint8_t tails[2][2][4] = {{{0x6F, 0x6F, 0x6E, 0x20}, {0x3F, 0x3F, 0x37, 0x20}},
                                            {{0x60, 0x60, 0x6E, 0x20}, {0x30, 0x30, 0x37, 0x20}}};
 
-    both_ways(2, 106, 1, 1, 0, 104, 0);      /* case 1; case 9: a quarter of 26 bytes */
-    both_ways(2, 106, 64, 64, 0, 6592, 0);   /* case 9: 64 frames */
-    both_ways(2, 106, 65, 65, 0, 6696, 2);   /* case 9: 65 frames */
-    both_ways(2, 105, 1, 1, 0, 104, 2);      /* case 9: 105 bytes */
-    both_ways(2, 106, 1, 1, 0, 100, 4);      /* case 9: a quarter of 25 bytes */
+    both_ways(2, 106, 1, 1, 0x20, 104, 0);      /* case 1; case 9: a quarter of 26 bytes */
+    both_ways(2, 106, 64, 64, 0x20, 6592, 0);   /* case 9: 64 frames */
+    both_ways(2, 106, 65, 65, 0x20, 6696, 2);   /* case 9: 65 frames */
+    both_ways(2, 105, 1, 1, 0x20, 104, 2);      /* case 9: 105 bytes */
+    both_ways(2, 106, 1, 1, 0x20, 100, 4);      /* case 9: a quarter of 25 bytes */
     both_ways(2, 106, 1, 1, 0x40, 100, 4);   /* case 10 */
     both_ways(2, 106, 1, 1, 0x40, 104, 5);   /* reading does not judge old notes */
-    both_ways(2, 106, 1, 2, 0, 104, 3);
-    both_ways(2, 106, 1, 1, 0, 105, 4);
-    both_ways(5, 106, 1, 1, 0, 104, 1);
-    both_ways(UINT64_C(1) << 32 | 2, 106, 1, 1, 0, 104, 1);
+    both_ways(2, 106, 1, 1, 0x1F, 104, 10);  /* nor do reading and extraction ask for national digits */
+    both_ways(2, 106, 1, 2, 0x20, 104, 3);
+    both_ways(2, 106, 1, 1, 0x20, 105, 4);
+    both_ways(5, 106, 1, 1, 0x20, 104, 1);
+    both_ways(UINT64_C(1) << 32 | 2, 106, 1, 1, 0x20, 104, 1);
     both_ways(2, 106, 0, 0, 0, 0, 0);        /* no frames: three null pointers */
     both_ways(4, 366, 0, 0, 0, 3, 4);
     counts_dissent();
     names_the_frame();
+    national_digits();
     votes(12, SPRITBOBBIN_FRAME_BYTES_12, SPRITBOBBIN_TRIBUTARY_DIGITS_12, heads[0], tails[0]);
     votes(14, SPRITBOBBIN_FRAME_BYTES_14, SPRITBOBBIN_TRIBUTARY_DIGITS_14, heads[1], tails[1]);
     earlier_vote();
     swaps();
     repairs();
-    two_engines(4, 0xE5, 0x1A, 732, 724);
-    two_engines(4, 0xE5, 0x1A, 732, 720);  /* refusal 4 */
-    two_engines(7, 0xE5, 0x1A, 732, 724);  /* refusal 1 */
+    two_engines(4, 0xE5, 0xFA, 732, 724);
+    two_engines(4, 0xE5, 0xFA, 732, 720);  /* refusal 4 */
+    two_engines(7, 0xE5, 0xFA, 732, 724);  /* refusal 1 */
+    two_engines(4, 0xE5, 0x9A, 732, 724);  /* refusal 10 */
     two_engines(12, 0x05, 0x0C, 264, 260);
     two_engines(14, 0x05, 0x0C, 544, 540);
     two_engines(14, 0x05, 0x1C, 544, 540); /* refusal 5 */

@@ -1,11 +1,13 @@
-// agree LEVEL LINE: a line of any number of frames, 64 at a time. Both engines read its notes, take it apart by them and make a line of what came out;
-// after each call what they answer and every byte that they leave is compared.
+// agree LEVEL LINE: a line of any number of frames, 64 at a time. Both engines read its notes, take it apart by them and make a line of what came out,
+// with the national bits set, which multiplexing asks for; after each call what they answer and every byte that they leave is compared.
 use crate::pair;
 use console::files;
 use console::help;
+use console::national;
 use console::say;
 use passages::passage;
 use recordings::sizes;
+use table::Level;
 use table::Row;
 ghost use Prim.Native.Nat.{_*_, _≤_};
 ghost use lib.ListN.{length};
@@ -137,7 +139,7 @@ fn noted_in(
     quick: &mut [u8],
     plain: &mut [u8],
 ) -> Ran
-    requires { ⌜ (b ≤ 65536) × (length (now line) ≤ 65536) ⌝ }
+    requires { ⌜ (b ≤ 65536) × (length (now line) ≤ 65536) × (length (now quick) ≤ 64) ⌝ }
 {
     if !pair::read_notes(level, line, quick, plain) {
         return Ran {
@@ -153,7 +155,7 @@ fn noted_in(
 
 // The frames taken apart by these notes.
 fn extracted(level: u64, earlier: u64, line: &[u8], notes: &[u8], b: usize) -> u8
-    requires { ⌜ (b ≤ 65536) × (length (now line) ≤ 65536) ⌝ }
+    requires { ⌜ (b ≤ 65536) × (length (now line) ≤ 65536) × (length (now notes) ≤ 64) ⌝ }
 {
     let mut quick = io::large_buffer();
     let mut plain = io::large_buffer();
@@ -175,7 +177,7 @@ fn extracted_in(
     quick: &mut [u8],
     plain: &mut [u8],
 ) -> u8
-    requires { ⌜ length (now line) ≤ 65536 ⌝ }
+    requires { ⌜ (length (now line) ≤ 65536) × (length (now notes) ≤ 64) ⌝ }
 {
     if !pair::extract(level, earlier, line, notes, quick, plain) {
         return EXTRACT;
@@ -183,8 +185,27 @@ fn extracted_in(
     multiplexed(level, earlier, line.len(), notes, quick)
 }
 
-// The line of n bytes, made again.
+// How many national digits a frame has.
+fn nationals_of(level: u64) -> usize {
+    let found = table::level_of(level);
+    match found {
+        Level::Of(row) => row.nationals,
+        Level::NoSuchLevel => 0,
+    }
+}
+
+// The notes as they came, their national bits set.
 fn multiplexed(level: u64, earlier: u64, n: usize, notes: &[u8], buffer: &[u8]) -> u8
+    requires { ⌜ (n ≤ 65536) × (length (now notes) ≤ 64) ⌝ }
+{
+    let mut set = [0u8; 64];
+    let f = notes.len();
+    national::set(&mut set[..f], notes, nationals_of(level));
+    multiplexed_by(level, earlier, n, &set[..f], buffer)
+}
+
+// The line of n bytes, made again.
+fn multiplexed_by(level: u64, earlier: u64, n: usize, notes: &[u8], buffer: &[u8]) -> u8
     requires { ⌜ n ≤ 65536 ⌝ }
 {
     let mut quick = io::large_buffer();

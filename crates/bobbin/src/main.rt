@@ -69,23 +69,25 @@ const SWAP: u8 = 10;
 
 const REPAIR: u8 = 11;
 
+const REPAIR_NATIONAL: u8 = 12;
+
 // Those that take no level in that place.
-const SHOW: u8 = 12;
+const SHOW: u8 = 13;
 
-const WATCH: u8 = 13;
+const WATCH: u8 = 14;
 
-const COMPARE: u8 = 14;
+const COMPARE: u8 = 15;
 
 // Those of 2048 kbit/s.
-const BUILD: u8 = 15;
+const BUILD: u8 = 16;
 
-const APART: u8 = 16;
+const APART: u8 = 17;
 
-const HUNT: u8 = 17;
+const HUNT: u8 = 18;
 
-const MULTIFRAME: u8 = 18;
+const MULTIFRAME: u8 = 19;
 
-const NO_COMMAND: u8 = 19;
+const NO_COMMAND: u8 = 20;
 
 // Beside NO_NOTE, where there is none: a word that should be a note and is none.
 const WRONG_NOTE: u16 = 257;
@@ -168,6 +170,9 @@ fn which_of_plain(word: &[u8]) -> u8 {
     if check::same(word, b"repair") {
         return REPAIR;
     }
+    if check::same(word, b"repair-national") {
+        return REPAIR_NATIONAL;
+    }
     which_of_2048(word)
 }
 
@@ -201,7 +206,7 @@ fn fits(which: u8, last: usize) -> bool {
         PLAIN_TAKE => last == take::TRIBUTARIES,
         AGREE => last == agree::LINE,
         SWAP => called::fits(last, swap_line::LAST),
-        REPAIR => called::fits(last, repair_line::NEW),
+        REPAIR | REPAIR_NATIONAL => called::fits(last, repair_line::NEW),
         SHOW => last == opened::CAPTURE || last == opened::LINE,
         WATCH => watch::FIRST < last && last <= watch::LAST && last % 2 == 1,
         COMPARE => last == compared::OTHER || last == compared::PICTURE,
@@ -246,8 +251,8 @@ fn wrong_words_of_plain(which: u8) {
         SWAP => help::wrong_call(
             b"swap takes a level, a tributary and four files, without the level where the first is a capture.",
         ),
-        REPAIR => help::wrong_call(
-            b"repair takes a level and two files, without the level where the first is a capture.",
+        REPAIR | REPAIR_NATIONAL => help::wrong_call(
+            b"repair and repair-national take a level and two files, without the level where the first is a capture.",
         ),
         _ => wrong_words_of_2048(which),
     }
@@ -289,7 +294,7 @@ fn captured(which: u8, last: usize) -> bool {
     match which {
         TAKE => on_capture(which, last, take::TRIBUTARIES),
         SWAP => on_capture(which, last, swap_line::LAST),
-        REPAIR => on_capture(which, last, repair_line::NEW),
+        REPAIR | REPAIR_NATIONAL => on_capture(which, last, repair_line::NEW),
         _ => false,
     }
 }
@@ -307,7 +312,7 @@ fn on_capture(which: u8, last: usize, levelled: usize) -> bool {
     match which {
         TAKE => opened::take(by),
         SWAP => swap_capture::run(by),
-        _ => repair_capture::run(by),
+        _ => repair_capture::run(by, which == REPAIR_NATIONAL),
     }
     true
 }
@@ -402,7 +407,8 @@ fn started(which: u8, last: usize, row: Row, level: u64, earlier: u64)
         PLAIN_TAKE => take::run(row, level, earlier, true),
         AGREE => agree::run(row, level, earlier),
         SWAP => swap_line::run(row, level, earlier),
-        REPAIR => repair_line::run(row, level, earlier),
+        REPAIR => repair_line::run(row, level, earlier, false),
+        REPAIR_NATIONAL => repair_line::run(row, level, earlier, true),
         _ => keep::run(row, level, last == keep::LABEL),
     }
 }

@@ -423,7 +423,7 @@ fn wide(b: u8) -> u64 {
 // Request 1's example: the capture of case 1's line without a label, all its bytes.
 pub fn example() {
     let mut line = [0u8; 106];
-    let notes = [0u8; 1];
+    let notes = [0x20u8];
     let buffer = [0u8; 104];
     multiplex::multiplex(2, 0, &mut line, &notes, &buffer);
     let mut file = [0u8; 113];

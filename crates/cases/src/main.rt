@@ -13,11 +13,12 @@ use stream_cases::stream;
 use telling::inputs;
 use telling::say;
 
-// A multiplex call: the notes are 0 before frame `from` and `note` from there on. The line that it leaves is then extracted by these notes.
+// A multiplex call: the notes are `before` before frame `from` and `note` from there on. The line that it leaves is then extracted by these notes.
 struct Sending {
     level: u64,
     line: usize,
     notes: usize,
+    before: u8,
     note: u8,
     from: usize,
     buffer: usize,
@@ -32,13 +33,14 @@ struct Receiving {
     buffer: usize,
 }
 
-const SENDINGS: [Sending; 27] = [
+const SENDINGS: [Sending; 37] = [
     // Case 9, and the other levels at the same borders.
     Sending {
         level: 2,
         line: 6784,
         notes: 64,
-        note: 15,
+        before: 32,
+        note: 47,
         from: 32,
         buffer: 6592,
     },
@@ -46,7 +48,8 @@ const SENDINGS: [Sending; 27] = [
         level: 2,
         line: 6890,
         notes: 65,
-        note: 0,
+        before: 32,
+        note: 32,
         from: 0,
         buffer: 6696,
     },
@@ -54,7 +57,8 @@ const SENDINGS: [Sending; 27] = [
         level: 2,
         line: 105,
         notes: 1,
-        note: 0,
+        before: 32,
+        note: 32,
         from: 0,
         buffer: 104,
     },
@@ -62,7 +66,8 @@ const SENDINGS: [Sending; 27] = [
         level: 2,
         line: 106,
         notes: 1,
-        note: 0,
+        before: 32,
+        note: 32,
         from: 0,
         buffer: 104,
     },
@@ -70,7 +75,8 @@ const SENDINGS: [Sending; 27] = [
         level: 2,
         line: 106,
         notes: 1,
-        note: 0,
+        before: 32,
+        note: 32,
         from: 0,
         buffer: 100,
     },
@@ -78,7 +84,8 @@ const SENDINGS: [Sending; 27] = [
         level: 3,
         line: 12288,
         notes: 64,
-        note: 5,
+        before: 32,
+        note: 37,
         from: 1,
         buffer: 12096,
     },
@@ -86,7 +93,8 @@ const SENDINGS: [Sending; 27] = [
         level: 3,
         line: 12480,
         notes: 65,
-        note: 0,
+        before: 32,
+        note: 32,
         from: 0,
         buffer: 12288,
     },
@@ -94,6 +102,7 @@ const SENDINGS: [Sending; 27] = [
         level: 4,
         line: 23424,
         notes: 64,
+        before: 224,
         note: 250,
         from: 1,
         buffer: 23136,
@@ -102,7 +111,8 @@ const SENDINGS: [Sending; 27] = [
         level: 4,
         line: 23790,
         notes: 65,
-        note: 0,
+        before: 224,
+        note: 224,
         from: 0,
         buffer: 23500,
     },
@@ -111,6 +121,7 @@ const SENDINGS: [Sending; 27] = [
         level: 2,
         line: 106,
         notes: 1,
+        before: 32,
         note: 64,
         from: 0,
         buffer: 100,
@@ -119,6 +130,7 @@ const SENDINGS: [Sending; 27] = [
         level: 2,
         line: 106,
         notes: 1,
+        before: 32,
         note: 64,
         from: 0,
         buffer: 104,
@@ -127,6 +139,7 @@ const SENDINGS: [Sending; 27] = [
         level: 3,
         line: 960,
         notes: 5,
+        before: 32,
         note: 128,
         from: 3,
         buffer: 960,
@@ -135,16 +148,110 @@ const SENDINGS: [Sending; 27] = [
         level: 4,
         line: 366,
         notes: 1,
-        note: 64,
+        before: 224,
+        note: 224,
         from: 0,
         buffer: 364,
+    },
+    // A national digit that is not 1: at levels 2 and 3 there is one, at level 4 there are three.
+    Sending {
+        level: 2,
+        line: 106,
+        notes: 1,
+        before: 32,
+        note: 31,
+        from: 0,
+        buffer: 104,
+    },
+    Sending {
+        level: 3,
+        line: 960,
+        notes: 5,
+        before: 32,
+        note: 0,
+        from: 3,
+        buffer: 960,
+    },
+    Sending {
+        level: 4,
+        line: 1098,
+        notes: 3,
+        before: 224,
+        note: 223,
+        from: 2,
+        buffer: 1088,
+    },
+    Sending {
+        level: 4,
+        line: 1098,
+        notes: 3,
+        before: 224,
+        note: 191,
+        from: 2,
+        buffer: 1088,
+    },
+    Sending {
+        level: 4,
+        line: 1098,
+        notes: 3,
+        before: 224,
+        note: 127,
+        from: 2,
+        buffer: 1088,
+    },
+    Sending {
+        level: 4,
+        line: 1098,
+        notes: 3,
+        before: 224,
+        note: 16,
+        from: 1,
+        buffer: 1088,
+    },
+    // A short quarter comes before it, and a bit that the level lacks in any later note too.
+    Sending {
+        level: 2,
+        line: 106,
+        notes: 1,
+        before: 32,
+        note: 0,
+        from: 0,
+        buffer: 100,
+    },
+    Sending {
+        level: 2,
+        line: 212,
+        notes: 2,
+        before: 0,
+        note: 32,
+        from: 1,
+        buffer: 208,
+    },
+    Sending {
+        level: 2,
+        line: 212,
+        notes: 2,
+        before: 0,
+        note: 64,
+        from: 1,
+        buffer: 208,
+    },
+    Sending {
+        level: 3,
+        line: 960,
+        notes: 5,
+        before: 0,
+        note: 160,
+        from: 4,
+        buffer: 960,
     },
     // Notes one short and one long, buffers that are no multiple of 4.
     Sending {
         level: 2,
         line: 212,
         notes: 1,
-        note: 0,
+        before: 32,
+        note: 32,
         from: 0,
         buffer: 208,
     },
@@ -152,7 +259,8 @@ const SENDINGS: [Sending; 27] = [
         level: 2,
         line: 106,
         notes: 2,
-        note: 0,
+        before: 32,
+        note: 32,
         from: 0,
         buffer: 104,
     },
@@ -160,7 +268,8 @@ const SENDINGS: [Sending; 27] = [
         level: 2,
         line: 106,
         notes: 1,
-        note: 0,
+        before: 32,
+        note: 32,
         from: 0,
         buffer: 103,
     },
@@ -168,7 +277,8 @@ const SENDINGS: [Sending; 27] = [
         level: 2,
         line: 106,
         notes: 1,
-        note: 0,
+        before: 32,
+        note: 32,
         from: 0,
         buffer: 105,
     },
@@ -177,7 +287,8 @@ const SENDINGS: [Sending; 27] = [
         level: 2,
         line: 848,
         notes: 8,
-        note: 15,
+        before: 32,
+        note: 47,
         from: 0,
         buffer: 820,
     },
@@ -185,7 +296,8 @@ const SENDINGS: [Sending; 27] = [
         level: 2,
         line: 848,
         notes: 8,
-        note: 15,
+        before: 32,
+        note: 47,
         from: 0,
         buffer: 824,
     },
@@ -194,6 +306,7 @@ const SENDINGS: [Sending; 27] = [
         level: 2,
         line: 0,
         notes: 0,
+        before: 0,
         note: 0,
         from: 0,
         buffer: 0,
@@ -202,6 +315,7 @@ const SENDINGS: [Sending; 27] = [
         level: 2,
         line: 0,
         notes: 0,
+        before: 0,
         note: 0,
         from: 0,
         buffer: 3,
@@ -210,6 +324,7 @@ const SENDINGS: [Sending; 27] = [
         level: 258,
         line: 0,
         notes: 0,
+        before: 0,
         note: 0,
         from: 0,
         buffer: 0,
@@ -218,42 +333,47 @@ const SENDINGS: [Sending; 27] = [
         level: 18446744073709551615,
         line: 0,
         notes: 0,
+        before: 0,
         note: 0,
         from: 0,
         buffer: 0,
     },
-    // The order 1, 2, 3, 4, 5: the first wrong thing, and all later ones wrong as well.
+    // The order 1, 2, 3, 4, 5, 10: the first wrong thing, and all later ones wrong as well.
     Sending {
         level: 5,
         line: 105,
         notes: 2,
+        before: 0,
         note: 64,
-        from: 0,
+        from: 1,
         buffer: 103,
     },
     Sending {
         level: 2,
         line: 105,
         notes: 2,
+        before: 0,
         note: 64,
-        from: 0,
+        from: 1,
         buffer: 103,
     },
     Sending {
         level: 2,
         line: 106,
         notes: 2,
+        before: 0,
         note: 64,
-        from: 0,
+        from: 1,
         buffer: 103,
     },
     Sending {
         level: 2,
-        line: 106,
-        notes: 1,
+        line: 212,
+        notes: 2,
+        before: 0,
         note: 64,
-        from: 0,
-        buffer: 103,
+        from: 1,
+        buffer: 207,
     },
 ];
 
@@ -333,7 +453,7 @@ const RECEIVINGS: [Receiving; 10] = [
 
 fn main() {
     let mut k: usize = 0;
-    while k < 27 {
+    while k < 37 {
         send(SENDINGS[k]);
         k += 1;
     }
@@ -387,7 +507,7 @@ fn send(c: Sending) {
 
 fn send_on(c: Sending, line: &mut [u8], notes: &mut [u8], buffer: &mut [u8]) {
     inputs::fill(line, 165);
-    inputs::notes_from(notes, c.note, c.from);
+    inputs::notes_from(notes, c.before, c.note, c.from);
     inputs::count_up(buffer);
     let r = multiplex::multiplex(c.level, 0, line, notes, buffer);
     say::text(b"multiplex");
@@ -406,6 +526,7 @@ fn sent(c: Sending, r: Counted, sum: u64) {
     say::counted(b" level ", c.level);
     say::labelled(b" line ", c.line);
     say::labelled(b" notes ", c.notes);
+    say::labelled(b" before ", c.before as usize);
     say::labelled(b" note ", c.note as usize);
     say::labelled(b" from ", c.from);
     say::labelled(b" buffer ", c.buffer);

@@ -5,8 +5,9 @@ use recordings::sizes;
 use workbench::Compared;
 ghost use Prim.Native.Nat.{_<_};
 
-// The notes of the eight frames, and the decisions of the frame before them, which the late multiplexer acts on first.
-const NOTES: [u8; 8] = [5, 3, 13, 11, 5, 3, 13, 11];
+// The notes of the eight frames, each with the national bit, which multiplexing asks for, and the decisions of the frame before them, which the late
+// multiplexer acts on first.
+const NOTES: [u8; 8] = [0x25, 0x23, 0x2D, 0x2B, 0x25, 0x23, 0x2D, 0x2B];
 
 const BEFORE: u8 = 11;
 

@@ -16,6 +16,7 @@ use Rattle.levels.specs.Table.{Shared}
 use Rattle.levels.specs.Sizes.{onLevel, framesRefusal}
 use Rattle.levels.specs.Judging as judging
 use Rattle.levels.proofs.Rows.{shared-row}
+use Rattle.levels.proofs.Refusals.{send-faultless}
 use Rattle.multiplex.specs.Multiplex as multiplex
 use Rattle.reading.specs.declared.Noted.{Noted}
 use Rattle.reading.specs.Notes.{notesOf}
@@ -28,7 +29,7 @@ use Rattle.engines.specs.Same.{SameCounted, SameNoted}
 use Rattle.engines.proofs.Line.{line-same}
 use Rattle.engines.proofs.Notes.{notes-same, alignment-same, dissents-same}
 use Rattle.engines.proofs.Quarters.{quarters-same}
-use Rattle.engines.proofs.Judging.{sound, answer-same, left-same}
+use Rattle.engines.proofs.Judging.{same-faults, same-send-faults, sound, answer-same, left-same}
 
 -- ---- multiplexing
 
@@ -37,15 +38,19 @@ pub same-multiplexing : (level earlier : ℕ) (line notes buffer : List ℕ) (a 
 same-multiplexing level earlier line notes buffer a l b m x y = rw (x .0, x .1, y .answered, y .written) (go (levelOf level) refl)
   where
     go : (found : Level) → levelOf level ≡ found
-        → SameCounted (onLevel found (λ (row : Row). judging.answerOn row earlier (length line) notes (length buffer)) (judging.refusedWith (judging.fault 1 0)))
-        (plain.onLevel found (λ (row : Row). plain.answerBy row earlier (length line) notes (plain.verdictOn row earlier (length line) notes (length buffer)))
+        → SameCounted (onLevel found (λ (row : Row). judging.sendAnswerOn row earlier (length line) notes (length buffer)) (judging.refusedWith (judging.fault 1 0)))
+        (plain.onLevel found (λ (row : Row). plain.answerBy row earlier (length line) notes (plain.sendingOn row earlier (length line) notes (length buffer)))
         (record { refusal = 1; frame = 0; counts = plain.none }))
         × (onLevel found (λ (row : Row). multiplex.lineOn row earlier line notes buffer) line
-        ≡ plain.onLevel found (λ (row : Row). plain.sentLine row earlier line notes buffer (plain.verdictOn row earlier (length line) notes (length buffer))) line)
+        ≡ plain.onLevel found (λ (row : Row). plain.sentLine row earlier line notes buffer (plain.sendingOn row earlier (length line) notes (length buffer))) line)
     go (Of row) e =
         let sh = shared-row level row e in
         let sent = line-same row sh earlier notes buffer (length line) in
-        (answer-same row sh earlier (length line) notes (length buffer), left-same row sh earlier (length line) notes (length buffer) _ line _ (λ _. sent))
+        let same = same-send-faults row sh earlier (length line) notes (length buffer) in (
+          answer-same _ _ same row sh earlier (length line) notes
+              (λ z. sound row sh earlier (length line) notes (length buffer) (send-faultless row earlier (length line) notes (length buffer) z .0) .0),
+          left-same _ _ same _ line _ (λ _. sent),
+        )
     go NoSuchLevel e = (record { refusal = refl; frame = refl; counts = refl }, refl)
 
 -- ---- reading the notes
@@ -100,9 +105,10 @@ same-extraction level earlier line notes buffer a l b m x y = rw (x .0, x .1, y 
         ≡ plain.onLevel found (λ (row : Row). plain.takenBuffer row earlier line notes buffer (plain.verdictOn row earlier (length line) notes (length buffer))) buffer)
     go (Of row) e =
         let sh = shared-row level row e in
+        let same = same-faults row sh earlier (length line) notes (length buffer) in
         let q = length buffer / 4 in (
-          answer-same row sh earlier (length line) notes (length buffer),
-          left-same row sh earlier (length line) notes (length buffer) _ buffer _
+          answer-same _ _ same row sh earlier (length line) notes (λ z. sound row sh earlier (length line) notes (length buffer) z .0),
+          left-same _ _ same _ buffer _
               (λ z.
               let ok = sound row sh earlier (length line) notes (length buffer) z in
               quarters-same row sh earlier notes line q (ok .0) (ok .2) ∙ ap (λ (n : ℕ). plain.packed n (plain.handedAt row earlier notes line (8 * q))) (sym (ok .1))),

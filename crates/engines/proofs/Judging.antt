@@ -1,12 +1,14 @@
 -- What is refused: both engines give the same number and name the same frame, and the same counts where nothing is refused.
 use mathlib.Core.Path.{_≡_, refl, sym, _∙_, ap}
-use mathlib.Core.Bool.{Bool, cond, true, false}
+use mathlib.Core.Bool.{Bool, cond, true, false, not}
 use mathlib.Core.List.{List, [], _∷_}
-use Prim.Native.Nat.{ℕ, suc, _+_, _*_, _/_, _^_, _≤_}
+use Prim.Native.Nat.{ℕ, zero, suc, _+_, _*_, _-_, _/_, _%_, _^_, _≤_, _<_}
 use native.Mathlib.Omega.{arith}
+use native.Mathlib.Decide.{decLt}
+use native.Mathlib.Nat.{div-div-eq-div-mul}
 use lib.Dec.{eqb, ltb}
 use lib.ListN.{length}
-use borrow.Author.Tests.{eqb-true}
+use borrow.Author.Tests.{eqb-true, eq-eqb, ne-eqb, lt-ltb, le-ltb}
 use Rattle.table.specs.declared.Row.{Row}
 use Rattle.levels.specs.declared.judging.Fault.{Fault}
 use Rattle.levels.specs.Table.{Shared}
@@ -19,11 +21,46 @@ use Rattle.plain.specs.Engine as plain
 use Rattle.engines.specs.Same.{SameCounted}
 use Rattle.engines.proofs.Order.{counts-same}
 
--- the same first note that the level cannot have
-first-same : (limit : ℕ) (notes : List ℕ) → plain.firstOver limit notes ≡ quick.firstOver limit notes
-unfolding plain.firstOver quick.firstOver
-first-same limit [] = refl
-first-same limit (note ∷ notes) = rw (first-same limit notes)
+-- the same first note, by tests that agree on every note
+first-same : (t u : ℕ → Bool) → ((note : ℕ) → t note ≡ u note) → (notes : List ℕ) → plain.firstWith t notes ≡ quick.firstWith u notes
+unfolding plain.firstWith quick.firstWith
+first-same t u same [] = refl
+first-same t u same (note ∷ notes) = rw (first-same t u same notes, same note)
+
+-- bits of which fewer than n are 1 are, as a number, not all that they may be
+by-bits : (ones n bits all : ℕ) → (bits ≡ all → n ≤ ones) → (n ≤ ones → bits ≡ all) → ltb ones n ≡ not (eqb bits all)
+by-bits ones n bits all full whole =
+    elim (decLt ones n) [
+      | yes few ↦ lt-ltb ones n few ∙ sym (ap not (ne-eqb bits all (λ e. omega (arith, full e))))
+      | no many ↦ le-ltb ones n (omega arith) ∙ sym (ap not (eq-eqb bits all (whole (omega arith))))
+    ]
+
+two-bits : (y : ℕ) → y % 4 ≡ y % 2 + 2 * (y / 2 % 2)
+two-bits y = omega arith
+
+three-bits : (y : ℕ) → y % 8 ≡ y % 4 + 4 * (y / 4 % 2)
+three-bits y = omega arith
+
+by-three : (a b c bits : ℕ) → a ≤ 1 → b ≤ 1 → c ≤ 1 → bits ≡ a + 2 * b + 4 * c → ltb (0 + a + b + c) 3 ≡ not (eqb bits 7)
+by-three a b c bits ha hb hc e = by-bits (0 + a + b + c) 3 bits 7 (λ all. omega arith) (λ many. omega arith)
+
+-- of at most three bits from bit 5 on
+few-ones : (n : ℕ) → n ≤ 3 → (note : ℕ) → ltb (plain.sumOver n (λ (k : ℕ). note / 2 ^ (5 + k) % 2)) n ≡ not (eqb (note / 2 ^ 5 % 2 ^ n) (2 ^ n - 1))
+unfolding plain.sumOver
+few-ones zero h note = let none : note / 2 ^ 5 % 1 ≡ 0 = omega arith in rw none
+few-ones (suc zero) h note = by-bits (0 + note / 2 ^ 5 % 2) 1 (note / 2 ^ 5 % 2) 1 (λ e. omega (arith, e)) (λ m. omega (arith, m))
+few-ones (suc (suc zero)) h note =
+    let y = note / 2 ^ 5 in
+    rw (sym (div-div-eq-div-mul note 32 2))
+    (by-bits (0 + y % 2 + y / 2 % 2) 2 (y % 4) 3 (λ e. omega (arith, e, two-bits y)) (λ m. omega (arith, m, two-bits y)))
+few-ones (suc (suc (suc zero))) h note =
+    let y = note / 2 ^ 5 in
+    rw (sym (div-div-eq-div-mul note 32 2), sym (div-div-eq-div-mul note 32 4))
+    (by-three (y % 2) (y / 2 % 2) (y / 4 % 2) (y % 8) (omega arith) (omega arith) (omega arith) (three-bits y ∙ ap (λ (n : ℕ). n + 4 * (y / 4 % 2)) (two-bits y)))
+few-ones (suc (suc (suc (suc n)))) h note = absurd (over n h)
+  where
+    over : (n : ℕ) → suc (suc (suc (suc n))) ≤ 3 → ⊥
+    over n h = omega arith
 
 -- the order of refusals, whatever the tests say
 module _ (t2 t3 t4 te t5 : Bool) (f : ℕ) where
@@ -38,14 +75,24 @@ module _ (t2 t3 t4 te t5 : Bool) (f : ℕ) where
       cond t2 (plain.verdict 2 0)
       (cond t3 (plain.verdict 3 0) (cond t4 (plain.verdict 4 0) (cond te (plain.verdict 5 0) (cond t5 (plain.verdict 5 f) (plain.verdict 0 0)))))
 
-order : (t2 t3 t4 te t5 : Bool) (f : ℕ)
-    → (theirs t2 t3 t4 te t5 f .refusal ≡ ours t2 t3 t4 te t5 f .refusal) × (theirs t2 t3 t4 te t5 f .frame ≡ ours t2 t3 t4 te t5 f .frame)
+-- the same number, and the same frame named
+abbrev SameFault : Fault → Verdict → Type 0
+SameFault found v = (found .refusal ≡ v .refusal) × (found .frame ≡ v .frame)
+
+order : (t2 t3 t4 te t5 : Bool) (f : ℕ) → SameFault (theirs t2 t3 t4 te t5 f) (ours t2 t3 t4 te t5 f)
 order true t3 t4 te t5 f = (refl, refl)
 order false true t4 te t5 f = (refl, refl)
 order false false true te t5 f = (refl, refl)
 order false false false true t5 f = (refl, refl)
 order false false false false true f = (refl, refl)
 order false false false false false f = (refl, refl)
+
+-- and 10 after them
+then-ten : (t t10 : Bool) (f : ℕ) (theirs : Fault) (ours : Verdict) → SameFault theirs ours
+    → SameFault (cond t (cond t10 (quick.fault 10 f) (quick.fault 0 0)) theirs) (cond t (cond t10 (plain.verdict 10 f) (plain.verdict 0 0)) ours)
+then-ten false t10 f theirs ours same = same
+then-ten true true f theirs ours same = (refl, refl)
+then-ten true false f theirs ours same = (refl, refl)
 
 -- a fault that is none was given by no length
 no-size : (size : ℕ) (w : Fault) → quick.orElse (quick.fault size 0) w .refusal ≡ 0 → size ≡ 0
@@ -63,12 +110,30 @@ module _ (row : Row) (sh : Shared row) (earlier line : ℕ) (notes : List ℕ) (
   limit : 4 + row .alarms + row .nationals ≡ 4 + notedOf row
   limit = omega arith
 
-  pub judged : (no ≡ plain.verdictOn row earlier line notes buffer .refusal) × (quick.faultOf row earlier line notes buffer .frame ≡ plain.verdictOn row earlier line notes buffer .frame)
+  -- the tests of a note
+  full-same : (note : ℕ) → plain.tooMuch row note ≡ quick.overfull row note
+  full-same note = rw limit
+
+  lacking-same : (note : ℕ) → plain.tooFew row note ≡ quick.unset row note
+  unfolding plain.nationalOnes
+  lacking-same note = few-ones (row .nationals) (omega (arith, sh .few-alarm, sh .few-national)) note
+
+  pub same-faults : SameFault (quick.faultOf row earlier line notes buffer) (plain.verdictOn row earlier line notes buffer)
   unfolding quick.faultOf sizeRefusal framesRefusal plain.verdictOn
-  judged =
-      let f = quick.firstFaulty row notes in
-      rw (limit, first-same (2 ^ (4 + notedOf row)) notes)
+  same-faults =
+      let f = quick.firstWith (quick.overfull row) notes in
+      rw (first-same (plain.tooMuch row) (quick.overfull row) full-same notes)
       (order (badLine row line) (badNotes row line (length notes)) (badBuffer row line buffer) (quick.badEarlier row earlier) (ltb f (length notes)) f)
+
+  -- multiplexing: 10 after these
+  pub same-send-faults : SameFault (quick.sendFaultOf row earlier line notes buffer) (plain.sendingOn row earlier line notes buffer)
+  unfolding quick.sendFaultOf plain.sendingOn quick.faultOf plain.verdictOn
+  same-send-faults =
+      rw (← same-faults .0, first-same (plain.tooFew row) (quick.unset row) lacking-same notes)
+      (then-ten (eqb no 0) (ltb first (length notes)) first _ _ same-faults)
+    where
+      first : ℕ
+      first = quick.firstWith (quick.unset row) notes
 
   -- where nothing is refused the line is as many frames as there are notes, and the buffer four quarters with room for them
   pub sound : no ≡ 0 → (line ≡ length notes * row .bytes) × (buffer ≡ 4 * (buffer / 4)) × (length notes * row .room ≤ 8 * (buffer / 4))
@@ -77,19 +142,21 @@ module _ (row : Row) (sh : Shared row) (earlier line : ℕ) (notes : List ℕ) (
       let ok = accepted row line (length notes) buffer (no-size (sizeRefusal row line (length notes) buffer) (quick.orElse (quick.earlierFault row earlier) (quick.noteFault row notes)) e) in
       (rw (ok .framed .noted) (ok .framed .frames), ok .quarters, rw (ok .framed .noted) (ok .room))
 
-  pub answer-same : SameCounted (quick.answerOn row earlier line notes buffer) (plain.answerBy row earlier line notes (plain.verdictOn row earlier line notes buffer))
-  answer-same = go (eqb no 0) refl
+-- what the calls answer and leave, by what is at fault
+module _ (found : Fault) (v : Verdict) (same : SameFault found v) where
+  pub answer-same : (row : Row) → Shared row → (earlier line : ℕ) (notes : List ℕ) → (found .refusal ≡ 0 → line ≡ length notes * row .bytes)
+      → SameCounted (quick.answerBy row earlier notes found) (plain.answerBy row earlier line notes v)
+  answer-same row sh earlier line notes whole = go (eqb (found .refusal) 0) refl
     where
-      go : (t : Bool) → eqb no 0 ≡ t → SameCounted (quick.answerOn row earlier line notes buffer) (plain.answerBy row earlier line notes (plain.verdictOn row earlier line notes buffer))
+      go : (t : Bool) → eqb (found .refusal) 0 ≡ t → SameCounted (quick.answerBy row earlier notes found) (plain.answerBy row earlier line notes v)
       go true e =
-          rw (← judged .0, e) (record { refusal = refl; frame = refl; counts = sym (counts-same row sh earlier notes line (sound (eqb-true no 0 e) .0)) })
-      go false e = rw (← judged .0, e) (record { refusal = refl; frame = judged .1; counts = refl })
+          rw (← same .0, e) (record { refusal = refl; frame = refl; counts = sym (counts-same row sh earlier notes line (whole (eqb-true (found .refusal) 0 e))) })
+      go false e = rw (← same .0, e) (record { refusal = refl; frame = same .1; counts = refl })
 
   -- and the slice lent for writing is the same, where what is written is
-  pub left-same : (new : List ℕ) (old other : List ℕ) → (no ≡ 0 → new ≡ other)
-      → quick.leftOn row earlier line notes buffer new old ≡ cond (eqb (plain.verdictOn row earlier line notes buffer .refusal) 0) other old
-  left-same new old other same = rw (← judged .0) (go (eqb no 0) refl)
+  pub left-same : (new old other : List ℕ) → (found .refusal ≡ 0 → new ≡ other) → quick.leftBy found new old ≡ cond (eqb (v .refusal) 0) other old
+  left-same new old other writes = rw (← same .0) (go (eqb (found .refusal) 0) refl)
     where
-      go : (t : Bool) → eqb no 0 ≡ t → cond t new old ≡ cond t other old
-      go true e = same (eqb-true no 0 e)
+      go : (t : Bool) → eqb (found .refusal) 0 ≡ t → cond t new old ≡ cond t other old
+      go true e = writes (eqb-true (found .refusal) 0 e)
       go false e = refl

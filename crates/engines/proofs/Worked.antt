@@ -2,9 +2,9 @@
 -- them against, and by the theorem the quick engine's too.
 use mathlib.Core.Path.{_≡_, refl}
 use mathlib.Core.List.{List, [], _∷_}
-use Rattle.table.specs.Table.{row2, row12, row14}
+use Rattle.table.specs.Table.{row2, row4, row12, row14}
 use Rattle.plain.specs.declared.frame.Place.the-variants.{Alignment, Fixed, Control, Negative, Positive, Tributary}
-use Rattle.plain.specs.Engine.{sumOver, placeIn, carriesAt, carriesFor, countTo, digitAt, quarterDigit, sentAt, firstOver, verdict, verdictOn}
+use Rattle.plain.specs.Engine.{sumOver, placeIn, carriesAt, carriesFor, countTo, digitAt, quarterDigit, sentAt, firstWith, nationalOnes, verdict, verdictOn, sendingOn}
 
 -- level 12: the word, tributary digits from "9" on; in groups II and III control at "1 to 4", service at "5 to 8"; in group IV, which begins at
 -- place 792, "negative places 5 to 8, positive places 9 to 12, then tributary digits"
@@ -41,5 +41,15 @@ unused = (refl, refl, refl, refl)
 refused : (verdictOn row12 16 132 (0 ∷ []) 128 ≡ verdict 4 0) × (verdictOn row12 16 132 (0 ∷ []) 132 ≡ verdict 5 0)
     × (verdictOn row12 16 264 (0 ∷ 16 ∷ []) 264 ≡ verdict 5 0) × (verdictOn row12 15 264 (0 ∷ 16 ∷ []) 264 ≡ verdict 5 1)
     × (verdictOn row2 16 106 (0 ∷ []) 104 ≡ verdict 0 0)
-unfolding verdictOn firstOver
+unfolding verdictOn firstWith
 refused = (refl, refl, refl, refl, refl)
+
+-- multiplexing asks for the bits for national use, once 5 is asked of all notes: level 2, notes 00 40 hex are refused with 5 naming frame 1, not with 10
+-- naming frame 0; notes 20 00 00 with 10 naming frame 1; with 20 alone it goes on. Level 4 asks for all three: 60 is refused, E0 is not. Level 12 asks for
+-- none. No frame, no fault. Extraction by the note 00 goes on
+national : (sendingOn row2 0 212 (0 ∷ 64 ∷ []) 208 ≡ verdict 5 1) × (sendingOn row2 0 318 (32 ∷ 0 ∷ 0 ∷ []) 312 ≡ verdict 10 1)
+    × (sendingOn row2 0 106 (32 ∷ []) 104 ≡ verdict 0 0) × (sendingOn row4 0 366 (96 ∷ []) 364 ≡ verdict 10 0)
+    × (sendingOn row4 0 366 (224 ∷ []) 364 ≡ verdict 0 0) × (sendingOn row12 0 132 (0 ∷ []) 132 ≡ verdict 0 0)
+    × (sendingOn row2 0 0 [] 0 ≡ verdict 0 0) × (verdictOn row2 0 106 (0 ∷ []) 104 ≡ verdict 0 0)
+unfolding sendingOn verdictOn firstWith nationalOnes sumOver
+national = (refl, refl, refl, refl, refl, refl, refl, refl)

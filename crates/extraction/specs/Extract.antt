@@ -9,13 +9,13 @@ use Rattle.table.specs.declared.Row.{Row}
 use Rattle.levels.specs.declared.judging.Counted.{Counted}
 use Rattle.table.specs.Table.{levelOf}
 use Rattle.levels.specs.Sizes.{onLevel}
-use Rattle.levels.specs.Judging.{answered, leftOn}
+use Rattle.levels.specs.Judging.{faultOf, answered, leftBy}
 use Rattle.extraction.specs.Quarters.{quartersFrom}
 
 -- the buffer at the end: the quarters extracted by the notes and the vote before them, or as it was
 abbrev pub bufferOn : Row → ℕ → List ℕ → List ℕ → List ℕ → List ℕ
 bufferOn row earlier line notes buffer =
-    leftOn row earlier (length line) notes (length buffer) (quartersFrom row earlier notes line (length buffer / 4)) buffer
+    leftBy (faultOf row earlier (length line) notes (length buffer)) (quartersFrom row earlier notes line (length buffer / 4)) buffer
 
 abbrev pub bufferAfter : ℕ → ℕ → List ℕ → List ℕ → List ℕ → List ℕ
 bufferAfter level earlier line notes buffer = onLevel (levelOf level) (λ (row : Row). bufferOn row earlier line notes buffer) buffer

@@ -26,9 +26,9 @@ use Rattle.levels.specs.Sizes.{onLevel, badBuffer, quarterOf, sizeRefusal}
 use Rattle.levels.proofs.Rows.{shared-row}
 use Rattle.levels.proofs.Counts.{count-of}
 use Rattle.levels.proofs.Inverse.{before-rises}
-use Rattle.levels.proofs.Refusals.{faultless}
+use Rattle.levels.proofs.Refusals.{faultless, send-faultless}
 use Rattle.multiplex.specs.Line.{digitBy, lineDigit, lineOf}
-use Rattle.levels.specs.Judging.{fault, faultOf, refusedWith, answerOn, answered}
+use Rattle.levels.specs.Judging.{fault, faultOf, sendFaultOf, refusedWith, sendAnswerOn, sendAnswered}
 use Rattle.multiplex.specs.Multiplex.{lineOn, lineAfter}
 
 -- a place that carries no digit does not look at one
@@ -71,32 +71,32 @@ module _ (row : Row) (sh : Shared row) (earlier : ℕ) (notes : List ℕ) (t u :
       (tab-of (tab n 0 f) n (lineDigit row earlier notes u) (tab-length n 0 f) (λ p h. tab-at n 0 f p h ∙ ap f (zero-add p) ∙ same-digit p h))
 
 -- of the buffer's length a call asks only whether there is room
-same-fault : (row : Row) (earlier line : ℕ) (notes : List ℕ) (b b′ : ℕ) → badBuffer row line b ≡ badBuffer row line b′ → faultOf row earlier line notes b ≡ faultOf row earlier line notes b′
-unfolding faultOf sizeRefusal
+same-fault : (row : Row) (earlier line : ℕ) (notes : List ℕ) (b b′ : ℕ) → badBuffer row line b ≡ badBuffer row line b′ → sendFaultOf row earlier line notes b ≡ sendFaultOf row earlier line notes b′
+unfolding sendFaultOf faultOf sizeRefusal
 same-fault row earlier line notes b b′ e = rw e
 
 -- the same of the call
 pub not-looked-at : (level earlier : ℕ) (line notes b b′ : List ℕ)
     → ((row : Row) → levelOf level ≡ Of row → badBuffer row (length line) (length b) ≡ badBuffer row (length line) (length b′))
     → ((row : Row) → levelOf level ≡ Of row → Agree row earlier notes (λ (j : ℕ). digitsOf (quarterOf b j)) (λ (j : ℕ). digitsOf (quarterOf b′ j)))
-    → (answered level earlier (length line) notes (length b) ≡ answered level earlier (length line) notes (length b′)) × (lineAfter level earlier line notes b ≡ lineAfter level earlier line notes b′)
+    → (sendAnswered level earlier (length line) notes (length b) ≡ sendAnswered level earlier (length line) notes (length b′)) × (lineAfter level earlier line notes b ≡ lineAfter level earlier line notes b′)
 not-looked-at level earlier line notes b b′ room same = go (levelOf level) refl
   where
-    on-row : (row : Row) → levelOf level ≡ Of row → (r : Bool) → eqb (faultOf row earlier (length line) notes (length b′) .refusal) 0 ≡ r
+    on-row : (row : Row) → levelOf level ≡ Of row → (r : Bool) → eqb (sendFaultOf row earlier (length line) notes (length b′) .refusal) 0 ≡ r
         → lineOn row earlier line notes b ≡ lineOn row earlier line notes b′
     on-row row e true er =
-        let er′ : eqb (faultOf row earlier (length line) notes (length b) .refusal) 0 ≡ true = rw (same-fault row earlier (length line) notes (length b) (length b′) (room row e)) er in
-        let ok = faultless row earlier (length line) notes (length b′) (eqb-true (faultOf row earlier (length line) notes (length b′) .refusal) 0 er) .0 .framed in
+        let er′ : eqb (sendFaultOf row earlier (length line) notes (length b) .refusal) 0 ≡ true = rw (same-fault row earlier (length line) notes (length b) (length b′) (room row e)) er in
+        let ok = faultless row earlier (length line) notes (length b′) (send-faultless row earlier (length line) notes (length b′) (eqb-true (sendFaultOf row earlier (length line) notes (length b′) .refusal) 0 er) .0) .0 .framed in
         rw (er′, er)
         (same-line row (shared-row level row e) earlier notes _ _ (same row e) (length line) (ok .frames ∙ ap (λ (F : ℕ). F * row .bytes) (sym (ok .noted))))
     on-row row e false er =
-        let er′ : eqb (faultOf row earlier (length line) notes (length b) .refusal) 0 ≡ false = rw (same-fault row earlier (length line) notes (length b) (length b′) (room row e)) er in
+        let er′ : eqb (sendFaultOf row earlier (length line) notes (length b) .refusal) 0 ≡ false = rw (same-fault row earlier (length line) notes (length b) (length b′) (room row e)) er in
         rw (er′, er)
 
     go : (l : Level) → levelOf level ≡ l
-        → (onLevel l (λ (row : Row). answerOn row earlier (length line) notes (length b)) (refusedWith (fault 1 0))
-        ≡ onLevel l (λ (row : Row). answerOn row earlier (length line) notes (length b′)) (refusedWith (fault 1 0)))
+        → (onLevel l (λ (row : Row). sendAnswerOn row earlier (length line) notes (length b)) (refusedWith (fault 1 0))
+        ≡ onLevel l (λ (row : Row). sendAnswerOn row earlier (length line) notes (length b′)) (refusedWith (fault 1 0)))
         × (onLevel l (λ (row : Row). lineOn row earlier line notes b) line ≡ onLevel l (λ (row : Row). lineOn row earlier line notes b′) line)
     go (Of row) e =
-        (rw (same-fault row earlier (length line) notes (length b) (length b′) (room row e)), on-row row e (eqb (faultOf row earlier (length line) notes (length b′) .refusal) 0) refl)
+        (rw (same-fault row earlier (length line) notes (length b) (length b′) (room row e)), on-row row e (eqb (sendFaultOf row earlier (length line) notes (length b′) .refusal) 0) refl)
     go NoSuchLevel e = (refl, refl)

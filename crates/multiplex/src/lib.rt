@@ -31,7 +31,7 @@ ghost use Rattle.levels.specs.declared.order.Action.{Action};
 ghost use Rattle.levels.specs.declared.places.Kind.the-variants.{Word};
 ghost use Rattle.multiplex.specs.Line.{serviceBy, digitBy};
 ghost use Rattle.multiplex.specs.Sending.{Placed, nextOf, Ran, Sending, AllSent};
-ghost use Rattle.levels.specs.Judging.{answerOn};
+ghost use Rattle.levels.specs.Judging.{sendAnswerOn};
 ghost use Rattle.multiplex.specs.Multiplex.{lineOn, Met};
 
 // Digit r of the alignment word.
@@ -278,11 +278,11 @@ fn send_frames(row: Row, earlier: u64, line: &mut [u8], notes: &[u8], buffer: &[
 fn multiplex_on(row: Row, earlier: u64, line: &mut [u8], notes: &[u8], buffer: &[u8]) -> Counted
     requires { ⌜ Shared row ⌝ }
     ensures { λ r. ⌜
-        (r ≡ answerOn row earlier (length (now (line .entry))) (now (notes .entry)) (length (now (buffer .entry))))
+        (r ≡ sendAnswerOn row earlier (length (now (line .entry))) (now (notes .entry)) (length (now (buffer .entry))))
         × (now (line .exit) ≡ lineOn row earlier (now (line .entry)) (now (notes .entry)) (now (buffer .entry)))
         ⌝ }
 {
-    let found = judging::fault_of(row, earlier, line.len(), notes, buffer.len());
+    let found = judging::send_fault_of(row, earlier, line.len(), notes, buffer.len());
     if found.refusal != 0 {
         return judging::refused(found);
     }

@@ -4,6 +4,7 @@ use crate::svg;
 use crate::text;
 use console::files;
 use console::help;
+use console::national;
 use console::page::Page;
 use console::say;
 use levels::order;
@@ -46,18 +47,35 @@ fn sign_of(kind: u8) -> Sign {
     Sign::Positive
 }
 
+// The note, or where there is none one that multiplexing takes: of such a frame the word alone is drawn with its digits.
+fn note_of(row: Row, noted: Noted) -> u8 {
+    if noted.given {
+        return noted.note;
+    }
+    national::bits(row.nationals)
+}
+
+fn refused(level: u64, refusal: u64) {
+    if refusal == 10 {
+        say::text(b"refused 10: the note");
+        national::clear(level);
+        return;
+    }
+    say::text(b"refused 5: the note");
+    help::wrong_bits(level);
+}
+
 // Where drawn, word k of the call names the picture's file.
 pub fn run(row: Row, level: u64, noted: Noted, drawn: bool, k: usize)
     requires { ⌜ Shared row ⌝ }
 {
     let mut line = [0u8; 366];
-    let notes = [noted.note];
+    let notes = [note_of(row, noted)];
     let zeros = [0u8; 368];
     let n = row.bytes;
     let r = multiplex::multiplex(level, noted.earlier, &mut line[..n], &notes, &zeros);
     if r.refusal != 0 {
-        say::text(b"refused 5: the note");
-        help::wrong_bits(level);
+        refused(level, r.refusal);
         return;
     }
     if !drawn {

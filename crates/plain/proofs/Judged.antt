@@ -11,7 +11,7 @@ use lib.ListN.{length}
 use borrow.Author.Tests.{eqb-true, ltb-false, not-false}
 use Rattle.table.specs.declared.Row.{Row}
 use Rattle.plain.specs.declared.refusals.Verdict.{Verdict}
-use Rattle.plain.specs.Engine.{badLine, badNotes, badBuffer, firstFaulty, badEarlier, verdict, verdictOn, readingOn}
+use Rattle.plain.specs.Engine.{badLine, badNotes, badBuffer, firstFaulty, firstLacking, badEarlier, verdict, verdictOn, sendingOn, readingOn}
 use Rattle.plain.specs.Walk.{Regular, Fits}
 
 -- where neither of two faults is there
@@ -60,6 +60,20 @@ accepted row re earlier line notes buffer e =
     let four = unrefused (badBuffer row line buffer) 4 (voted .refusal) (λ z. omega arith) (sym (number (badBuffer row line buffer) (verdict 4 0) voted) ∙ three .1) in
     let fours = eqb-true (buffer % 4) 0 (neither (eqb (buffer % 4) 0) (ltb (8 * (buffer / 4)) (line / row .bytes * row .room)) (four .0) .0) in
     (fits-by row re line (length notes) (two .0) (three .0), omega arith)
+
+-- what multiplexing accepts, extraction does
+pub sent-accepted : (row : Row) (earlier line : ℕ) (notes : List ℕ) (buffer : ℕ) → sendingOn row earlier line notes buffer .refusal ≡ 0
+    → verdictOn row earlier line notes buffer .refusal ≡ 0
+unfolding sendingOn
+sent-accepted row earlier line notes buffer e = go (eqb (v .refusal) 0) refl e
+  where
+    v : Verdict
+    v = verdictOn row earlier line notes buffer
+
+    go : (t : Bool) → eqb (v .refusal) 0 ≡ t
+        → cond t (cond (ltb (firstLacking row notes) (length notes)) (verdict 10 (firstLacking row notes)) (verdict 0 0)) v .refusal ≡ 0 → v .refusal ≡ 0
+    go true z _ = eqb-true (v .refusal) 0 z
+    go false _ z = z
 
 pub readable : (row : Row) → Regular row → (line notes : ℕ) → readingOn row line notes ≡ 0 → Fits row line notes
 unfolding readingOn

@@ -259,14 +259,28 @@ badBuffer row line buffer = not (eqb (buffer % 4) 0) || ltb (8 * (buffer / 4)) (
 abbrev pub badEarlier : Row → ℕ → Bool
 badEarlier row earlier = negativePlaces row && ltb 15 earlier
 
--- 5: a note has a bit set that the level has not: "bit 6 or 7" at levels 2 and 3, any but the votes at 12 and 14: the first such frame, or the
--- number of notes where there is none
-unfoldable pub firstOver : ℕ → List ℕ → ℕ
-firstOver limit [] = 0
-firstOver limit (note ∷ notes) = cond (leb limit note) 0 (suc (firstOver limit notes))
+-- the first frame whose note meets a test, or the number of notes where there is none
+unfoldable pub firstWith : (ℕ → Bool) → List ℕ → ℕ
+firstWith test [] = 0
+firstWith test (note ∷ notes) = cond (test note) 0 (suc (firstWith test notes))
+
+-- 5: a note has a bit set that the level has not: "bit 6 or 7" at levels 2 and 3, any but the votes at 12 and 14
+abbrev pub tooMuch : Row → ℕ → Bool
+tooMuch row note = leb (2 ^ (4 + row .alarms + row .nationals)) note
 
 abbrev pub firstFaulty : Row → List ℕ → ℕ
-firstFaulty row notes = firstOver (2 ^ (4 + row .alarms + row .nationals)) notes
+firstFaulty row notes = firstWith (tooMuch row) notes
+
+-- 10: "a note whose national bits for that level are not all 1": of the bits from 5 on, as many as the level has digits for national use, fewer
+-- are 1. A level without such digits refuses no note
+unfoldable pub nationalOnes : Row → ℕ → ℕ
+nationalOnes row note = sumOver (row .nationals) (λ (k : ℕ). note / 2 ^ (5 + k) % 2)
+
+abbrev pub tooFew : Row → ℕ → Bool
+tooFew row note = ltb (nationalOnes row note) (row .nationals)
+
+abbrev pub firstLacking : Row → List ℕ → ℕ
+firstLacking row notes = firstWith (tooFew row) notes
 
 abbrev pub verdict : ℕ → ℕ → Verdict
 verdict refusal frame = record { refusal = refusal; frame = frame }
@@ -280,6 +294,13 @@ verdictOn row earlier line notes buffer =
     (cond (badBuffer row line buffer) (verdict 4 0)
     (cond (badEarlier row earlier) (verdict 5 0)
     (cond (ltb (firstFaulty row notes) (length notes)) (verdict 5 (firstFaulty row notes)) (verdict 0 0)))))
+
+-- multiplexing, after these: 10, and the frame that it names
+unfoldable pub sendingOn : Row → ℕ → ℕ → List ℕ → ℕ → Verdict
+sendingOn row earlier line notes buffer =
+    cond (eqb (verdictOn row earlier line notes buffer .refusal) 0)
+    (cond (ltb (firstLacking row notes) (length notes)) (verdict 10 (firstLacking row notes)) (verdict 0 0))
+    (verdictOn row earlier line notes buffer)
 
 -- reading the notes: 2 and 3
 unfoldable pub readingOn : Row → ℕ → ℕ → ℕ
@@ -307,12 +328,12 @@ sentLine row earlier line notes buffer v = cond (eqb (v .refusal) 0) (packed (le
 
 abbrev pub multiplexed : ℕ → ℕ → List ℕ → List ℕ → List ℕ → Answered
 multiplexed level earlier line notes buffer =
-    onLevel (levelOf level) (λ (row : Row). answerBy row earlier (length line) notes (verdictOn row earlier (length line) notes (length buffer)))
+    onLevel (levelOf level) (λ (row : Row). answerBy row earlier (length line) notes (sendingOn row earlier (length line) notes (length buffer)))
     (refusedWith 1)
 
 abbrev pub lineAfter : ℕ → ℕ → List ℕ → List ℕ → List ℕ → List ℕ
 lineAfter level earlier line notes buffer =
-    onLevel (levelOf level) (λ (row : Row). sentLine row earlier line notes buffer (verdictOn row earlier (length line) notes (length buffer))) line
+    onLevel (levelOf level) (λ (row : Row). sentLine row earlier line notes buffer (sendingOn row earlier (length line) notes (length buffer))) line
 
 pub record MultiplexMet (level earlier : ℕ) (line notes buffer : List ℕ) (answer : Answered) (left : List ℕ) : Type 0 where
   pub answered : answer ≡ multiplexed level earlier line notes buffer

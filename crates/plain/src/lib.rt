@@ -12,11 +12,11 @@ use table::Level;
 use table::Row;
 ghost use mathlib.Core.Path.{_≡_};
 ghost use lib.ListN.{length};
-ghost use Rattle.plain.specs.Engine.{verdictOn, readingOn, MultiplexMet, ReadNotesMet, ExtractMet};
+ghost use Rattle.plain.specs.Engine.{verdictOn, sendingOn, readingOn, MultiplexMet, ReadNotesMet, ExtractMet};
 ghost use Rattle.plain.specs.Engine.{answerBy, sentLine, readAnswer, readLeft, takenBuffer};
 ghost use Rattle.plain.specs.Walk.{Regular};
 
-// What multiplexing and extraction answer: the refusal, the frame that refusal 5 names, the digits of each tributary.
+// What multiplexing and extraction answer: the refusal, the frame that refusal 5 or 10 names, the digits of each tributary.
 pub struct Answered {
     pub refusal: u64,
     pub frame: usize,
@@ -36,13 +36,13 @@ fn multiplex_on(row: Row, earlier: u64, line: &mut [u8], notes: &[u8], buffer: &
     ensures { λ r. ⌜
         (r
         ≡ answerBy row earlier (length (now (line .entry))) (now (notes .entry))
-        (verdictOn row earlier (length (now (line .entry))) (now (notes .entry)) (length (now (buffer .entry)))))
+        (sendingOn row earlier (length (now (line .entry))) (now (notes .entry)) (length (now (buffer .entry)))))
         × (now (line .exit)
         ≡ sentLine row earlier (now (line .entry)) (now (notes .entry)) (now (buffer .entry))
-        (verdictOn row earlier (length (now (line .entry))) (now (notes .entry)) (length (now (buffer .entry)))))
+        (sendingOn row earlier (length (now (line .entry))) (now (notes .entry)) (length (now (buffer .entry)))))
         ⌝ }
 {
-    let v = refusals::verdict_on(row, earlier, line.len(), notes, buffer.len());
+    let v = refusals::sending_on(row, earlier, line.len(), notes, buffer.len());
     if v.refusal != 0 {
         return Answered {
             refusal: v.refusal,

@@ -3,10 +3,10 @@ use table::Row;
 ghost use mathlib.Core.Path.{_≡_};
 ghost use Prim.Native.Nat.{_/_, _^_, _<_, _≤_};
 ghost use lib.ListN.{length};
-ghost use Rattle.plain.specs.Engine.{badLine, badBuffer, badEarlier, firstFaulty, verdictOn, readingOn};
+ghost use Rattle.plain.specs.Engine.{badLine, badBuffer, badEarlier, firstFaulty, nationalOnes, firstLacking, verdictOn, sendingOn, readingOn};
 ghost use Rattle.plain.specs.Walk.{Regular};
 
-// The refusal, or 0, and the frame that refusal 5 names, or 0.
+// The refusal, or 0, and the frame that refusal 5 or 10 names, or 0.
 pub struct Verdict {
     pub refusal: u64,
     pub frame: usize,
@@ -66,6 +66,35 @@ fn refused(refusal: u64, frame: usize) -> Verdict
     Verdict { refusal, frame }
 }
 
+// How many of a note's bits for national use are 1.
+fn national_ones(row: Row, note: u8) -> usize
+    requires { ⌜ Regular row ⌝ }
+    ensures { λ r. ⌜ r ≡ nationalOnes row note ⌝ }
+{
+    let mut ones: usize = 0;
+    let mut k: usize = 0;
+    while k < row.nationals {
+        ones += ((note >> (5 + k)) % 2) as usize;
+        k += 1;
+    }
+    ones
+}
+
+// 10: the first frame whose note has a bit for national use that is not 1, or the number of notes where there is none.
+fn first_lacking(row: Row, notes: &[u8]) -> usize
+    requires { ⌜ Regular row ⌝ }
+    ensures { λ r. ⌜ r ≡ firstLacking row (now (notes .entry)) ⌝ }
+{
+    let mut f: usize = 0;
+    while f < notes.len() {
+        if national_ones(row, notes[f]) < row.nationals {
+            return f;
+        }
+        f += 1;
+    }
+    f
+}
+
 // 2, 3, 4 and 5 in this order: for multiplexing and for extraction.
 pub fn verdict_on(row: Row, earlier: u64, line: usize, notes: &[u8], buffer: usize) -> Verdict
     requires { ⌜ Regular row × (buffer < 2 ^ 63) ⌝ }
@@ -88,6 +117,22 @@ pub fn verdict_on(row: Row, earlier: u64, line: usize, notes: &[u8], buffer: usi
     let f = first_faulty(row, notes);
     if f < notes.len() {
         return refused(5, f);
+    }
+    refused(0, 0)
+}
+
+// Then 10: for multiplexing.
+pub fn sending_on(row: Row, earlier: u64, line: usize, notes: &[u8], buffer: usize) -> Verdict
+    requires { ⌜ Regular row × (buffer < 2 ^ 63) ⌝ }
+    ensures { λ r. ⌜ r ≡ sendingOn row earlier line (now (notes .entry)) buffer ⌝ }
+{
+    let v = verdict_on(row, earlier, line, notes, buffer);
+    if v.refusal != 0 {
+        return v;
+    }
+    let lacking = first_lacking(row, notes);
+    if lacking < notes.len() {
+        return refused(10, lacking);
     }
     refused(0, 0)
 }

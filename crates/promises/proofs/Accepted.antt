@@ -28,8 +28,8 @@ use Rattle.levels.proofs.Inverse.{places-length}
 use Rattle.levels.proofs.Judged.{accepted, fits-quarter, no-size-refused}
 use Rattle.levels.specs.declared.judging.Counted.{Counted}
 use Rattle.levels.specs.declared.judging.Fault.{Fault}
-use Rattle.levels.specs.Judging.{fault, badEarlier, faultOf, refusedWith, counted, answerOn, answered}
-use Rattle.levels.proofs.Refusals.{EarlierFits, NotesFit, faultless, fit-faultless}
+use Rattle.levels.specs.Judging.{fault, badEarlier, faultOf, sendFaultOf, refusedWith, counted, answerOn, answered, sendAnswerOn, sendAnswered}
+use Rattle.levels.proofs.Refusals.{EarlierFits, NotesFit, NationalsSet, number, faultless, fit-faultless, send-faultless, set-faultless}
 use Rattle.multiplex.specs.Line.{lineDigit, lineOf}
 use Rattle.reading.specs.Notes.{noteOf, notesOf, dissentTo, dissentsOf}
 use Rattle.extraction.specs.Quarters.{takenTo, quarterFrom, quartersFrom}
@@ -37,6 +37,7 @@ use Rattle.extraction.specs.Extract.{bufferAfter}
 use Rattle.promises.specs.Damage.{lineDigits}
 use Rattle.promises.specs.Carried.{Sound, digitsSent, digitsRead}
 use Rattle.promises.specs.Calls.{Lent, SendAccepted, sentLine, sentCounts, sentDigits, outcome, ReadAccepted, readNotes, readDigits, LentFor}
+use Rattle.promises.specs.Extraction.{ExtractAccepted, extractCounts}
 use Rattle.promises.specs.Together.{Outcome, refusedWhole, readWhole, togetherOn, together}
 use Rattle.promises.proofs.Together.{split}
 use Rattle.promises.proofs.RoundTrip.{line-binary}
@@ -46,9 +47,13 @@ pub some-level : {A : Type 0} (P : A → Type 0) (level : Level) (go : Row → A
 some-level P (Of row) go none n h = (row, refl)
 some-level P NoSuchLevel go none n h = absurd (n h)
 
+pub call-level : (level earlier : ℕ) (c : Lent) → ExtractAccepted level earlier c → (row : Row) × (levelOf level ≡ Of row)
+call-level level earlier c ok =
+    some-level (λ (r : Counted). r .refusal ≡ 0) (levelOf level) (λ (row : Row). answerOn row earlier (length (c .line)) (c .notes) (length (c .buffer))) (refusedWith (fault 1 0)) (λ e. omega arith) ok
+
 pub send-level : (level earlier : ℕ) (c : Lent) → SendAccepted level earlier c → (row : Row) × (levelOf level ≡ Of row)
 send-level level earlier c ok =
-    some-level (λ (r : Counted). r .refusal ≡ 0) (levelOf level) (λ (row : Row). answerOn row earlier (length (c .line)) (c .notes) (length (c .buffer))) (refusedWith (fault 1 0)) (λ e. omega arith) ok
+    some-level (λ (r : Counted). r .refusal ≡ 0) (levelOf level) (λ (row : Row). sendAnswerOn row earlier (length (c .line)) (c .notes) (length (c .buffer))) (refusedWith (fault 1 0)) (λ e. omega arith) ok
 
 -- a reading that was accepted is that of the one call
 pub as-together : (level earlier : ℕ) (c : Lent) → ReadAccepted level earlier c → outcome level earlier c ≡ together level earlier (c .line) (c .notes) (c .buffer)
@@ -200,11 +205,42 @@ module _ (level earlier : ℕ) (row : Row) (e : levelOf level ≡ Of row) where
       let zero : together level earlier (other .line) (other .notes) (other .buffer) .refusal ≡ 0 = rw (e, whole, fits) in
       ap (λ (o : Outcome). o .refusal) (split level earlier (other .line) (other .notes) (other .buffer) .same (rw zero (lit< tt))) ∙ zero
 
-  -- a call of accepted lengths, with an earlier vote and notes that fit the level, is accepted
-  pub send-accepted : (c : Lent) → sizeRefusal row (length (c .line)) (length (c .notes)) (length (c .buffer)) ≡ 0 → EarlierFits row earlier → NotesFit row (c .notes)
-      → SendAccepted level earlier c
-  send-accepted c size vote fit =
-      rw (e, fit-faultless row earlier (length (c .line)) (c .notes) (length (c .buffer)) (accepted row (length (c .line)) (length (c .notes)) (length (c .buffer)) size) vote fit)
+  -- a call of accepted lengths, with an earlier vote and notes that fit the level, is accepted; multiplexing, where the national bits are set too
+  module _ (c : Lent) (size : sizeRefusal row (length (c .line)) (length (c .notes)) (length (c .buffer)) ≡ 0) (vote : EarlierFits row earlier) (fit : NotesFit row (c .notes)) where
+    none : faultOf row earlier (length (c .line)) (c .notes) (length (c .buffer)) ≡ fault 0 0
+    none = fit-faultless row earlier (length (c .line)) (c .notes) (length (c .buffer)) (accepted row (length (c .line)) (length (c .notes)) (length (c .buffer)) size) vote fit
+
+    pub call-accepted : ExtractAccepted level earlier c
+    call-accepted = rw (e, none)
+
+    pub send-accepted : NationalsSet row (c .notes) → SendAccepted level earlier c
+    send-accepted set = rw (e, set-faultless row earlier (length (c .line)) (c .notes) (length (c .buffer)) none set)
+
+  -- an accepted call that goes by notes: of extraction, and of multiplexing, whose calls extraction accepts too
+  module _ (c : Lent) (ok : ExtractAccepted level earlier c) where
+    abbrev N : ℕ
+    N = length (c .notes)
+
+    abbrev pub found : Fault
+    found = faultOf row earlier (length (c .line)) (c .notes) (length (c .buffer))
+
+    pub unrefused : found .refusal ≡ 0
+    unrefused = zero-refusal (λ (r : Counted). r .refusal) (found .refusal) (counted row earlier (c .notes)) (refusedWith found) refl (rw e at ok)
+
+    pub call-sizes : Accepted row (length (c .line)) N (length (c .buffer))
+    call-sizes = faultless row earlier (length (c .line)) (c .notes) (length (c .buffer)) unrefused .0
+
+    pub call-places : 8 * length (c .line) ≡ N * row .digits
+    call-places = line-places row sh (length (c .line)) N (length (c .buffer)) call-sizes
+
+    call-answer : answered level earlier (length (c .line)) (c .notes) (length (c .buffer)) ≡ counted row earlier (c .notes)
+    call-answer = rw (e, eq-eqb (found .refusal) 0 unrefused)
+
+    pub call-counts : extractCounts level earlier c ≡ countsOf row earlier (c .notes) N
+    call-counts = ap (λ (r : Counted). r .counts) call-answer
+
+    pub call-count : (j : ℕ) → j < 4 → getD (extractCounts level earlier c) j 0 ≡ countOf row (actions row earlier (c .notes) j) N
+    call-count j hj = ap (λ (counts : List ℕ). getD counts j 0) call-counts ∙ count-at row earlier (c .notes) N j hj
 
   -- an accepted send
   module _ (c : Lent) (ok : SendAccepted level earlier c) where
@@ -214,17 +250,20 @@ module _ (level earlier : ℕ) (row : Row) (e : levelOf level ≡ Of row) where
     abbrev pub tributary : ℕ → List ℕ
     tributary j = digitsOf (quarterOf (c .buffer) j)
 
-    abbrev pub found : Fault
-    found = faultOf row earlier (length (c .line)) (c .notes) (length (c .buffer))
+    abbrev found-sending : Fault
+    found-sending = sendFaultOf row earlier (length (c .line)) (c .notes) (length (c .buffer))
 
-    pub unrefused : found .refusal ≡ 0
-    unrefused = zero-refusal (λ (r : Counted). r .refusal) (found .refusal) (counted row earlier (c .notes)) (refusedWith found) refl (rw e at ok)
+    unrefused-sending : found-sending .refusal ≡ 0
+    unrefused-sending = zero-refusal (λ (r : Counted). r .refusal) (found-sending .refusal) (counted row earlier (c .notes)) (refusedWith found-sending) refl (rw e at ok)
+
+    faultless-sending : (faultOf row earlier (length (c .line)) (c .notes) (length (c .buffer)) .refusal ≡ 0) × NationalsSet row (c .notes)
+    faultless-sending = send-faultless row earlier (length (c .line)) (c .notes) (length (c .buffer)) unrefused-sending
 
     pub send-sizes : Accepted row (length (c .line)) F (length (c .buffer))
-    send-sizes = faultless row earlier (length (c .line)) (c .notes) (length (c .buffer)) unrefused .0
+    send-sizes = faultless row earlier (length (c .line)) (c .notes) (length (c .buffer)) (faultless-sending .0) .0
 
     pub send-vote : EarlierFits row earlier
-    send-vote = faultless row earlier (length (c .line)) (c .notes) (length (c .buffer)) unrefused .1 .0
+    send-vote = faultless row earlier (length (c .line)) (c .notes) (length (c .buffer)) (faultless-sending .0) .1 .0
 
     pub send-whole : length (c .line) ≡ F * row .bytes
     send-whole = line-bytes row (length (c .line)) F (length (c .buffer)) send-sizes
@@ -236,19 +275,20 @@ module _ (level earlier : ℕ) (row : Row) (e : levelOf level ≡ Of row) where
     send-sound =
         record {
           all-noted = refl;
-          notes-fit = faultless row earlier (length (c .line)) (c .notes) (length (c .buffer)) unrefused .1 .1;
+          notes-fit = faultless row earlier (length (c .line)) (c .notes) (length (c .buffer)) (faultless-sending .0) .1 .1;
+          nationals-set = faultless-sending .1;
           digits = λ j hj. digits-binary (quarterOf (c .buffer) j);
           room = λ j hj. rw (digits-length, quarter-length (c .buffer) j hj) (fits-quarter sh send-sizes .room);
         }
 
     pub send-bytes : sentLine level earlier c ≡ lineOf row earlier (c .notes) tributary (length (c .line))
-    send-bytes = rw (e, eq-eqb (found .refusal) 0 unrefused)
+    send-bytes = rw (e, eq-eqb (found-sending .refusal) 0 unrefused-sending)
 
     pub send-line : digitsOf (sentLine level earlier c) ≡ lineDigits row earlier (c .notes) tributary F
     send-line = ap digitsOf send-bytes ∙ line-digits row earlier (c .notes) tributary (send-sound .digits) (length (c .line)) F send-places
 
-    send-answer : answered level earlier (length (c .line)) (c .notes) (length (c .buffer)) ≡ counted row earlier (c .notes)
-    send-answer = rw (e, eq-eqb (found .refusal) 0 unrefused)
+    send-answer : sendAnswered level earlier (length (c .line)) (c .notes) (length (c .buffer)) ≡ counted row earlier (c .notes)
+    send-answer = rw (e, eq-eqb (found-sending .refusal) 0 unrefused-sending)
 
     pub send-counts : sentCounts level earlier c ≡ countsOf row earlier (c .notes) F
     send-counts = ap (λ (r : Counted). r .counts) send-answer

@@ -3,15 +3,15 @@
 use mathlib.Core.Path.{_≡_, refl, sym, _∙_, ap}
 use mathlib.Core.Bool.{Bool, cond, true, false, not, true≢false}
 use mathlib.Core.List.{List, [], _∷_}
-use Prim.Native.Nat.{ℕ, zero, suc, _+_, _*_, _-_, _/_, _%_, _≤_, _<_, min}
+use Prim.Native.Nat.{ℕ, zero, suc, _+_, _*_, _-_, _/_, _%_, _^_, _≤_, _<_, min}
 use native.Mathlib.Omega.{arith}
 use native.Mathlib.Decide.{decLe}
-use native.Mathlib.Nat.{zero-add, lt-of-mul-lt-mul-right}
+use native.Mathlib.Nat.{zero-add, lt-of-mul-lt-mul-right, mod-eq-of-lt, div-div-eq-div-mul}
 use lib.Dec.{eqb, lit<}
 use lib.ListN.{length, getD, replicate, length-replicate, getD-replicate}
 use lib.Seq.{ext-getD}
-use lib.Pow.{pow-mono}
-use borrow.Author.Tests.{le-leb, lt-leb}
+use lib.Pow.{pow-pos}
+use borrow.Author.Tests.{eq-eqb, le-leb, lt-leb}
 use Rattle.digits.specs.Digits.{digitsOf, bytesOf, tab, Binary, differing}
 use Rattle.digits.specs.Sums.{sumTo}
 use Rattle.digits.proofs.Laws.{by-digit, digits-binary, tab-at, tab-length, tab-binary, zeros-at, zeros-binary}
@@ -33,14 +33,14 @@ use Rattle.levels.proofs.Positions.{stands, pos-of-sum}
 use Rattle.levels.proofs.Majority.{group-length}
 use Rattle.levels.proofs.Ways.{kind-control}
 use Rattle.multiplex.specs.Line.{digitBy, lineDigit}
-use Rattle.levels.specs.Judging.{firstOver, faultOf}
+use Rattle.levels.specs.Judging.{firstWith, unset, faultOf, sendFaultOf}
 use Rattle.reading.specs.Notes.{voteAt, serviceAt, noteOf}
 use Rattle.extraction.specs.Quarters.{takenTo, quarterFrom, quartersFrom}
 use Rattle.promises.specs.Damage.{Liberty, at-will, counted, kept, liberty, libertyAt, groupAt, allowed, DamageUpTo, Damage, controlsChanged, lineDigits}
 use Rattle.promises.specs.Carried.{Sound}
 use Rattle.promises.specs.Calls.{SendAccepted, sentLine, outcome, LentAt, DamageAt}
 use Rattle.promises.specs.Together.{Outcome}
-use Rattle.promises.specs.Border.{inverted, spoilt, changes, early, late, noneStuffed, allStuffed, idle, Border, exampleSend, exampleLine, exampleDamaged, exampleRead, Example}
+use Rattle.promises.specs.Border.{inverted, spoilt, changes, early, late, nationalBits, noneStuffed, allStuffed, idle, Border, exampleSend, exampleLine, exampleDamaged, exampleRead, Example}
 use Rattle.promises.proofs.Sent.{control-place, in-line, sent-at}
 use Rattle.promises.proofs.Recovered.{dissent-changed}
 use Rattle.promises.proofs.RoundTrip.{line-binary}
@@ -125,12 +125,57 @@ changes-early row (suc k) =
       | no h ↦ rw (lt-leb (k + 1) (allowed row) (omega arith)) (omega (arith, changes-early row k))
     ]
 
--- of the notes 0 and 15, bits 0 to 3
-none-bit : (j : ℕ) → j < 4 → stuffed 0 j ≡ false
-none-bit = of-four (λ (j : ℕ). stuffed 0 j ≡ false) refl refl refl refl
+-- of notes with national bits alone, and with all four decisions beside them, bits 0 to 3
+no-bit : (note j : ℕ) → note / 2 ^ j % 2 ≡ 0 → stuffed note j ≡ false
+no-bit note j e = rw e
 
-all-bit : (j : ℕ) → j < 4 → stuffed 15 j ≡ true
-all-bit = of-four (λ (j : ℕ). stuffed 15 j ≡ true) refl refl refl refl
+a-bit : (note j : ℕ) → note / 2 ^ j % 2 ≡ 1 → stuffed note j ≡ true
+a-bit note j e = rw e
+
+none-bit : (m j : ℕ) → j < 4 → stuffed (32 * m) j ≡ false
+none-bit m =
+    of-four (λ (j : ℕ). stuffed (32 * m) j ≡ false) (no-bit (32 * m) 0 (omega arith)) (no-bit (32 * m) 1 (omega arith)) (no-bit (32 * m) 2 (omega arith))
+    (no-bit (32 * m) 3 (omega arith))
+
+all-bit : (m j : ℕ) → j < 4 → stuffed (15 + 32 * m) j ≡ true
+all-bit m =
+    of-four (λ (j : ℕ). stuffed (15 + 32 * m) j ≡ true) (a-bit (15 + 32 * m) 0 (omega arith)) (a-bit (15 + 32 * m) 1 (omega arith))
+    (a-bit (15 + 32 * m) 2 (omega arith)) (a-bit (15 + 32 * m) 3 (omega arith))
+
+-- and above them both are alike
+no-alarm : (m : ℕ) → (32 * m / 2 ^ 4 % 2 ≡ 0) × ((15 + 32 * m) / 2 ^ 4 % 2 ≡ 0)
+no-alarm m = (omega arith, omega arith)
+
+above : (m : ℕ) → (15 + 32 * m) / 2 ^ 5 ≡ 32 * m / 2 ^ 5
+above m = omega arith
+
+-- a note of decisions and the level's national bits fits the level
+bits-fit : (alarms nationals : ℕ) → alarms ≤ 1 → nationals ≤ 3 * alarms → (low : ℕ) → low < 16 → low + 32 * (2 ^ nationals - 1) < 2 ^ (4 + (alarms + nationals))
+bits-fit zero zero a n low h = omega arith
+bits-fit zero (suc k) a n low h = absurd (none k n)
+  where
+    none : (k : ℕ) → suc k ≤ 0 → ⊥
+    none k n = omega arith
+bits-fit (suc zero) zero a n low h = omega arith
+bits-fit (suc zero) (suc zero) a n low h = omega arith
+bits-fit (suc zero) (suc (suc zero)) a n low h = omega arith
+bits-fit (suc zero) (suc (suc (suc zero))) a n low h = omega arith
+bits-fit (suc zero) (suc (suc (suc (suc k)))) a n low h = absurd (none k n)
+  where
+    none : (k : ℕ) → suc (suc (suc (suc k))) ≤ 3 → ⊥
+    none k n = omega arith
+bits-fit (suc (suc k)) nationals a n low h = absurd (none k a)
+  where
+    none : (k : ℕ) → suc (suc k) ≤ 1 → ⊥
+    none k a = omega arith
+
+-- and has them all
+bits-set : (row : Row) (low : ℕ) → low < 16 → unset row (low + nationalBits row) ≡ false
+bits-set row low h =
+    let m = 2 ^ row .nationals - 1 in
+    let above : (low + 32 * m) / 2 ^ 5 ≡ m = omega arith in
+    let all : m % 2 ^ row .nationals ≡ m = mod-eq-of-lt (omega (arith, pow-pos (row .nationals))) in
+    rw (above, all, eq-eqb m m refl)
 
 module _ (row : Row) (sh : Shared row) where
   -- the early sets are as many as digits of a group are allowed to change, the late ones one more
@@ -156,30 +201,34 @@ module _ (row : Row) (sh : Shared row) where
   no-ones false early = refl
 
   -- the digits of the two sends, changed, meet at every place, whatever their frames do
-  meets : (r : ℕ) (early : Bool) (j : ℕ) → j < 4 → (one other : Action) (k : Kind)
-      → inverted (liberty k one) early (digitBy row 0 one j r 0 k) ≡ inverted (liberty k other) (not early) (digitBy row 15 other j r 0 k)
-  meets r early j hj one other Word = refl
-  meets r early j hj one other (Service RemoteAlarm) = refl
-  meets r early j hj one other (Service FirstNational) = refl
-  meets r early j hj one other (Service SecondNational) = refl
-  meets r early j hj one other (Service ThirdNational) = refl
-  meets r early j hj one other (Service Fixed) = refl
-  meets r true j hj one other Control = rw (none-bit j hj, all-bit j hj)
-  meets r false j hj one other Control = rw (none-bit j hj, all-bit j hj)
-  meets r early j hj one other (Justification sign) =
+  meets : (m r : ℕ) (early : Bool) (j : ℕ) → j < 4 → (one other : Action) (k : Kind)
+      → inverted (liberty k one) early (digitBy row (32 * m) one j r 0 k) ≡ inverted (liberty k other) (not early) (digitBy row (15 + 32 * m) other j r 0 k)
+  meets m r early j hj one other Word = refl
+  meets m r early j hj one other (Service RemoteAlarm) = omega (arith, no-alarm m)
+  meets m r early j hj one other (Service FirstNational) = rw (above m)
+  meets m r early j hj one other (Service SecondNational) =
+      rw (sym (div-div-eq-div-mul (32 * m) 32 2), sym (div-div-eq-div-mul (15 + 32 * m) 32 2), above m)
+  meets m r early j hj one other (Service ThirdNational) =
+      rw (sym (div-div-eq-div-mul (32 * m) 32 4), sym (div-div-eq-div-mul (15 + 32 * m) 32 4), above m)
+  meets m r early j hj one other (Service Fixed) = refl
+  meets m r true j hj one other Control = rw (none-bit m j hj, all-bit m j hj)
+  meets m r false j hj one other Control = rw (none-bit m j hj, all-bit m j hj)
+  meets m r early j hj one other (Justification sign) =
       no-ones (carried (Justification sign) one) early ∙ sym (no-ones (carried (Justification sign) other) (not early))
-  meets r early j hj one other Tributary = refl
+  meets m r early j hj one other Tributary = refl
 
   module _ (earlier F : ℕ) where
     abbrev lineOf : List ℕ → List ℕ
     lineOf notes = lineDigits row earlier notes (idle row F) F
 
-    -- the same note in every frame, with decisions only
-    sound : (note : ℕ) → note < 16 → Sound row F (replicate F note) (idle row F)
-    sound note h =
+    -- the same note in every frame, with decisions and the national bits only
+    sound : (low : ℕ) → low < 16 → Sound row F (replicate F (low + nationalBits row)) (idle row F)
+    sound low h =
+        let note = low + nationalBits row in
         record {
           all-noted = length-replicate F note;
-          notes-fit = λ f hf. rw (getD-replicate F f note 0 hf) (omega (arith, pow-mono {i = 4} {j = 4 + notedOf row} (omega arith)));
+          notes-fit = λ f hf. rw (getD-replicate F f note 0 hf) (bits-fit (row .alarms) (row .nationals) (sh .few-alarm) (sh .few-national) low h);
+          nationals-set = λ f hf. rw (getD-replicate F f note 0 hf) (bits-set row low h);
           digits = λ j hj. zeros-binary (F * row .room);
           room = λ j hj. rw (length-replicate {A = ℕ} (F * row .room) 0) (omega arith);
         }
@@ -204,31 +253,37 @@ module _ (row : Row) (sh : Shared row) where
         new-at row sh earlier notes change F (lineOf notes) (binary notes) p h
         ∙ rw (sent-at row sh earlier notes (idle row F) F p h, getD-replicate F f note 0 hf, zeros-at (F * row .room) (before row (actions row earlier notes (p % 4)) (p % 4) (p / 4)))
 
-    meet : spoilt row earlier (noneStuffed F) (early row) F (lineOf (noneStuffed F)) ≡ spoilt row earlier (allStuffed F) (late row) F (lineOf (allStuffed F))
+    meet : spoilt row earlier (noneStuffed row F) (early row) F (lineOf (noneStuffed row F)) ≡ spoilt row earlier (allStuffed row F) (late row) F (lineOf (allStuffed row F))
     meet =
-        ext-getD 0 (spoilt row earlier (noneStuffed F) (early row) F (lineOf (noneStuffed F))) (spoilt row earlier (allStuffed F) (late row) F (lineOf (allStuffed F)))
-        (long 0 (early row) ∙ sym (long 15 (late row)))
+        ext-getD 0 (spoilt row earlier (noneStuffed row F) (early row) F (lineOf (noneStuffed row F))) (spoilt row earlier (allStuffed row F) (late row) F (lineOf (allStuffed row F)))
+        (long one (early row) ∙ sym (long other (late row)))
         (λ p h.
-        let in-frames : p < F * row .digits = omega (arith, long 0 (early row)) in
-        at-place 0 (early row) p in-frames
-        ∙ meets (posOf row p .place) (early row (posOf row p .set)) (p % 4) (omega arith) (acts 0 p) (acts 15 p) (kindAt row p)
-        ∙ sym (at-place 15 (late row) p in-frames))
+        let in-frames : p < F * row .digits = omega (arith, long one (early row)) in
+        at-place one (early row) p in-frames
+        ∙ meets (2 ^ row .nationals - 1) (posOf row p .place) (early row (posOf row p .set)) (p % 4) (omega arith) (acts one p) (acts other p) (kindAt row p)
+        ∙ sym (at-place other (late row) p in-frames))
+      where
+        one : ℕ
+        one = nationalBits row
+
+        other : ℕ
+        other = 15 + nationalBits row
 
     pub border : Border row earlier F
     border =
         record {
-          line = spoilt row earlier (noneStuffed F) (early row) F (lineOf (noneStuffed F));
-          sound-one = sound 0 (lit< tt);
+          line = spoilt row earlier (noneStuffed row F) (early row) F (lineOf (noneStuffed row F));
+          sound-one = rw (zero-add (nationalBits row)) at (sound 0 (lit< tt));
           sound-other = sound 15 (lit< tt);
-          from-one = all-allowed earlier (noneStuffed F) F (lineOf (noneStuffed F)) (binary (noneStuffed F));
-          from-other = rw (meet, ← late-count) (spoilt-damage row sh earlier (allStuffed F) (late row) F (lineOf (allStuffed F)) (binary (allStuffed F)));
+          from-one = all-allowed earlier (noneStuffed row F) F (lineOf (noneStuffed row F)) (binary (noneStuffed row F));
+          from-other = rw (meet, ← late-count) (spoilt-damage row sh earlier (allStuffed row F) (late row) F (lineOf (allStuffed row F)) (binary (allStuffed row F)));
           dissenting = λ j hj.
-              dissent-changed row sh F earlier (noneStuffed F) (idle row F) (spoilt row earlier (noneStuffed F) (early row) F (lineOf (noneStuffed F)))
-              (all-allowed earlier (noneStuffed F) F (lineOf (noneStuffed F)) (binary (noneStuffed F))) j hj
-              ∙ spoilt-controls row sh earlier (noneStuffed F) (early row) F (lineOf (noneStuffed F)) (binary (noneStuffed F)) j hj ∙ ap (λ (k : ℕ). F * k) early-count;
+              dissent-changed row sh F earlier (noneStuffed row F) (idle row F) (spoilt row earlier (noneStuffed row F) (early row) F (lineOf (noneStuffed row F)))
+              (all-allowed earlier (noneStuffed row F) F (lineOf (noneStuffed row F)) (binary (noneStuffed row F))) j hj
+              ∙ spoilt-controls row sh earlier (noneStuffed row F) (early row) F (lineOf (noneStuffed row F)) (binary (noneStuffed row F)) j hj ∙ ap (λ (k : ℕ). F * k) early-count;
           changed-other = λ j hj.
-              rw meet (spoilt-controls row sh earlier (allStuffed F) (late row) F (lineOf (allStuffed F)) (binary (allStuffed F)) j hj ∙ ap (λ (k : ℕ). F * k) late-count);
-          differ = λ j f hj hf e. true≢false (sym (rw (getD-replicate {A = ℕ} F f 0 0 hf, getD-replicate {A = ℕ} F f 15 0 hf, none-bit j hj, all-bit j hj) at e));
+              rw meet (spoilt-controls row sh earlier (allStuffed row F) (late row) F (lineOf (allStuffed row F)) (binary (allStuffed row F)) j hj ∙ ap (λ (k : ℕ). F * k) late-count);
+          differ = λ j f hj hf e. true≢false (sym (rw (getD-replicate {A = ℕ} F f (nationalBits row) 0 hf, getD-replicate {A = ℕ} F f (15 + nationalBits row) 0 hf, none-bit (2 ^ row .nationals - 1) j hj, all-bit (2 ^ row .nationals - 1) j hj) at e));
         }
 
 -- at 8448 and at 34368 kbit/s the digit too much is the second of three, at 139264 the third of five; with positive/zero/negative justification
@@ -250,15 +305,15 @@ two-of-three-at-14 earlier = border row14 shared14 earlier 2
 
 -- the example, by computation
 example-leaves : sentLine 2 0 exampleSend ≡ exampleLine
-unfolding levelOf faultOf framesRefusal sizeRefusal firstOver bytesOf tab lineDigit before carries actionOf posOf kindOf firstSet middleSet lastSet digitsOf exampleLine
+unfolding levelOf sendFaultOf faultOf framesRefusal sizeRefusal firstWith bytesOf tab lineDigit before carries actionOf posOf kindOf firstSet middleSet lastSet digitsOf exampleLine
 example-leaves = refl
 
-example-spoilt : spoilt row2 0 (1 ∷ []) (early row2) 1 (digitsOf exampleLine) ≡ digitsOf exampleDamaged
+example-spoilt : spoilt row2 0 (0x21 ∷ []) (early row2) 1 (digitsOf exampleLine) ≡ digitsOf exampleDamaged
 unfolding tab actionOf posOf kindOf firstSet middleSet lastSet digitsOf exampleLine exampleDamaged
 example-spoilt = refl
 
 example-accepted : SendAccepted 2 0 exampleSend
-unfolding levelOf faultOf framesRefusal sizeRefusal firstOver
+unfolding levelOf sendFaultOf faultOf framesRefusal sizeRefusal firstWith
 example-accepted = refl
 
 example-seventeen : differing (digitsOf exampleLine) (digitsOf exampleDamaged) ≡ 17
@@ -267,7 +322,7 @@ example-seventeen = refl
 
 example-damaged : DamageAt 2 0 (exampleSend .notes) (sentLine 2 0 exampleSend) exampleDamaged
 unfolding levelOf
-example-damaged = rw (example-leaves, ← example-spoilt) (all-allowed row2 shared2 0 (1 ∷ []) 1 (digitsOf exampleLine) (digits-binary exampleLine))
+example-damaged = rw (example-leaves, ← example-spoilt) (all-allowed row2 shared2 0 (0x21 ∷ []) 1 (digitsOf exampleLine) (digits-binary exampleLine))
 
 example-read : outcome 2 0 exampleRead
     ≡ record {
@@ -276,10 +331,10 @@ example-read : outcome 2 0 exampleRead
       counts = 205 ∷ 206 ∷ 206 ∷ 206 ∷ [];
       alignment = 10;
       dissent = 1 ∷ 1 ∷ 1 ∷ 1 ∷ [];
-      notes = 0x31 ∷ [];
+      notes = 0x11 ∷ [];
       buffer = exampleSend .buffer;
     }
-unfolding levelOf framesRefusal sizeRefusal firstOver faultOf noteOf voteAt serviceAt voteBy votesFor groupOf countOf sumTo quartersFrom quarterFrom takenTo placesOf carries actionOf posOf kindOf firstSet middleSet lastSet tab bytesOf digitsOf exampleDamaged
+unfolding levelOf framesRefusal sizeRefusal firstWith faultOf noteOf voteAt serviceAt voteBy votesFor groupOf countOf sumTo quartersFrom quarterFrom takenTo placesOf carries actionOf posOf kindOf firstSet middleSet lastSet tab bytesOf digitsOf exampleDamaged
 example-read = refl
 
 example-lent : LentAt 2 exampleSend exampleRead

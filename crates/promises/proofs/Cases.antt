@@ -22,7 +22,7 @@ use Rattle.levels.specs.Order.{actionOf, actions, carries, before, placesOf, co
 use Rattle.levels.specs.Sizes.{quarterOf, framesRefusal, sizeRefusal}
 use Rattle.levels.specs.Vote.{votesFor, voteBy}
 use Rattle.multiplex.specs.Line.{lineDigit, lineOf}
-use Rattle.levels.specs.Judging.{firstOver, firstFaulty, fault, badEarlier, faultOf, answered}
+use Rattle.levels.specs.Judging.{firstWith, overfull, unset, fault, badEarlier, faultOf, sendFaultOf, sendAnswered}
 use Rattle.multiplex.specs.Multiplex.{lineAfter}
 use Rattle.promises.specs.Cases.{Every, cases, signedCases}
 
@@ -54,32 +54,33 @@ zero-quarters row earlier notes tributary bytes zero-at =
 
 -- so a frame that computes, of a note that the level has, is what the call makes
 sent-frame : (level earlier : ℕ) (row : Row) → levelOf level ≡ Of row → (note : ℕ) (bytes counts : List ℕ)
-    → row .bytes % row .bytes ≡ 0 → row .bytes / row .bytes ≡ 1 → badEarlier row earlier ≡ false → firstFaulty row (note ∷ []) ≡ 1
+    → row .bytes % row .bytes ≡ 0 → row .bytes / row .bytes ≡ 1 → badEarlier row earlier ≡ false → firstWith (overfull row) (note ∷ []) ≡ 1
+    → firstWith (unset row) (note ∷ []) ≡ 1
     → lineOf row earlier (note ∷ []) (λ (j : ℕ). []) (row .bytes) ≡ bytes → countsOf row earlier (note ∷ []) 1 ≡ counts
     → (line : List ℕ) (q : ℕ) → length line ≡ row .bytes → row .room ≤ 8 * q
-    → (answered level earlier (length line) (note ∷ []) (4 * q) ≡ record { refusal = 0; frame = 0; counts = counts })
+    → (sendAnswered level earlier (length line) (note ∷ []) (4 * q) ≡ record { refusal = 0; frame = 0; counts = counts })
     × (lineAfter level earlier line (note ∷ []) (replicate (4 * q) 0) ≡ bytes)
-unfolding faultOf framesRefusal sizeRefusal
-sent-frame level earlier row e note bytes counts whole one vote fits is are line q len room =
+unfolding sendFaultOf faultOf framesRefusal sizeRefusal
+sent-frame level earlier row e note bytes counts whole one vote fits set is are line q len room =
     let zeros = length-replicate {A = ℕ} (4 * q) 0 in
     let quarters : 4 * q % 4 ≡ 0 = omega arith in
     let enough : ltb (8 * (4 * q / 4)) (1 * row .room) ≡ false = le-ltb (8 * (4 * q / 4)) (1 * row .room) (omega arith) in
-    let ok : faultOf row earlier (length line) (note ∷ []) (4 * q) ≡ fault 0 0 = rw (len, whole, one, quarters, enough, vote, fits) in
+    let ok : sendFaultOf row earlier (length line) (note ∷ []) (4 * q) ≡ fault 0 0 = rw (len, whole, one, quarters, enough, vote, fits, set) in
     let made = rw zeros at (zero-quarters row earlier (note ∷ []) (λ (j : ℕ). digitsOf (quarterOf (replicate (4 * q) 0) j)) (length line) (quarter-digit (4 * q))) in (
       rw (e, ok) (ap (λ (c : List ℕ). record { refusal = 0; frame = 0; counts = c }) are),
       rw (e, zeros, ok) (made ∙ rw len is),
     )
 
 pub all-hold : Every cases
-unfolding cases levelOf firstSet middleSet lastSet kindOf posOf actionOf carries before placesOf sumTo countOf votesFor voteBy lineDigit tab bytesOf firstOver
+unfolding cases levelOf firstSet middleSet lastSet kindOf posOf actionOf carries before placesOf sumTo countOf votesFor voteBy lineDigit tab bytesOf firstWith
 all-hold = (
-  sent-frame 2 0 row2 refl 0x00 _ _ refl refl refl refl refl refl,
+  sent-frame 2 0 row2 refl 0x20 _ _ refl refl refl refl refl refl refl,
   (
-    sent-frame 2 0 row2 refl 0x3F _ _ refl refl refl refl refl refl,
+    sent-frame 2 0 row2 refl 0x3F _ _ refl refl refl refl refl refl refl,
     (
-      sent-frame 3 0 row3 refl 0x01 _ _ refl refl refl refl refl refl,
+      sent-frame 3 0 row3 refl 0x21 _ _ refl refl refl refl refl refl refl,
       (
-        sent-frame 4 0 row4 refl 0xFF _ _ refl refl refl refl refl refl,
+        sent-frame 4 0 row4 refl 0xFF _ _ refl refl refl refl refl refl refl,
         (refl, (refl, (refl, (refl, (refl, (refl, (refl, (refl, (refl, (refl, (refl, (refl, (refl, (refl, (refl, (refl, tt)))))))))))))))),
       ),
     ),
@@ -87,15 +88,15 @@ all-hold = (
 )
 
 pub signed-hold : Every signedCases
-unfolding signedCases levelOf firstSet middleSet lastSet kindOf posOf actionOf carries before placesOf sumTo countOf votesFor voteBy lineDigit tab bytesOf firstOver
+unfolding signedCases levelOf firstSet middleSet lastSet kindOf posOf actionOf carries before placesOf sumTo countOf votesFor voteBy lineDigit tab bytesOf firstWith
 signed-hold = (
-  sent-frame 12 0x00 row12 refl 0x00 _ _ refl refl refl refl refl refl,
+  sent-frame 12 0x00 row12 refl 0x00 _ _ refl refl refl refl refl refl refl,
   (
-    sent-frame 12 0x0F row12 refl 0x0F _ _ refl refl refl refl refl refl,
+    sent-frame 12 0x0F row12 refl 0x0F _ _ refl refl refl refl refl refl refl,
     (
-      sent-frame 12 0x03 row12 refl 0x05 _ _ refl refl refl refl refl refl,
+      sent-frame 12 0x03 row12 refl 0x05 _ _ refl refl refl refl refl refl refl,
       (
-        sent-frame 14 0x03 row14 refl 0x05 _ _ refl refl refl refl refl refl,
+        sent-frame 14 0x03 row14 refl 0x05 _ _ refl refl refl refl refl refl refl,
         (refl, (refl, (refl, (refl, (refl, (refl, (refl, (refl, (refl, (refl, (refl, tt))))))))))),
       ),
     ),

@@ -1,6 +1,6 @@
 -- The statements on the calls say no less than they may. Sends that carried the same leave lines of which the one comes from the other by
 -- damage: what they carried is all that a line tells. And what demultiplexing is said to return is what it leaves in notes and buffer:
--- multiplexed again, it is accepted and carries the same, and an undamaged line comes again byte for byte.
+-- multiplexed again, where the national digits came as 1, it is accepted and carries the same, and an undamaged line comes again byte for byte.
 use mathlib.Core.Path.{_≡_, refl, sym, _∙_, ap}
 use mathlib.Core.Bool.{cond, true}
 use mathlib.Core.List.{List}
@@ -21,12 +21,13 @@ use Rattle.levels.specs.Places.{kindAt, posOf}
 use Rattle.levels.specs.Sizes.{quarterOf}
 use Rattle.levels.specs.Order.{decisions, actions, carries}
 use Rattle.levels.proofs.Columns.{columns, frame-start}
+use Rattle.levels.proofs.Refusals.{NationalsSet}
 use Rattle.multiplex.specs.Line.{lineDigit, lineOf}
 use Rattle.multiplex.proofs.Unread.{Agree, same-line}
 use Rattle.reading.specs.Notes.{notesOf}
 use Rattle.promises.specs.Damage.{kept, libertyAt, Damage, lineDigits}
-use Rattle.promises.specs.Calls.{Lent, SendAccepted, sentLine, sentCounts, sentDigits, ReadAccepted, readCounts, readDigits, readDissent}
-use Rattle.promises.specs.Calls.{sentOn, LentAt, DamageAt, SendsSame, SendReturned, SendBack, ReadsSame}
+use Rattle.promises.specs.Calls.{Lent, SendAccepted, sentLine, sentCounts, sentDigits, ReadAccepted, readNotes, readCounts, readDigits, readDissent}
+use Rattle.promises.specs.Calls.{NationalsSetAt, sentOn, LentAt, DamageAt, SendsSame, SendReturned, SendBack, ReadsSame}
 use Rattle.promises.specs.Together.{Outcome}
 use Rattle.promises.proofs.Sent.{sent-group, sent-carried}
 use Rattle.promises.proofs.Reading.{note-fits}
@@ -113,14 +114,15 @@ module _ (level earlier : ℕ) (row : Row) (e : levelOf level ≡ Of row) (c : L
       rw (read-buffer level earlier row e c ok)
       (quarters-length row earlier (notesOf row (digitsOf (c .line)) (length (c .notes))) (c .line) (length (c .buffer) / 4) ∙ sym (read-sizes level earlier row e c ok .quarters))
 
-  accepted-on : SendAccepted level earlier (sentOn level earlier c)
-  accepted-on =
+  accepted-on : NationalsSet row (readNotes level earlier c) → SendAccepted level earlier (sentOn level earlier c)
+  accepted-on set =
       send-accepted level earlier row e (sentOn level earlier c) (rw (read-frames level earlier row e c ok, buffer-on) (accepted-size level earlier row e c ok)) (accepted-vote level earlier row e c ok)
       (λ f hf. rw (read-notes level earlier row e c ok) (note-fits row (digitsOf (c .line)) (digits-binary (c .line)) f (shared level row e) (length (c .notes)) (omega (arith, read-frames level earlier row e c ok))))
+      set
 
-  counts-on : sentCounts level earlier (sentOn level earlier c) ≡ readCounts level earlier c
-  counts-on =
-      send-counts level earlier row e (sentOn level earlier c) accepted-on
+  counts-on : NationalsSet row (readNotes level earlier c) → sentCounts level earlier (sentOn level earlier c) ≡ readCounts level earlier c
+  counts-on set =
+      send-counts level earlier row e (sentOn level earlier c) (accepted-on set)
       ∙ rw (read-frames level earlier row e c ok, read-notes level earlier row e c ok) (sym (ap (λ (r : Outcome). r .counts) (read-answer level earlier row e c ok)))
 
   fours : (length (readCounts level earlier c) ≡ 4) × (length (readDissent level earlier c) ≡ 4)
@@ -128,22 +130,25 @@ module _ (level earlier : ℕ) (row : Row) (e : levelOf level ≡ Of row) (c : L
       let answer = read-answer level earlier row e c ok in
       (ap (λ (r : Outcome). length (r .counts)) answer, ap (λ (r : Outcome). length (r .dissent)) answer)
 
-  digits-on : (j : ℕ) → sentDigits level earlier (sentOn level earlier c) j ≡ readDigits level earlier c j
-  digits-on j = ap (λ (counts : List ℕ). take (getD counts j 0) (digitsOf (quarterOf (sentOn level earlier c .buffer) j))) counts-on
+  digits-on : NationalsSet row (readNotes level earlier c) → (j : ℕ) → sentDigits level earlier (sentOn level earlier c) j ≡ readDigits level earlier c j
+  digits-on set j = ap (λ (counts : List ℕ). take (getD counts j 0) (digitsOf (quarterOf (sentOn level earlier c .buffer) j))) (counts-on set)
 
--- whatever line was read, what the reading leaves is accepted for sending
-pub sent-on-accepted : (level earlier : ℕ) (c : Lent) → ReadAccepted level earlier c → SendAccepted level earlier (sentOn level earlier c)
-sent-on-accepted level earlier c ok = let on = read-level level earlier c ok in accepted-on level earlier (on .0) (on .1) c ok
+-- whatever line was read, what the reading leaves is accepted for sending, where the national digits came as 1
+pub sent-on-accepted : (level earlier : ℕ) (c : Lent) → ReadAccepted level earlier c → NationalsSetAt level (readNotes level earlier c)
+    → SendAccepted level earlier (sentOn level earlier c)
+sent-on-accepted level earlier c ok set = let on = read-level level earlier c ok in accepted-on level earlier (on .0) (on .1) c ok (rw (on .1) at set)
 
 -- where demultiplexing returned a send, what it leaves carries the same as the send
-pub sent-on : (level earlier : ℕ) (send read : Lent) → SendReturned level earlier send read → SendsSame level earlier send (sentOn level earlier read)
-sent-on level earlier send read back =
+pub sent-on : (level earlier : ℕ) (send read : Lent) → SendReturned level earlier send read → NationalsSetAt level (readNotes level earlier read)
+    → SendsSame level earlier send (sentOn level earlier read)
+sent-on level earlier send read back came =
     let on = read-level level earlier read (back .accepted) in
+    let set : NationalsSet (on .0) (readNotes level earlier read) = rw (on .1) at came in
     record {
       frames = sym (back .frames);
       decided = λ j f hj hf. sym (back .decided j f hj hf);
-      counted = sym (back .counted) ∙ sym (counts-on level earlier (on .0) (on .1) read (back .accepted));
-      digits = λ j hj. sym (back .digits j hj) ∙ sym (digits-on level earlier (on .0) (on .1) read (back .accepted) j);
+      counted = sym (back .counted) ∙ sym (counts-on level earlier (on .0) (on .1) read (back .accepted) set);
+      digits = λ j hj. sym (back .digits j hj) ∙ sym (digits-on level earlier (on .0) (on .1) read (back .accepted) set j);
     }
 
 -- where each of the four tributaries comes out of two readings the same, so do all counts and all dissent
@@ -158,25 +163,29 @@ alike-answers level earlier a b ok same =
     )
 
 -- and what they leave carries the same
-pub alike-on : (level earlier : ℕ) (a b : Lent) → ReadAccepted level earlier a → ((k : ℕ) → k < 4 → ReadsSame level earlier k a b) → SendsSame level earlier (sentOn level earlier a) (sentOn level earlier b)
-alike-on level earlier a b ok same =
+pub alike-on : (level earlier : ℕ) (a b : Lent) → ReadAccepted level earlier a → ((k : ℕ) → k < 4 → ReadsSame level earlier k a b)
+    → NationalsSetAt level (readNotes level earlier a) → NationalsSetAt level (readNotes level earlier b) → SendsSame level earlier (sentOn level earlier a) (sentOn level earlier b)
+alike-on level earlier a b ok same came came-b =
     let on = read-level level earlier a ok in
     let row = on .0 in
     let e = on .1 in
+    let set : NationalsSet row (readNotes level earlier a) = rw e at came in
+    let set-b : NationalsSet row (readNotes level earlier b) = rw e at came-b in
     let ok-b = same 0 (lit< tt) .accepted in
     record {
       frames = same 0 (lit< tt) .frames;
       decided = λ j f hj hf. same j hj .decided f (omega (arith, read-frames level earlier row e a ok));
-      counted = counts-on level earlier row e a ok ∙ alike-answers level earlier a b ok same .0 ∙ sym (counts-on level earlier row e b ok-b);
-      digits = λ j hj. digits-on level earlier row e a ok j ∙ same j hj .digits ∙ sym (digits-on level earlier row e b ok-b j);
+      counted = counts-on level earlier row e a ok set ∙ alike-answers level earlier a b ok same .0 ∙ sym (counts-on level earlier row e b ok-b set-b);
+      digits = λ j hj. digits-on level earlier row e a ok set j ∙ same j hj .digits ∙ sym (digits-on level earlier row e b ok-b set-b j);
     }
 
--- so a station that demultiplexes a damaged line and multiplexes what it read sends a line that comes from the first by damage
+-- so a station that demultiplexes a damaged line, its national digits not damaged, and multiplexes what it read sends a line that comes from the first
+-- by damage
 pub repeated : (level earlier : ℕ) (send read : Lent) → SendAccepted level earlier send → LentAt level send read → DamageAt level earlier (send .notes) (sentLine level earlier send) (read .line)
-    → DamageAt level earlier (send .notes) (sentLine level earlier send) (sentLine level earlier (sentOn level earlier read))
-repeated level earlier send read ok lent damage =
+    → NationalsSetAt level (readNotes level earlier read) → DamageAt level earlier (send .notes) (sentLine level earlier send) (sentLine level earlier (sentOn level earlier read))
+repeated level earlier send read ok lent damage came =
     let back = send-returned level earlier send read ok lent damage in
-    same-meet level earlier send (sentOn level earlier read) ok (sent-on-accepted level earlier read (back .accepted)) (sent-on level earlier send read back)
+    same-meet level earlier send (sentOn level earlier read) ok (sent-on-accepted level earlier read (back .accepted) came) (sent-on level earlier send read back came)
 
 -- and one that is sent on undamaged comes again, byte for byte
 pub line-again : (level earlier : ℕ) (send read : Lent) → SendAccepted level earlier send → LentAt level send read → read .line ≡ sentLine level earlier send
@@ -186,11 +195,11 @@ line-again level earlier send read ok lent same = let on = send-level level earl
     back : SendBack level earlier send read
     back = send-back level earlier send read ok lent same
 
-    onward : SendAccepted level earlier (sentOn level earlier read)
-    onward = sent-on-accepted level earlier read (back .returned .accepted)
-
     go : (row : Row) → levelOf level ≡ Of row → sentLine level earlier (sentOn level earlier read) ≡ sentLine level earlier send
     go row e =
         let size : length (read .line) ≡ length (send .line) = ap length (same ∙ send-bytes level earlier row e send ok) ∙ bytes-length (length (send .line)) _ in
-        one-line level earlier row e send (sentOn level earlier read) ok onward (sent-on level earlier send read (back .returned))
+        let set : NationalsSet row (readNotes level earlier read) = rw (back .noted) (send-sound level earlier row e send ok .nationals-set) in
+        let came : NationalsSetAt level (readNotes level earlier read) = rw e set in
+        let onward = sent-on-accepted level earlier read (back .returned .accepted) came in
+        one-line level earlier row e send (sentOn level earlier read) ok onward (sent-on level earlier send read (back .returned) came)
         ∙ rw (back .noted, size) (sym (send-bytes level earlier row e send ok))

@@ -40,8 +40,8 @@ use Rattle.promises.specs.Extraction.{ExtractAccepted, extractCounts, ex
 use Rattle.promises.specs.Extraction.{SameBit, ExtractsSame, Extracted, frameBefore, frameAfter, byNotes, Steady}
 use Rattle.promises.proofs.Order.{column-place, places-same, count-same, actions-same, digits-same}
 use Rattle.promises.proofs.RoundTrip.{round-trip}
-use Rattle.promises.proofs.Accepted.{send-level, shared, count-at, lent-accepted, send-accepted, tributary, found, unrefused, send-sizes, send-vote, send-places, send-sound, send-line}
-use Rattle.promises.proofs.Accepted.{send-counts, send-count, send-digits, quarter-taken}
+use Rattle.promises.proofs.Accepted.{call-level, send-level, shared, count-at, lent-accepted, call-accepted, tributary, found, unrefused, call-sizes, call-places, call-counts, call-count, send-sizes, send-vote, send-places, send-sound, send-line}
+use Rattle.promises.proofs.Accepted.{send-counts, send-digits, quarter-taken}
 
 -- a place that carries a digit bears one
 pub carried-bears : (k : Kind) (act : Action) → carried k act ≡ true → bears k ≡ true
@@ -70,8 +70,8 @@ module _ (level earlier : ℕ) (row : Row) (e : levelOf level ≡ Of row) where
 
     pub digits-left : extractDigits level earlier c j ≡ takenTo row earlier (c .notes) (digitsOf (c .line)) j (length (c .notes) * columns row)
     digits-left =
-        rw (left, send-count level earlier row e c ok j hj)
-        (quarter-taken row sh earlier (c .notes) (c .line) (length (c .notes)) (length (c .buffer) / 4) j hj (send-places level earlier row e c ok) (fits-quarter sh (send-sizes level earlier row e c ok) .room))
+        rw (left, call-count level earlier row e c ok j hj)
+        (quarter-taken row sh earlier (c .notes) (c .line) (length (c .notes)) (length (c .buffer) / 4) j hj (call-places level earlier row e c ok) (fits-quarter sh (call-sizes level earlier row e c ok) .room))
 
   -- the line of a send, by the notes that are read of it
   back-on : (send c : Lent) (old : List ℕ) → SendAccepted level earlier send → LentFor (row .room) send c → c .line ≡ sentLine level earlier send → length old ≡ length (send .notes)
@@ -79,7 +79,7 @@ module _ (level earlier : ℕ) (row : Row) (e : levelOf level ≡ Of row) where
   back-on send c old ok lent line many read =
       record {
         accepted = accepted;
-        counted = send-counts level earlier row e c accepted ∙ ap (λ (notes : List ℕ). countsOf row earlier notes (length notes)) sent ∙ sym (send-counts level earlier row e send ok);
+        counted = call-counts level earlier row e c accepted ∙ ap (λ (notes : List ℕ). countsOf row earlier notes (length notes)) sent ∙ sym (send-counts level earlier row e send ok);
         digits = λ j hj. digits-left c accepted j hj ∙ (taken j ∙ (trip .returned .digits j hj ∙ sym (send-digits level earlier row e send ok j hj)));
       }
     where
@@ -109,7 +109,7 @@ module _ (level earlier : ℕ) (row : Row) (e : levelOf level ≡ Of row) where
 
       accepted : ExtractAccepted level earlier c
       accepted =
-          send-accepted level earlier row e c (no-size-refused row (length (c .line)) (length (c .notes)) (length (c .buffer)) sizes) (send-vote level earlier row e send ok)
+          call-accepted level earlier row e c (no-size-refused row (length (c .line)) (length (c .notes)) (length (c .buffer)) sizes) (send-vote level earlier row e send ok)
           (rw sent (send-sound level earlier row e send ok .notes-fit))
 
 -- tributary k by its own digits and its own bits, of the notes and of the vote before them
@@ -122,7 +122,7 @@ module _ (level x y : ℕ) (row : Row) (e : levelOf level ≡ Of row) where
   unfolding takenTo carries
   bearing-on k a b ok-a ok-b hk same bits =
       record {
-        counted = send-count level x row e a ok-a k hk ∙ count-same row da db F acts ∙ ap (λ (n : ℕ). countOf row db n) (bits .frames) ∙ sym (send-count level y row e b ok-b k hk);
+        counted = call-count level x row e a ok-a k hk ∙ count-same row da db F acts ∙ ap (λ (n : ℕ). countOf row db n) (bits .frames) ∙ sym (call-count level y row e b ok-b k hk);
         digits = digits-left level x row e a ok-a k hk ∙ taken ∙ ap (λ (n : ℕ). takenTo row y (b .notes) (digitsOf (b .line)) k (n * columns row)) (bits .frames)
             ∙ sym (digits-left level y row e b ok-b k hk);
       }
@@ -142,7 +142,7 @@ module _ (level x y : ℕ) (row : Row) (e : levelOf level ≡ Of row) where
       at : (c : ℕ) → c < F * columns row → carries row db (4 * c + k) ≡ true → getD (digitsOf (a .line)) (4 * c + k) 0 ≡ getD (digitsOf (b .line)) (4 * c + k) 0
       at c h carrying =
           let w : (4 * c + k) % 4 ≡ k = omega arith in
-          same (4 * c + k) (omega (arith, column-place row shared-facts F k hk c h, digits-length (a .line), send-places level x row e a ok-a))
+          same (4 * c + k) (omega (arith, column-place row shared-facts F k hk c h, digits-length (a .line), call-places level x row e a ok-a))
           (rw (eq-eqb ((4 * c + k) % 4) k w) (carried-bears (kindAt row (4 * c + k)) (db (posOf row (4 * c + k) .frame)) carrying))
 
       taken : takenTo row x (a .notes) (digitsOf (a .line)) k (F * columns row) ≡ takenTo row y (b .notes) (digitsOf (b .line)) k (F * columns row)
@@ -155,7 +155,7 @@ module _ (level x y : ℕ) (row : Row) (e : levelOf level ≡ Of row) where
 pub bearing-only : (level x y k : ℕ) (a b : Lent) → ExtractAccepted level x a → ExtractAccepted level y b → k < 4 → SameBearingAt level k (a .line) (b .line)
     → SameBit k x y (a .notes) (b .notes) → ExtractsSame level x y k a b
 bearing-only level x y k a b ok-a ok-b hk same =
-    let on = send-level level x a ok-a in
+    let on = call-level level x a ok-a in
     bearing-on level x y (on .0) (on .1) k a b ok-a ok-b hk (rw (on .1) at same)
 
 -- "for accepted extraction alone, a tributary depends on its own places and its own bit of each note"; "a tributary depends on its own bit" of the
@@ -207,7 +207,7 @@ after-same k note x y notes steady =
 
 -- a line has the digits that it has
 same-line : (level earlier k : ℕ) (c : Lent) → ExtractAccepted level earlier c → SameBearingAt level k (c .line) (c .line)
-same-line level earlier k c ok = let on = send-level level earlier c ok in rw (on .1) (λ p h b. refl)
+same-line level earlier k c ok = let on = call-level level earlier c ok in rw (on .1) (λ p h b. refl)
 
 -- so a tributary whose decisions do not change comes out the same
 pub notes-before : (level x y k note : ℕ) (c : Lent) → ExtractAccepted level x c → ExtractAccepted level y (byNotes c (frameBefore note (c .notes))) → k < 4

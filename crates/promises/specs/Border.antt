@@ -3,7 +3,7 @@ use mathlib.Core.Path.{_≡_}
 use mathlib.Core.Logic.{_≢_}
 use mathlib.Core.Bool.{Bool, cond, not}
 use mathlib.Core.List.{List, [], _∷_, _++_}
-use Prim.Native.Nat.{ℕ, _+_, _*_, _-_, _<_}
+use Prim.Native.Nat.{ℕ, _+_, _*_, _-_, _^_, _<_}
 use lib.Dec.{leb}
 use lib.ListN.{getD, replicate}
 use Rattle.digits.specs.Digits.{tab, digitsOf, differing}
@@ -38,12 +38,16 @@ early row s = leb s (allowed row)
 abbrev pub late : Row → ℕ → Bool
 late row s = not (early row s)
 
--- two sends of F frames, after one earlier vote, that differ in every decision: no frame stuffed, every frame stuffed for all four; all digits are 0
-abbrev pub noneStuffed : ℕ → List ℕ
-noneStuffed F = replicate F 0
+-- the level's national bits, and no other
+abbrev pub nationalBits : Row → ℕ
+nationalBits row = 32 * (2 ^ row .nationals - 1)
 
-abbrev pub allStuffed : ℕ → List ℕ
-allStuffed F = replicate F 15
+-- two sends of F frames, after one earlier vote, that differ in every decision: no frame stuffed, every frame stuffed for all four; all digits are 0
+abbrev pub noneStuffed : Row → ℕ → List ℕ
+noneStuffed row F = replicate F (nationalBits row)
+
+abbrev pub allStuffed : Row → ℕ → List ℕ
+allStuffed row F = replicate F (15 + nationalBits row)
 
 abbrev pub idle : Row → ℕ → ℕ → List ℕ
 idle row F j = replicate (F * row .room) 0
@@ -53,25 +57,25 @@ idle row F j = replicate (F * row .room) 0
 -- of the one, and the other had more changed
 pub record Border (row : Row) (earlier F : ℕ) : Type 0 where
   pub line : List ℕ
-  pub sound-one : Sound row F (noneStuffed F) (idle row F)
-  pub sound-other : Sound row F (allStuffed F) (idle row F)
-  pub from-one : Damage row earlier (noneStuffed F) F (lineDigits row earlier (noneStuffed F) (idle row F) F) line
-  pub from-other : DamageUpTo (allowed row + 1) row earlier (allStuffed F) F (lineDigits row earlier (allStuffed F) (idle row F) F) line
+  pub sound-one : Sound row F (noneStuffed row F) (idle row F)
+  pub sound-other : Sound row F (allStuffed row F) (idle row F)
+  pub from-one : Damage row earlier (noneStuffed row F) F (lineDigits row earlier (noneStuffed row F) (idle row F) F) line
+  pub from-other : DamageUpTo (allowed row + 1) row earlier (allStuffed row F) F (lineDigits row earlier (allStuffed row F) (idle row F) F) line
   pub dissenting : (j : ℕ) → j < 4 → dissentTo row line j F ≡ F * allowed row
-  pub changed-other : (j : ℕ) → j < 4 → controlsChanged row F (lineDigits row earlier (allStuffed F) (idle row F) F) line j ≡ F * (allowed row + 1)
-  pub differ : (j f : ℕ) → j < 4 → f < F → decisions (noneStuffed F) j f ≢ decisions (allStuffed F) j f
+  pub changed-other : (j : ℕ) → j < 4 → controlsChanged row F (lineDigits row earlier (allStuffed row F) (idle row F) F) line j ≡ F * (allowed row + 1)
+  pub differ : (j f : ℕ) → j < 4 → f < F → decisions (noneStuffed row F) j f ≢ decisions (allStuffed row F) j f
 
 -- one frame at 8448 kbit/s, stuffed for tributary 1, whose digit 154 is 1, all others 0: the line that is left, and that line damaged in every
 -- way that is allowed at once. The word, the remote alarm digit and the national digit are inverted, the first control digit of each of the
 -- four groups (0x08 is sent there, 0x07 comes) and the stuffing digit (0x88 is sent, 0x08 comes: digit 154 stands four places on)
 abbrev pub exampleSend : Lent
-exampleSend = record { line = replicate 106 0; notes = 1 ∷ []; buffer = replicate 19 0 ++ (0x20 ∷ replicate 84 0) }
+exampleSend = record { line = replicate 106 0; notes = 0x21 ∷ []; buffer = replicate 19 0 ++ (0x20 ∷ replicate 84 0) }
 
 unfoldable pub exampleLine : List ℕ
-exampleLine = 0xF4 ∷ (replicate 25 0 ++ (0x08 ∷ (replicate 26 0 ++ (0x80 ∷ (replicate 25 0 ++ (0x08 ∷ (0x88 ∷ replicate 25 0)))))))
+exampleLine = 0xF4 ∷ 0x10 ∷ (replicate 24 0 ++ (0x08 ∷ (replicate 26 0 ++ (0x80 ∷ (replicate 25 0 ++ (0x08 ∷ (0x88 ∷ replicate 25 0)))))))
 
 unfoldable pub exampleDamaged : List ℕ
-exampleDamaged = 0x0B ∷ 0xF0 ∷ (replicate 24 0 ++ (0x07 ∷ (replicate 26 0 ++ (0x80 ∷ (replicate 25 0 ++ (0x08 ∷ (0x08 ∷ replicate 25 0)))))))
+exampleDamaged = 0x0B ∷ 0xE0 ∷ (replicate 24 0 ++ (0x07 ∷ (replicate 26 0 ++ (0x80 ∷ (replicate 25 0 ++ (0x08 ∷ (0x08 ∷ replicate 25 0)))))))
 
 -- the damaged line is read into notes and a buffer that hold something else
 abbrev pub exampleRead : Lent
@@ -92,6 +96,6 @@ pub record Example : Type 0 where
         counts = 205 ∷ 206 ∷ 206 ∷ 206 ∷ [];
         alignment = 10;
         dissent = 1 ∷ 1 ∷ 1 ∷ 1 ∷ [];
-        notes = 0x31 ∷ [];
+        notes = 0x11 ∷ [];
         buffer = exampleSend .buffer;
       }

@@ -4,6 +4,7 @@
 -- accepted is part of what is said. `earlier` is the vote before frame 0, one for sends and readings alike; levels 2, 3 and 4 do not look at it.
 -- Levels are the numbers 2, 3, 4, 12 and 14; tributaries are counted from 0.
 use mathlib.Core.Path.{_≡_}
+use mathlib.Core.Bool.{false}
 use mathlib.Core.List.{List, [], _∷_}
 use Prim.Native.Nat.{ℕ, _*_, _/_, _%_, _≤_, _<_}
 use lib.ListN.{length, getD, take}
@@ -12,7 +13,7 @@ use Rattle.table.specs.declared.Row.{Row}
 use Rattle.table.specs.Table.{levelOf}
 use Rattle.levels.specs.Sizes.{onLevel, quarterOf}
 use Rattle.levels.specs.Order.{decisions}
-use Rattle.levels.specs.Judging.{answered}
+use Rattle.levels.specs.Judging.{unset, sendAnswered}
 use Rattle.multiplex.specs.Multiplex.{lineAfter}
 use Rattle.promises.specs.Damage.{Damage, SameBut, controlsChanged}
 use Rattle.promises.specs.Together.{Outcome, inTurn}
@@ -25,13 +26,13 @@ pub record Lent : Type 0 where
 
 -- multiplexing: it was accepted; the line it leaves; the counts it answers; the digits of tributary j that it was given and counts
 abbrev pub SendAccepted : ℕ → ℕ → Lent → Type 0
-SendAccepted level earlier c = answered level earlier (length (c .line)) (c .notes) (length (c .buffer)) .refusal ≡ 0
+SendAccepted level earlier c = sendAnswered level earlier (length (c .line)) (c .notes) (length (c .buffer)) .refusal ≡ 0
 
 abbrev pub sentLine : ℕ → ℕ → Lent → List ℕ
 sentLine level earlier c = lineAfter level earlier (c .line) (c .notes) (c .buffer)
 
 abbrev pub sentCounts : ℕ → ℕ → Lent → List ℕ
-sentCounts level earlier c = answered level earlier (length (c .line)) (c .notes) (length (c .buffer)) .counts
+sentCounts level earlier c = sendAnswered level earlier (length (c .line)) (c .notes) (length (c .buffer)) .counts
 
 abbrev pub sentDigits : ℕ → ℕ → Lent → ℕ → List ℕ
 sentDigits level earlier c j = take (getD (sentCounts level earlier c) j 0) (digitsOf (quarterOf (c .buffer) j))
@@ -55,6 +56,10 @@ readDigits level earlier c j = take (getD (readCounts level earlier c) j 0) (dig
 
 abbrev pub readDissent : ℕ → ℕ → Lent → List ℕ
 readDissent level earlier c = outcome level earlier c .dissent
+
+-- the level's national bits of every note are 1: multiplexing asks for them, reading reports them as they came
+abbrev pub NationalsSetAt : ℕ → List ℕ → Type 0
+NationalsSetAt level notes = onLevel (levelOf level) (λ (row : Row). (f : ℕ) → f < length notes → unset row (getD notes f 0) ≡ false) ⊥
 
 -- what a reading leaves, sent on: multiplexing is lent the notes and the buffer as the reading leaves them, and a line of that length
 abbrev pub sentOn : ℕ → ℕ → Lent → Lent

@@ -2,7 +2,7 @@
 -- and demultiplexing returns them"; "the other three come out as before: digits, numbers of digits and decisions", and by request 2 dissent.
 -- specs/Calls.antt says it of the calls, and of two sends. Tributaries are counted from 0. ds and es are the digits of lines of F frames.
 use mathlib.Core.Path.{_≡_}
-use mathlib.Core.Bool.{Bool}
+use mathlib.Core.Bool.{Bool, false}
 use mathlib.Core.List.{List}
 use Prim.Native.Nat.{ℕ, _+_, _*_, _/_, _^_, _≤_, _<_}
 use lib.ListN.{length, getD, take}
@@ -10,6 +10,7 @@ use Rattle.digits.specs.Digits.{Binary}
 use Rattle.table.specs.declared.Row.{Row}
 use Rattle.levels.specs.Places.{notedOf}
 use Rattle.levels.specs.Order.{decisions, actions, countOf}
+use Rattle.levels.specs.Judging.{unset}
 use Rattle.reading.specs.Notes.{voteAt, notesOf, alignmentTo, dissentTo}
 use Rattle.extraction.specs.Quarters.{takenTo}
 
@@ -35,10 +36,12 @@ digitsRead row earlier F ds j = takenTo row earlier (notesOf row ds F) ds j (F *
 abbrev pub Room : Row → ℕ → (ℕ → List ℕ) → Type 0
 Room row F tributary = (j : ℕ) → j < 4 → F * row .room ≤ length (tributary j)
 
--- what an accepted send of F frames is: F notes without a bit that the level has not, and four tributaries of digits with room
+-- what an accepted send of F frames is: F notes without a bit that the level has not and with its national bits, all 1, and four tributaries of
+-- digits with room
 pub record Sound (row : Row) (F : ℕ) (notes : List ℕ) (tributary : ℕ → List ℕ) : Type 0 where
   pub all-noted : length notes ≡ F
   pub notes-fit : (f : ℕ) → f < F → getD notes f 0 < 2 ^ (4 + notedOf row)
+  pub nationals-set : (f : ℕ) → f < F → unset row (getD notes f 0) ≡ false
   pub digits : (j : ℕ) → j < 4 → Binary (tributary j)
   pub room : Room row F tributary
 

@@ -1,5 +1,5 @@
--- The frames worked by hand: the cases of document 01 that are marked P and those of document 02, request 10, as rows of one table, and what each
--- claims. docs/GUIDE.md, "Frames worked by hand", has the working of the latter.
+-- The frames worked by hand: the cases of document 01 that are marked P, 1 and 3 with the notes of document 02, request 14, and those of document 02,
+-- request 10, as rows of one table, and what each claims. docs/GUIDE.md, "Frames worked by hand", has the working of the latter.
 use mathlib.Core.Path.{_≡_}
 use mathlib.Core.Bool.{Bool, true, false}
 use mathlib.Core.List.{List, [], _∷_}
@@ -12,7 +12,7 @@ use Rattle.levels.specs.declared.order.Action.{Action}
 use Rattle.levels.specs.declared.order.Action.the-variants.{Stuffed, PositiveCarries, BothCarry}
 use Rattle.levels.specs.Order.{placesOf}
 use Rattle.levels.specs.Vote.{voteOf}
-use Rattle.levels.specs.Judging.{answered}
+use Rattle.levels.specs.Judging.{sendAnswered}
 use Rattle.multiplex.specs.Multiplex.{lineAfter}
 
 -- a byte of a frame and what it holds
@@ -43,7 +43,7 @@ Claim (frame level earlier note bytes counts) =
     onLevel (levelOf level)
     (λ (row : Row).
     (line : List ℕ) (q : ℕ) → length line ≡ row .bytes → row .room ≤ 8 * q
-    → (answered level earlier (length line) (note ∷ []) (4 * q) ≡ record { refusal = 0; frame = 0; counts = counts })
+    → (sendAnswered level earlier (length line) (note ∷ []) (4 * q) ≡ record { refusal = 0; frame = 0; counts = counts })
     × (lineAfter level earlier line (note ∷ []) (replicate (4 * q) 0) ≡ bytesWith (row .bytes) bytes))
     ⊥
 Claim (digit level tributary number act place) =
@@ -56,12 +56,12 @@ Every (c ∷ cs) = Claim c × Every cs
 
 unfoldable pub cases : List Case
 cases =
-    -- 1. Level 2, F = 1, note 0, quarters zero: F4, then 105 bytes 00. Counts 206.
-    frame 2 0 0x00 (byte 0 0xF4 ∷ []) (206 ∷ 206 ∷ 206 ∷ 206 ∷ [])
+    -- 1. Level 2, F = 1, note 20 hex, quarters zero: F4 10, then 104 bytes 00. Counts 206.
+    frame 2 0 0x20 (byte 0 0xF4 ∷ byte 1 0x10 ∷ []) (206 ∷ 206 ∷ 206 ∷ 206 ∷ [])
     -- 2. Level 2, note 3F hex, quarters zero: byte 0 F4, byte 1 30, byte 26 0F, byte 53 F0, byte 79 0F, byte 80 F0, the others 00. Counts 205.
     ∷ frame 2 0 0x3F (byte 0 0xF4 ∷ byte 1 0x30 ∷ byte 26 0x0F ∷ byte 53 0xF0 ∷ byte 79 0x0F ∷ byte 80 0xF0 ∷ []) (205 ∷ 205 ∷ 205 ∷ 205 ∷ [])
-    -- 3. Level 3, note 01, quarters zero: byte 0 F4, bytes 48 and 96 80, byte 144 88, the others of 192 are 00. Counts 377, 378, 378, 378.
-    ∷ frame 3 0 0x01 (byte 0 0xF4 ∷ byte 48 0x80 ∷ byte 96 0x80 ∷ byte 144 0x88 ∷ []) (377 ∷ 378 ∷ 378 ∷ 378 ∷ [])
+    -- 3. Level 3, note 21 hex, quarters zero: byte 0 F4, byte 1 10, bytes 48 and 96 80, byte 144 88, the others of 192 are 00. Counts 377, 378, 378, 378.
+    ∷ frame 3 0 0x21 (byte 0 0xF4 ∷ byte 1 0x10 ∷ byte 48 0x80 ∷ byte 96 0x80 ∷ byte 144 0x88 ∷ []) (377 ∷ 378 ∷ 378 ∷ 378 ∷ [])
     -- 4. Level 4, note FF, quarters zero: FA 0F, bytes 61, 122, 183, 244 F0, byte 305 FF, the others of 366 are 00. Counts 722.
     ∷ frame 4 0 0xFF (byte 0 0xFA ∷ byte 1 0x0F ∷ byte 61 0xF0 ∷ byte 122 0xF0 ∷ byte 183 0xF0 ∷ byte 244 0xF0 ∷ byte 305 0xFF ∷ []) (722 ∷ 722 ∷ 722 ∷ 722 ∷ [])
     -- 5. Level 2, tributary digit 50 (from 0) of tributary 1 is at place 216; digit 154 is at 640 if carried; with stuffing, digit 154 is at 644.

@@ -1,8 +1,8 @@
--- The line with 1 at the service places that no note has (specs/Line.antt, `idleLine`) is a line of correct frames too, at each level. Such places stand
--- four or fewer in a row, so that the place five on is a tributary's and has 0, and the sixth digit of a word of these levels is 1.
+-- The line with 1 at the national places and at the service places that no note has (specs/Line.antt, `idleLine`) is a line of correct frames too, at
+-- each level. Such places stand four or fewer in a row, so that the place four or five on is a tributary's and has 0, where the level's word has a 1.
 use mathlib.Core.Path.{_≡_, refl, sym, ap, _∙_}
 use mathlib.Core.Bool.{Bool, cond, true, false, true≢false}
-use Prim.Native.Nat.{ℕ, zero, suc, _+_, _*_, _-_, _/_, _≤_, _<_}
+use Prim.Native.Nat.{ℕ, _+_, _*_, _-_, _/_, _≤_, _<_}
 use native.Mathlib.Omega.{arith}
 use native.Mathlib.Decide.{decLt, ℕ-discrete}
 use native.Mathlib.Nat.{zero-mul, div-eq-of-lt}
@@ -15,19 +15,13 @@ use Rattle.levels.specs.declared.places.Kind.{Kind}
 use Rattle.levels.specs.declared.places.Kind.the-variants.{Service, Control, Justification, Tributary}
 use Rattle.levels.specs.declared.places.Sign.the-variants.{Negative, Positive}
 use Rattle.levels.specs.Table.{Shared}
-use Rattle.levels.specs.Places.{notedDigit, notedOf, kindOf, kindAt, posOf}
+use Rattle.levels.specs.Places.{kindOf, kindAt, posOf}
 use Rattle.levels.proofs.Rows.{shared-row}
 use Rattle.levels.proofs.Positions.{in-frame, stands}
-use Rattle.levels.proofs.Ways.{kind-noted, kind-first, kind-control, kind-negative, kind-positive, kind-after, kind-between}
+use Rattle.levels.proofs.Ways.{kind-first, kind-control, kind-negative, kind-positive, kind-after, kind-between}
 use Rattle.levels.proofs.Sentences.{kind-of-sum, sentences}
-use Rattle.receiver_recovery.specs.Line.{CorrectLine, zeroDigit, isFixed, idleDigit, idleLine}
+use Rattle.receiver_recovery.specs.Line.{CorrectLine, zeroDigit, isOne, idleDigit, idleLine}
 use Rattle.receiver_recovery.proofs.ZeroLines.{Lone, lone, Alone, one-zero, past-word, alone-by, frames-correct}
-
-noted-told : (k : ℕ) → isFixed (Service (notedDigit k)) ≡ false
-noted-told zero = refl
-noted-told (suc zero) = refl
-noted-told (suc (suc zero)) = refl
-noted-told (suc (suc (suc k))) = refl
 
 module _ (row : Row) (sh : Shared row) where
   -- a word of eight, ten or twelve digits, and at most four places from its end to the first tributary place
@@ -47,54 +41,45 @@ module _ (row : Row) (sh : Shared row) where
             ]
       ]
 
-  -- five places on from a service place that no note has
-  module _ (l : Lone row) (r : ℕ) (lo : row .len ≤ r) (hi : r < row .digits) (is : isFixed (kindAt row r) ≡ true) where
-    record Five : Type 0 where
-      sixth : zeroDigit row 5 ≡ 1
-      carries : kindAt row (r + 5) ≡ Tributary
-      inside : r + 5 < row .digits
+  -- some places on from one that is sent as 1
+  module _ (l : Lone row) (r : ℕ) (lo : row .len ≤ r) (hi : r < row .digits) (is : isOne (kindAt row r) ≡ true) where
+    record Onward : Type 0 where
+      carries : kindAt row (r + l .on) ≡ Tributary
+      inside : r + l .on < row .digits
 
-    not-so : {A : Type 0} (k : Kind) → isFixed k ≡ false → kindAt row r ≡ k → A
-    not-so k other e = absurd (true≢false (sym is ∙ ap isFixed e ∙ other))
+    not-so : {A : Type 0} (k : Kind) → isOne k ≡ false → kindAt row r ≡ k → A
+    not-so k other e = absurd (true≢false (sym is ∙ ap isOne e ∙ other))
 
-    five-on : (s q : ℕ) → s < row .sets → q + 5 < row .set → r ≡ s * row .set + q → zeroDigit row 5 ≡ 1 → kindOf row s (q + 5) ≡ Tributary → Five
-    five-on s q hs hq sum one e =
+    go-on : (s q : ℕ) → s < row .sets → q + l .on < row .set → r ≡ s * row .set + q → kindOf row s (q + l .on) ≡ Tributary → Onward
+    go-on s q hs hq sum e =
         record {
-          sixth = one;
-          carries = kind-of-sum row sh (r + 5) 0 s (q + 5) (omega arith) hs hq ∙ e;
-          inside = omega (arith, in-frame row sh s (q + 5) hs hq);
+          carries = kind-of-sum row sh (r + l .on) 0 s (q + l .on) (omega arith) hs hq ∙ e;
+          inside = omega (arith, in-frame row sh s (q + l .on) hs hq);
         }
 
-    in-first : (q : ℕ) → q ≡ r → kindAt row r ≡ kindOf row 0 q → Five
+    in-first : (q : ℕ) → q ≡ r → kindAt row r ≡ kindOf row 0 q → Onward
     in-first q same e =
         elim (decLt q (row .first)) [
           | yes h ↦
-              elim (decLt q (row .len + notedOf row)) [
-                | yes noted ↦
-                    let k = q - row .len in
-                    let at : q ≡ row .len + k = omega arith in
-                    not-so (Service (notedDigit k)) (noted-told k) (e ∙ (ap (λ (x : ℕ). kindOf row 0 x) at ∙ kind-noted row sh k (omega arith)))
-                | no past ↦
-                    five-on 0 q (omega (arith, sh .later-set)) (omega (arith, sh .room)) (omega arith) (l .sixth (omega arith))
-                    (kind-first row sh (q + 5) (omega (arith, heads .near)))
-              ]
+              go-on 0 q (omega (arith, sh .later-set)) (omega (arith, sh .room, l .on-near)) (omega arith)
+              (kind-first row sh (q + l .on) (omega (arith, heads .near, l .on-past)))
           | no h ↦ not-so Tributary refl (e ∙ kind-first row sh q (omega arith))
         ]
 
-    in-between : (s q : ℕ) → 0 < s → s + 1 < row .sets → r ≡ s * row .set + q → kindAt row r ≡ kindOf row s q → Five
+    in-between : (s q : ℕ) → 0 < s → s + 1 < row .sets → r ≡ s * row .set + q → kindAt row r ≡ kindOf row s q → Onward
     in-between s q later other sum e =
         elim (decLt q 4) [
           | yes h ↦ not-so Control refl (e ∙ kind-control row sh s later q h)
           | no h ↦
               elim (decLt q (row .middle)) [
                 | yes m ↦
-                    five-on s q (omega arith) (omega (arith, heads .wide, sh .middle-most)) sum (l .sixth-between (omega arith))
-                    (kind-between row sh s later (λ z. omega arith) (q + 5) (omega (arith, sh .middle-most)))
+                    go-on s q (omega arith) (omega (arith, heads .wide, sh .middle-most, l .on-near)) sum
+                    (kind-between row sh s later (λ z. omega arith) (q + l .on) (omega (arith, sh .middle-most, l .on-past)))
                 | no m ↦ not-so Tributary refl (e ∙ kind-between row sh s later (λ z. omega arith) q (omega arith))
               ]
         ]
 
-    in-last : (s q : ℕ) → 0 < s → s + 1 ≡ row .sets → kindAt row r ≡ kindOf row s q → Five
+    in-last : (s q : ℕ) → 0 < s → s + 1 ≡ row .sets → kindAt row r ≡ kindOf row s q → Onward
     in-last s q later last e =
         elim (decLt q 4) [
           | yes h ↦ not-so Control refl (e ∙ kind-control row sh s later q h)
@@ -109,9 +94,9 @@ module _ (row : Row) (sh : Shared row) where
               ]
         ]
 
-    five : Five
+    onward : Onward
     unfolding posOf
-    five =
+    onward =
         elim (ℕ-discrete s 0) [
           | yes z ↦
               let none : s * row .set ≡ 0 = rw z (zero-mul (row .set)) in
@@ -142,19 +127,19 @@ module _ (row : Row) (sh : Shared row) where
   idle-alone l = alone-by row sh l (idleDigit row) idle-word past
     where
       past : (r : ℕ) → row .len ≤ r → r < row .digits → ((j p : ℕ) → j < row .len → p ≡ r + j → p < row .digits → zeroDigit row j ≡ idleDigit row p) → ⊥
-      past r lo hi same = go (isFixed (kindAt row r)) refl
+      past r lo hi same = go (isOne (kindAt row r)) refl
         where
-          go : (t : Bool) → isFixed (kindAt row r) ≡ t → ⊥
+          go : (t : Bool) → isOne (kindAt row r) ≡ t → ⊥
           go true is =
-              let on = five l r lo hi is in
-              let zero-there : idleDigit row (r + 5) ≡ 0 = rw (on .carries) (past-word row sh (r + 5) (omega arith)) in
-              one-zero (sym (on .sixth) ∙ same 5 (r + 5) (omega (arith, heads .six)) refl (on .inside) ∙ zero-there)
+              let there = onward l r lo hi is in
+              let zero-there : idleDigit row (r + l .on) ≡ 0 = rw (there .carries) (past-word row sh (r + l .on) (omega arith)) in
+              one-zero (sym (l .on-one) ∙ same (l .on) (r + l .on) (omega (arith, heads .six, l .on-near)) refl (there .inside) ∙ zero-there)
           go false is =
               let zero-there : idleDigit row r ≡ 0 = rw is (past-word row sh r lo) in
               one-zero (sym (l .first) ∙ same 0 r (omega (arith, heads .six)) (omega arith) hi ∙ zero-there)
 
   pub idle-bits : (p : ℕ) → idleDigit row p < 2
-  idle-bits p = go (isFixed (kindAt row p))
+  idle-bits p = go (isOne (kindAt row p))
     where
       go : (t : Bool) → cond t 1 (zeroDigit row p) < 2
       go true = lit< tt

@@ -17,7 +17,6 @@ use Rattle.table.specs.declared.Level.{Level}
 use Rattle.table.specs.declared.Level.the-variants.{Of, NoSuchLevel}
 use Rattle.table.specs.Table.{levelOf, row2, row3, row4, row12, row14}
 use Rattle.levels.specs.Table.{Shared}
-use Rattle.levels.specs.Places.{notedOf}
 use Rattle.levels.proofs.Choice.{cond-by}
 use Rattle.levels.proofs.Rows.{shared-row}
 use Rattle.levels.proofs.Positions.{in-frame}
@@ -79,13 +78,15 @@ moved-12 (suc (suc (suc (suc (suc (suc (suc (suc (suc (suc zero)))))))))) lo hi 
 moved-12 (suc (suc (suc (suc (suc (suc (suc (suc (suc (suc (suc zero))))))))))) lo hi same = one-zero (same 0 11 (omega arith) (omega arith))
 moved-12 (suc (suc (suc (suc (suc (suc (suc (suc (suc (suc (suc (suc r)))))))))))) lo hi same = omega arith
 
--- the word of a row: its first digit is 1, moved by some of its places it is not itself, and where frames have service places that no note has its sixth
--- digit is 1
+-- the word of a row: its first digit is 1, moved by some of its places it is not itself, and it has a 1 four or five places on, which is past as many
+-- service places as stand in a row
 pub record Lone (row : Row) : Type 0 where
   pub first : zeroDigit row 0 ≡ 1
   pub moved : (r : ℕ) → 0 < r → r < row .len → ((j p : ℕ) → p ≡ r + j → p < row .len → zeroDigit row j ≡ zeroDigit row p) → ⊥
-  pub sixth : row .len + notedOf row < row .first → zeroDigit row 5 ≡ 1
-  pub sixth-between : 4 < row .middle → zeroDigit row 5 ≡ 1
+  pub on : ℕ
+  pub on-one : zeroDigit row on ≡ 1
+  pub on-past : 4 ≤ on
+  pub on-near : on ≤ 5
 
 abbrev LoneAt : Level → Type 0
 LoneAt (Of row) = Lone row
@@ -93,23 +94,23 @@ LoneAt NoSuchLevel = Unit {0}
 
 lone-2 : Lone row2
 unfolding written
-lone-2 = record { first = refl; moved = moved-10; sixth = λ h. refl; sixth-between = λ h. refl }
+lone-2 = record { first = refl; moved = moved-10; on = 5; on-one = refl; on-past = omega arith; on-near = omega arith }
 
 lone-3 : Lone row3
 unfolding written
-lone-3 = record { first = refl; moved = moved-10; sixth = λ h. refl; sixth-between = λ h. refl }
+lone-3 = record { first = refl; moved = moved-10; on = 5; on-one = refl; on-past = omega arith; on-near = omega arith }
 
 lone-4 : Lone row4
 unfolding written
-lone-4 = record { first = refl; moved = moved-12; sixth = λ h. omega arith; sixth-between = λ h. omega arith }
+lone-4 = record { first = refl; moved = moved-12; on = 4; on-one = refl; on-past = omega arith; on-near = omega arith }
 
 lone-12 : Lone row12
 unfolding written
-lone-12 = record { first = refl; moved = moved-8; sixth = λ h. refl; sixth-between = λ h. refl }
+lone-12 = record { first = refl; moved = moved-8; on = 5; on-one = refl; on-past = omega arith; on-near = omega arith }
 
 lone-14 : Lone row14
 unfolding written
-lone-14 = record { first = refl; moved = moved-10; sixth = λ h. refl; sixth-between = λ h. refl }
+lone-14 = record { first = refl; moved = moved-10; on = 5; on-one = refl; on-past = omega arith; on-near = omega arith }
 
 lone-at : (level : ℕ) → LoneAt (levelOf level)
 unfolding levelOf

@@ -50,20 +50,21 @@ zeroDigit row place = getD (wordOf row) place 0
 abbrev pub zeroLine : Row → ℕ → ℕ → List ℕ
 zeroLine row o n = framesOf row (zeroDigit row) o n
 
--- and another, which multiplexing makes of zeros (proofs/Multiplexed.antt): the words, 1 at the service places that no note has, and 0 at every other place
-abbrev pub isFixed : Kind → Bool
-isFixed Word = false
-isFixed (Service RemoteAlarm) = false
-isFixed (Service FirstNational) = false
-isFixed (Service SecondNational) = false
-isFixed (Service ThirdNational) = false
-isFixed (Service Fixed) = true
-isFixed Control = false
-isFixed (Justification sign) = false
-isFixed Tributary = false
+-- and another, which multiplexing makes of zeros (proofs/Multiplexed.antt): the words, 1 at the national places and at the service places that no note
+-- has, and 0 at every other place
+abbrev pub isOne : Kind → Bool
+isOne Word = false
+isOne (Service RemoteAlarm) = false
+isOne (Service FirstNational) = true
+isOne (Service SecondNational) = true
+isOne (Service ThirdNational) = true
+isOne (Service Fixed) = true
+isOne Control = false
+isOne (Justification sign) = false
+isOne Tributary = false
 
 abbrev pub idleDigit : Row → ℕ → ℕ
-idleDigit row place = cond (isFixed (kindAt row place)) 1 (zeroDigit row place)
+idleDigit row place = cond (isOne (kindAt row place)) 1 (zeroDigit row place)
 
 abbrev pub idleLine : Row → ℕ → ℕ → List ℕ
 idleLine row o n = framesOf row (idleDigit row) o n

@@ -1,6 +1,7 @@
 -- What the inner functions keep while a line is repaired: up to some place it is done, and from there on it is as it came. The public call's definitions are
 -- in specs/Repair.antt; these lie between them and the loops.
 use mathlib.Core.Path.{_≡_}
+use mathlib.Core.Bool.{Bool}
 use mathlib.Core.List.{List, _∷_}
 use Prim.Native.Nat.{ℕ, _+_, _*_, _≤_, _<_}
 use lib.ListN.{length, getD}
@@ -24,12 +25,12 @@ pub record Whole (row : Row) (line : List ℕ) : Type 0 where
   pub few : framesOf row (length line) ≤ 64
 
 -- the line that came as `old` is repaired up to place n, and what changed there is counted
-pub record Mended (row : Row) (earlier : ℕ) (old : List ℕ) (n : ℕ) (new sums : List ℕ) : Type 0 where
+pub record Mended (row : Row) (earlier : ℕ) (national : Bool) (old : List ℕ) (n : ℕ) (new sums : List ℕ) : Type 0 where
   pub whole : Whole row old
   pub kept : length new ≡ length old
-  pub done : (p : ℕ) → p < n → getD (digitsOf new) p 0 ≡ becomes row earlier old p
+  pub done : (p : ℕ) → p < n → getD (digitsOf new) p 0 ≡ becomes row earlier national old p
   pub rest : (p : ℕ) → n ≤ p → getD (digitsOf new) p 0 ≡ getD (digitsOf old) p 0
-  pub counted : sums ≡ sumsOf row (changes row earlier old) n
+  pub counted : sums ≡ sumsOf row (changes row earlier national old) n
   pub bytes : Bytes new
 
 -- the notes that frame f acts on, as they are read from the line as it came
@@ -39,13 +40,13 @@ pub record Acts (row : Row) (earlier : ℕ) (old : List ℕ) (f preceding note :
   pub own : note ≡ noteOf row (digitsOf old) f
 
 -- some line that came so is repaired up to place n
-pub record Begun (row : Row) (f preceding note n : ℕ) (line sums : List ℕ) : Type 0 where
+pub record Begun (row : Row) (national : Bool) (f preceding note n : ℕ) (line sums : List ℕ) : Type 0 where
   pub earlier : ℕ
   pub old : List ℕ
   pub acts : Acts row earlier old f preceding note
-  pub mended : Mended row earlier old n line sums
+  pub mended : Mended row earlier national old n line sums
 
 -- whatever line it was, repaired up to place n before, it is repaired up to place m now
-abbrev pub Onward : Row → ℕ → ℕ → ℕ → ℕ → ℕ → List ℕ → List ℕ → List ℕ → List ℕ → Type 0
-Onward row f preceding note n m line sums left counted =
-    (earlier : ℕ) (old : List ℕ) → Acts row earlier old f preceding note → Mended row earlier old n line sums → Mended row earlier old m left counted
+abbrev pub Onward : Row → Bool → ℕ → ℕ → ℕ → ℕ → ℕ → List ℕ → List ℕ → List ℕ → List ℕ → Type 0
+Onward row national f preceding note n m line sums left counted =
+    (earlier : ℕ) (old : List ℕ) → Acts row earlier old f preceding note → Mended row earlier national old n line sums → Mended row earlier national old m left counted

@@ -1,6 +1,6 @@
 -- "A second run changes nothing", and counts nothing.
 use mathlib.Core.Path.{_≡_, sym, _∙_}
-use mathlib.Core.Bool.{cond, _&&_}
+use mathlib.Core.Bool.{Bool, cond, _&&_}
 use mathlib.Core.List.{List}
 use Prim.Native.Nat.{ℕ, _*_, _%_, _<_}
 use native.Mathlib.Omega.{arith}
@@ -23,48 +23,48 @@ use Rattle.repair.specs.Repair.{repairedDigit, becomes, repairedLine, changes, 
 use Rattle.repair.specs.Mending.{Whole}
 use Rattle.repair.proofs.Frames.{frames-digits}
 use Rattle.repair_promises.specs.Repairing.{Repairs, nothing, ChangesNothing}
-use Rattle.repair_promises.proofs.Places.{repaired-twice, repaired-length, repaired-bytes, repaired-at, vote-repaired, notes-repaired}
+use Rattle.repair_promises.proofs.Places.{repaired-twice, repaired-length, repaired-bytes, repaired-at, vote-repaired, acts-repaired}
 use Rattle.repair_promises.proofs.Accepted.{repair-level, no-number, repair-whole, repair-line}
 
-module _ (row : Row) (earlier : ℕ) (line : List ℕ) (wh : Whole row line) where
+module _ (row : Row) (earlier : ℕ) (national : Bool) (line : List ℕ) (wh : Whole row line) where
   abbrev left : List ℕ
-  left = repairedLine row earlier line
+  left = repairedLine row earlier national line
 
   -- repaired by the votes that the result has, every place stays
-  stays : (p : ℕ) → p < 8 * length left → getD (digitsOf left) p 0 ≡ becomes row earlier left p
+  stays : (p : ℕ) → p < 8 * length left → getD (digitsOf left) p 0 ≡ becomes row earlier national left p
   unfolding repairedDigit
   stays p h =
       let F = framesOf row (length line) in
       let f = posOf row p .frame in
-      let inside : p < 8 * length line = omega (arith, repaired-length row earlier line) in
+      let inside : p < 8 * length line = omega (arith, repaired-length row earlier national line) in
       let hf : f < F = lt-of-mul-lt-mul-right (row .digits) (omega (arith, frames-digits wh, stands row (wh .shared) p .sum)) in
-      rw (repaired-length row earlier line, notes-repaired row earlier line wh, vote-repaired row earlier line wh f hf (p % 4) (omega arith), repaired-at row earlier line p inside)
+      rw (repaired-length row earlier national line, acts-repaired row earlier national line wh (p % 4) (omega arith) f hf, vote-repaired row earlier national line wh f hf (p % 4) (omega arith), repaired-at row earlier national line p inside)
       (sym
-      (repaired-twice row (voteAt row (digitsOf line) f (p % 4) .stuffed) (actions row earlier (notesOf row (digitsOf line) F) (p % 4) f) (posOf row p .place) (getD (digitsOf line) p 0) (kindAt row p)))
+      (repaired-twice row national (voteAt row (digitsOf line) f (p % 4) .stuffed) (actions row earlier (notesOf row (digitsOf line) F) (p % 4) f) (posOf row p .place) (getD (digitsOf line) p 0) (kindAt row p)))
 
-  none : (k : ℕ) → sumOf row (changes row earlier left) (8 * length left) k ≡ 0
+  none : (k : ℕ) → sumOf row (changes row earlier national left) (8 * length left) k ≡ 0
   none k =
-      sum-all (8 * length left) 0 (λ (p : ℕ). cond (changes row earlier left p && eqb (numberAt row p) k) 1 0)
-      (λ p h. rw (eq-eqb (getD (digitsOf left) p 0) (becomes row earlier left p) (stays p h)))
+      sum-all (8 * length left) 0 (λ (p : ℕ). cond (changes row earlier national left p && eqb (numberAt row p) k) 1 0)
+      (λ p h. rw (eq-eqb (getD (digitsOf left) p 0) (becomes row earlier national left p) (stays p h)))
       ∙ omega arith
 
-  none-counted : changed row earlier left ≡ nothing
+  none-counted : changed row earlier national left ≡ nothing
   unfolding changed
-  none-counted = rw (none 0, none 3, none 6, none 9, none 12, none 4, none 7, none 10, none 13)
+  none-counted = rw (none 0, none 3, none 6, none 9, none 12, none 2, none 4, none 7, none 10, none 13)
 
-  same-line : repairedLine row earlier left ≡ left
+  same-line : repairedLine row earlier national left ≡ left
   unfolding repairedLine
-  same-line = sym (bytes-by-place left (becomes row earlier left) (repaired-bytes row earlier line) stays)
+  same-line = sym (bytes-by-place left (becomes row earlier national left) (repaired-bytes row earlier national line) stays)
 
 -- a second run, by the same vote before frame 0, is accepted, changes nothing and counts nothing
-pub second-run : (level earlier : ℕ) (line : List ℕ) (answer : Repaired) (left : List ℕ) (again : Repaired) (last : List ℕ) → Repairs level earlier line answer left
-    → RepairMet level earlier left again last → ChangesNothing left again last
-second-run level earlier line answer left again last ok met =
-    let on = repair-level level earlier line answer left ok in
+pub second-run : (level earlier : ℕ) (national : Bool) (line : List ℕ) (answer : Repaired) (left : List ℕ) (again : Repaired) (last : List ℕ) → Repairs level earlier national line answer left
+    → RepairMet level earlier national left again last → ChangesNothing left again last
+second-run level earlier national line answer left again last ok met =
+    let on = repair-level level earlier national line answer left ok in
     let row = on .0 in
-    let wh = repair-whole level earlier line answer left ok row (on .1) in
-    let once = repair-line level earlier line answer left ok row (on .1) in
-    let accepted = eq-eqb (numberOf row earlier (length line)) 0 (no-number level earlier line answer left ok row (on .1)) in (
-      met .0 ∙ rw (once, on .1, repaired-length row earlier line, accepted) (none-counted row earlier line wh),
-      met .1 ∙ rw (once, on .1, repaired-length row earlier line, accepted) (same-line row earlier line wh),
+    let wh = repair-whole level earlier national line answer left ok row (on .1) in
+    let once = repair-line level earlier national line answer left ok row (on .1) in
+    let accepted = eq-eqb (numberOf row earlier (length line)) 0 (no-number level earlier national line answer left ok row (on .1)) in (
+      met .0 ∙ rw (once, on .1, repaired-length row earlier national line, accepted) (none-counted row earlier national line wh),
+      met .1 ∙ rw (once, on .1, repaired-length row earlier national line, accepted) (same-line row earlier national line wh),
     )

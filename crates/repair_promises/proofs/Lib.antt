@@ -2,5 +2,8 @@ pub mod Places
 pub mod Accepted
 pub mod Readings
 pub mod Again
+pub mod National
 pub mod Sent
+pub mod Wears
 pub mod Counts
+pub mod Switch

@@ -1,4 +1,5 @@
-// repair CAPTURE NEW, or repair :VOTE CAPTURE NEW: NEW is the capture with the worn digits of its line repaired, level and label as they were.
+// repair CAPTURE NEW, or repair :VOTE CAPTURE NEW: NEW is the capture with the worn digits of its line repaired, level and label as they were. By
+// repair-national its national digits too.
 use crate::repairs;
 use crate::repairs::Open;
 use console::files;
@@ -14,18 +15,18 @@ use table::Row;
 ghost use Rattle.levels.specs.Table.{Shared};
 
 // Answered as by the reader, and then the vote is judged.
-pub fn run(called: Called) {
+pub fn run(called: Called, national: bool) {
     let mut room = capture::room();
     let c = capture::open(called.first, &mut room);
     let r = c.reading;
     let found = table::level_of(r.level);
     match found {
-        Level::Of(row) => read_on(row, called, c, &room),
+        Level::Of(row) => read_on(row, called, national, c, &room),
         Level::NoSuchLevel => refusals::say(called.first, c, &room),
     }
 }
 
-fn read_on(row: Row, called: Called, c: Opened, room: &[u8])
+fn read_on(row: Row, called: Called, national: bool, c: Opened, room: &[u8])
     requires { ⌜ Shared row ⌝ }
 {
     if called::refused(row, called.earlier) {
@@ -42,6 +43,7 @@ fn read_on(row: Row, called: Called, c: Opened, room: &[u8])
         first: line.start,
         new,
         word: called.first,
+        national,
     };
     let frames = sizes::least(line.bytes / row.bytes, sizes::MOST);
     let n = sizes::least(c.bytes, room.len());

@@ -1,4 +1,4 @@
-// repair LEVEL LINE NEW: the file NEW is the line with its worn digits repaired.
+// repair LEVEL LINE NEW: the file NEW is the line with its worn digits repaired; by repair-national its national digits too.
 use crate::repairs;
 use crate::repairs::Open;
 use console::files;
@@ -13,7 +13,7 @@ const LINE: usize = 3;
 
 pub const NEW: usize = 4;
 
-pub fn run(row: Row, level: u64, earlier: u64)
+pub fn run(row: Row, level: u64, earlier: u64, national: bool)
     requires { ⌜ Shared row ⌝ }
 {
     let line = files::open(LINE);
@@ -34,6 +34,7 @@ pub fn run(row: Row, level: u64, earlier: u64)
         first: 0,
         new,
         word: LINE,
+        national,
     };
     say::rated(level);
     say::line(b"\nframes: ", frames);

@@ -17,13 +17,14 @@ const LINE: u8 = 1;
 
 const NEW: u8 = 2;
 
-// The files; the byte at which the line begins, in its file and in the new one; and the number of the word that names the line's file: the next is the new
-// one's.
+// The files; the byte at which the line begins, in its file and in the new one; the number of the word that names the line's file: the next is the new
+// one's; and the switch for the national digits.
 pub struct Open {
     pub line: i32,
     pub first: usize,
     pub new: i32,
     pub word: usize,
+    pub national: bool,
 }
 
 // How far it is: the vote of the last frame so far, the digits changed, and which file could not be read or written first, or none.
@@ -53,7 +54,7 @@ pub fn one_run(row: Row, level: u64, at: usize, line: &mut [u8], t: Repairs) -> 
     let open = t.open;
     let place = sizes::plus(open.first, at);
     let read = files::read_at(open.line, line, place);
-    let r = repair::repair(level, t.earlier, line);
+    let r = repair::repair(level, t.earlier, open.national, line);
     let written = files::write_at(open.new, line, place);
     let failed = first_failed(t.failed, read, LINE);
     let sums = t.sums;
@@ -96,7 +97,7 @@ fn end(t: Repairs) {
     let failed = first_failed(t.failed, closed, NEW);
     if failed == NONE {
         let sums = t.sums;
-        said::table(sums);
+        said::table(sums, open.national);
         files::keep(new, b"");
         return;
     }

@@ -3,11 +3,12 @@ use console::say;
 use recordings::sizes;
 use repair::Repaired;
 
-// Of the word, and of each tributary's control and stuffing digits.
+// Of the word, of each tributary's control and stuffing digits, and the national digits.
 pub struct Sums {
     pub word: usize,
     pub control: [usize; 4],
     pub stuffing: [usize; 4],
+    pub national: usize,
 }
 
 pub fn none() -> Sums {
@@ -15,6 +16,7 @@ pub fn none() -> Sums {
         word: 0,
         control: [0; 4],
         stuffing: [0; 4],
+        national: 0,
     }
 }
 
@@ -28,6 +30,7 @@ pub fn add(s: Sums, r: Repaired) -> Sums {
         word: sizes::plus(s.word, r.word),
         control: four(control, more),
         stuffing: four(stuffing, further),
+        national: sizes::plus(s.national, r.national),
     }
 }
 
@@ -45,15 +48,19 @@ fn all(a: [usize; 4]) -> usize {
     sizes::plus(sizes::plus(a[0], a[1]), sizes::plus(a[2], a[3]))
 }
 
-pub fn table(s: Sums) {
+// The national digits have a row where they were to be repaired.
+pub fn table(s: Sums, national: bool) {
     let c = s.control;
     let d = s.stuffing;
-    let changed = sizes::plus(s.word, sizes::plus(all(c), all(d)));
+    let changed = sizes::plus(sizes::plus(s.word, s.national), sizes::plus(all(c), all(d)));
     say::line(b"digits repaired: ", changed);
     if changed == 0 {
         return;
     }
     say::column(b"\n  alignment word  ", s.word);
+    if national {
+        say::column(b"\n  national digits ", s.national);
+    }
     say::text(b"\n                  control  stuffing\n");
     two(b"  tributary 1     ", c[0], d[0]);
     two(b"  tributary 2     ", c[1], d[1]);

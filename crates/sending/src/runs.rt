@@ -1,5 +1,9 @@
-// A passage of any number of frames that are sent, 64 at a time.
+// A passage of any number of frames that are sent, 64 at a time; and where a note lacks a national bit, all notes looked through for one that is
+// refused before it.
 use crate::send;
+use console::files;
+use levels::judging;
+use levels::judging::Fault;
 use passages::passage;
 use passages::passage::Passage;
 use recordings::sizes;
@@ -41,4 +45,44 @@ fn one(row: Row, level: u64, k: usize, f: usize, t: Passage) -> Passage
         &mut buffer[..b],
         t,
     )
+}
+
+// 10 comes after 5, and 5 is asked of all notes: where a run was refused with 10, a note of any run with a bit that the level has not goes first.
+pub fn five_first(row: Row, frames: usize, t: Passage) -> Passage
+    requires { ⌜ Shared row × (frames ≤ longest) ⌝ }
+{
+    let mut u = t;
+    let mut k: usize = 0;
+    while k < (frames + 63) / 64 {
+        if u.refusal == 10 {
+            u = looked(row, k, sizes::frames_in(k, frames), u);
+        }
+        k += 1;
+    }
+    u
+}
+
+// Run k, of f frames.
+fn looked(row: Row, k: usize, f: usize, t: Passage) -> Passage
+    requires { ⌜ Shared row × (f ≤ 64) × (64 * k ≤ longest) ⌝ }
+{
+    let mut notes = [0u8; 64];
+    let from = t.open;
+    let read = files::read_at(from.notes, &mut notes[..f], 64 * k);
+    let n = sizes::frame_bytes(row, f);
+    let b = 4 * sizes::quarter_bytes(row, f);
+    let found = judging::fault_of(row, 0, n, &notes[..f], b);
+    if read && found.refusal == 5 {
+        return refused_by(found, k, t);
+    }
+    t
+}
+
+fn refused_by(found: Fault, k: usize, t: Passage) -> Passage
+    requires { ⌜ 64 * k ≤ longest ⌝ }
+{
+    let mut u = t;
+    u.refusal = found.refusal;
+    u.frame = sizes::plus(64 * k, found.frame);
+    u
 }

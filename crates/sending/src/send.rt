@@ -3,6 +3,7 @@
 use crate::runs;
 use console::files;
 use console::help;
+use console::national;
 use levels::judging::Counted;
 use passages::passage;
 use passages::passage::OpenFiles;
@@ -49,7 +50,8 @@ pub fn run(row: Row, level: u64, earlier: u64, plain: bool)
         quarter: tributaries.bytes / 4,
     };
     let start = passage::start_by(row, earlier, from, plain);
-    end(level, runs::all(row, level, notes.bytes, start));
+    let sent = runs::all(row, level, notes.bytes, start);
+    end(level, runs::five_first(row, notes.bytes, sent));
 }
 
 fn is_short(bytes: usize, wanted: usize) -> bool {
@@ -203,7 +205,7 @@ fn end(level: u64, t: Passage) {
     }
     files::discard(LINE, b"");
     if t.refusal != 0 {
-        help::note_bits(NOTES, level, t.frame);
+        refused(level, t);
         return;
     }
     match failed {
@@ -211,4 +213,12 @@ fn end(level: u64, t: Passage) {
         passage::TRIBUTARIES => files::unread(TRIBUTARIES),
         _ => files::not_whole(LINE, b""),
     }
+}
+
+fn refused(level: u64, t: Passage) {
+    if t.refusal == 10 {
+        national::clear_in(NOTES, level, t.frame);
+        return;
+    }
+    help::note_bits(NOTES, level, t.frame);
 }

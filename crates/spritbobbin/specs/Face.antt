@@ -13,7 +13,7 @@ use Rattle.receiver.specs.declared.Fed.{Fed}
 use Rattle.captures.specs.declared.Written.{Written}
 use Rattle.captures.specs.declared.Reading.{Reading}
 use Rattle.multiframe.specs.declared.Built.{Built}
-use Rattle.levels.specs.Judging.{answered}
+use Rattle.levels.specs.Judging.{answered, sendAnswered}
 use Rattle.multiplex.specs.Multiplex.{lineAfter}
 use Rattle.reading.specs.Reading.{noted, notesAfter}
 use Rattle.extraction.specs.Extract.{bufferAfter}
@@ -88,7 +88,7 @@ builtAnswer b = b .channel ∷ []
 -- spritbobbin_multiplex returns the refusal number, and leaves the line and the answer
 abbrev pub MultiplexMet : ℕ → ℕ → List ℕ → List ℕ → List ℕ → ℕ → List ℕ → List ℕ → Type 0
 MultiplexMet level earlier line notes buffer returned lineLeft answerLeft =
-    let m = answered level earlier (length line) notes (length buffer) in
+    let m = sendAnswered level earlier (length line) notes (length buffer) in
     (returned ≡ m .refusal) × (lineLeft ≡ lineAfter level earlier line notes buffer) × (answerLeft ≡ countedAnswer m)
 
 -- spritbobbin_read_notes returns the refusal number, and leaves the notes and the answer

@@ -3,7 +3,7 @@ use repair::Repaired;
 ghost use mathlib.Core.Path.{_≡_};
 ghost use Rattle.spritbobbin.specs.RepairFace.{repairedAnswer, RepairFaceMet};
 
-fn repaired_numbers(r: Repaired) -> [u64; 9]
+fn repaired_numbers(r: Repaired) -> [u64; 10]
     ensures { λ n. ⌜ n ≡ repairedAnswer r ⌝ }
 {
     let c = r.control;
@@ -18,21 +18,23 @@ fn repaired_numbers(r: Repaired) -> [u64; 9]
         s[1] as u64,
         s[2] as u64,
         s[3] as u64,
+        r.national as u64,
     ]
 }
 
-// Repairs the line after an earlier vote; answer: changed digits of the word, of the control groups of tributaries 1 to 4, and stuffing digits of
-// tributaries 1 to 4. Returns the refusal number.
+// Repairs the line after an earlier vote, its national digits too where `national` is not 0; answer: changed digits of the word, of the control groups of
+// tributaries 1 to 4, stuffing digits of tributaries 1 to 4, and national digits. Returns the refusal number.
 #[no_mangle]
 pub extern "C" fn spritbobbin_repair(
     level: u64,
     earlier: u64,
+    national: u64,
     line: &mut [u8],
-    answer: &mut [u64; 9],
+    answer: &mut [u64; 10],
 ) -> u64
-    ensures { λ r. ⌜ RepairFaceMet level earlier (now (line .entry)) r (now (line .exit)) (now (answer .exit)) ⌝ }
+    ensures { λ r. ⌜ RepairFaceMet level earlier national (now (line .entry)) r (now (line .exit)) (now (answer .exit)) ⌝ }
 {
-    let done = repair::repair(level, earlier, line);
+    let done = repair::repair(level, earlier, national != 0, line);
     *answer = repaired_numbers(done);
     done.refusal
 }

@@ -280,7 +280,7 @@ pub fn case_11(size: u64) {
 }
 
 fn send_zeros(line: &mut [u8; 106]) {
-    let notes = [0u8; 1];
+    let notes = [0x20u8];
     let buffer = [0u8; 104];
     multiplex::multiplex(2, 0, line, &notes, &buffer);
 }

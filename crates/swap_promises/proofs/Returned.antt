@@ -30,7 +30,7 @@ use Rattle.extraction.specs.Quarters.{takenTo}
 use Rattle.promises.specs.Calls.{Lent, ReadAccepted, readNotes}
 use Rattle.promises.specs.Extraction.{ExtractAccepted, SameOwnAt, SameBit, ExtractsSame}
 use Rattle.promises.proofs.Order.{column-place, count-same, actions-same, digits-back}
-use Rattle.promises.proofs.Accepted.{shared, send-count, read-places, read-notes, read-frames, read-digits}
+use Rattle.promises.proofs.Accepted.{shared, call-count, read-places, read-notes, read-frames, read-digits}
 use Rattle.promises.proofs.Extraction.{carried-bears, bears-own, digits-left, own-only}
 use Rattle.swap.specs.Swap.{swappedLine}
 use Rattle.swap_promises.specs.Swapping.{Swap, SwapAccepted, swapLine, swapCount, swapDigits, from0, NewExtracted, AsRead, damaged, damagedAt, SameButDamagedAt}
@@ -118,7 +118,7 @@ module _ (level y : ℕ) (row : Row) (e : levelOf level ≡ Of row) (line : List
   unfolding takenTo
   new-on =
       record {
-        counted = send-count level y row e c ok-c j small ∙ same-count;
+        counted = call-count level y row e c ok-c j small ∙ same-count;
         digits = digits-left level y row e c ok-c j small
             ∙ digits-back row acts j (digitsOf (c .line)) (digitsOf (s .buffer)) (F * columns row) back
             (omega (arith, whole, count-room row sh j small acts F, digits-length (s .buffer), swap-fits level row e line s ok .room, ap (λ (n : ℕ). n * row .room) (bits .frames)))

@@ -25,18 +25,18 @@ pub fn put_byte(s: &mut [u8], i: usize, byte: u8) {
     }
 }
 
-// 0 before frame `from`, and `note` from that frame on.
-pub fn notes_from(notes: &mut [u8], note: u8, from: usize) {
+// `before` before frame `from`, and `note` from that frame on.
+pub fn notes_from(notes: &mut [u8], before: u8, note: u8, from: usize) {
     let mut f: usize = 0;
     while f < notes.len() {
-        notes[f] = note_of(f, note, from);
+        notes[f] = note_of(f, before, note, from);
         f += 1;
     }
 }
 
-fn note_of(f: usize, note: u8, from: usize) -> u8 {
+fn note_of(f: usize, before: u8, note: u8, from: usize) -> u8 {
     if f < from {
-        return 0;
+        return before;
     }
     note
 }

@@ -18,10 +18,10 @@ use Rattle.table.specs.declared.Level.the-variants.{Of, NoSuchLevel}
 use Rattle.table.specs.Table.{levelOf}
 use Rattle.levels.specs.Table.{Shared}
 use Rattle.levels.specs.Sizes.{onLevel}
-use Rattle.levels.proofs.Refusals.{faultless}
+use Rattle.levels.proofs.Refusals.{faultless, send-faultless}
 use Rattle.levels.proofs.Rows.{shared-row}
 use Rattle.levels.specs.declared.judging.Counted.{Counted}
-use Rattle.levels.specs.Judging.{fault, faultOf, refusedWith, answerOn, answered}
+use Rattle.levels.specs.Judging.{fault, sendFaultOf, refusedWith, sendAnswerOn, sendAnswered}
 use Rattle.multiplex.specs.Multiplex.{lineOn, lineAfter}
 use Rattle.workbench.specs.Bench.{mixed, mixedLine, lateLine}
 
@@ -38,23 +38,23 @@ none-bytes bs e i = rw (none i) (lit< tt)
     none i = List·getD-eq-default bs 0 (omega arith)
 
 -- an accepted line is at most 64 frames
-accepted-short : (row : Row) → Shared row → (earlier line : ℕ) (notes : List ℕ) (buffer : ℕ) → faultOf row earlier line notes buffer .refusal ≡ 0 → line ≤ 65536
+accepted-short : (row : Row) → Shared row → (earlier line : ℕ) (notes : List ℕ) (buffer : ℕ) → sendFaultOf row earlier line notes buffer .refusal ≡ 0 → line ≤ 65536
 accepted-short row sh earlier line notes buffer e =
-    let ok = faultless row earlier line notes buffer e .0 .framed in
+    let ok = faultless row earlier line notes buffer (send-faultless row earlier line notes buffer e .0) .0 .framed in
     omega (arith, ok .frames, mul-le-mul {n₁ = _} {m₁ = row .bytes} {n₂ = 64} {m₂ = 366} (ok .few) (omega (arith, sh .packed, sh .short)))
 
 -- the answer's number is the refusal
-answer-number : (row : Row) (earlier line : ℕ) (notes : List ℕ) (buffer : ℕ) → answerOn row earlier line notes buffer .refusal ≡ faultOf row earlier line notes buffer .refusal
+answer-number : (row : Row) (earlier line : ℕ) (notes : List ℕ) (buffer : ℕ) → sendAnswerOn row earlier line notes buffer .refusal ≡ sendFaultOf row earlier line notes buffer .refusal
 answer-number row earlier line notes buffer =
-    elim (ℕ-discrete (faultOf row earlier line notes buffer .refusal) 0) [
-      | yes z ↦ rw (eq-eqb (faultOf row earlier line notes buffer .refusal) 0 z) (sym z)
-      | no n ↦ rw (ne-eqb (faultOf row earlier line notes buffer .refusal) 0 n) refl
+    elim (ℕ-discrete (sendFaultOf row earlier line notes buffer .refusal) 0) [
+      | yes z ↦ rw (eq-eqb (sendFaultOf row earlier line notes buffer .refusal) 0 z) (sym z)
+      | no n ↦ rw (ne-eqb (sendFaultOf row earlier line notes buffer .refusal) 0 n) refl
     ]
 
 -- the cases of a call, a level's row or no such level: its answer's number is 0 or it is not
 module _ (earlier : ℕ) (line said notes late buffer : List ℕ) where
   abbrev number : Level → ℕ
-  number l = onLevel l (λ (row : Row). answerOn row earlier (length line) late (length buffer)) (refusedWith (fault 1 0)) .refusal
+  number l = onLevel l (λ (row : Row). sendAnswerOn row earlier (length line) late (length buffer)) (refusedWith (fault 1 0)) .refusal
 
   abbrev after : Level → List ℕ → List ℕ → List ℕ
   after l xs ns = onLevel l (λ (row : Row). lineOn row earlier xs ns buffer) xs
@@ -63,17 +63,17 @@ module _ (earlier : ℕ) (line said notes late buffer : List ℕ) where
   Ends l end =
       end
       ≡ onLevel l
-      (λ (row : Row). cond (eqb (faultOf row earlier (length line) late (length buffer) .refusal) 0) (mixedLine row (lineOn row earlier said notes buffer) (lineOn row earlier line late buffer)) line)
+      (λ (row : Row). cond (eqb (sendFaultOf row earlier (length line) late (length buffer) .refusal) 0) (mixedLine row (lineOn row earlier said notes buffer) (lineOn row earlier line late buffer)) line)
       line
 
   refused-ends : (l : Level) → (number l ≡ 0 → ⊥) → Ends l (after l line late)
   refused-ends (Of row) n =
-      rw (ne-eqb (faultOf row earlier (length line) late (length buffer) .refusal) 0 (λ z. n (answer-number row earlier (length line) late (length buffer) ∙ z))) refl
+      rw (ne-eqb (sendFaultOf row earlier (length line) late (length buffer) .refusal) 0 (λ z. n (answer-number row earlier (length line) late (length buffer) ∙ z))) refl
   refused-ends NoSuchLevel n = refl
 
   sent-ends : (l : Level) → number l ≡ 0 → Ends l (onLevel l (λ (row : Row). mixedLine row (after l said notes) (after l line late)) (after l line late))
   sent-ends (Of row) e =
-      rw (eq-eqb (faultOf row earlier (length line) late (length buffer) .refusal) 0 (sym (answer-number row earlier (length line) late (length buffer)) ∙ e)) refl
+      rw (eq-eqb (sendFaultOf row earlier (length line) late (length buffer) .refusal) 0 (sym (answer-number row earlier (length line) late (length buffer)) ∙ e)) refl
   sent-ends NoSuchLevel e = refl
 
   sent-short : (l : Level) → ((row : Row) → l ≡ Of row → Shared row) → number l ≡ 0 → length line ≤ 65536
@@ -82,7 +82,7 @@ module _ (earlier : ℕ) (line said notes late buffer : List ℕ) where
   sent-short NoSuchLevel known e = omega arith
 
   -- the same of a level's number, and of what the call answered and left
-  module _ (level : ℕ) (r : Counted) (is : r ≡ answered level earlier (length line) late (length buffer)) where
+  module _ (level : ℕ) (r : Counted) (is : r ≡ sendAnswered level earlier (length line) late (length buffer)) where
     pub late-refused : (r .refusal ≡ 0 → ⊥) → lineAfter level earlier line late buffer ≡ lateLine level earlier line said notes late buffer
     late-refused n = refused-ends (levelOf level) (λ z. n (rw is z))
 

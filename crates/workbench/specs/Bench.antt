@@ -19,7 +19,7 @@ use Rattle.levels.specs.Places.{kindAt}
 use Rattle.table.specs.Table.{levelOf}
 use Rattle.levels.specs.Sizes.{onLevel, quarterOf}
 use Rattle.levels.specs.declared.judging.Counted.{Counted}
-use Rattle.levels.specs.Judging.{answered, leftOn}
+use Rattle.levels.specs.Judging.{sendFaultOf, sendAnswered, leftBy}
 use Rattle.multiplex.specs.Multiplex.{lineOn, lineAfter}
 use Rattle.workbench.specs.declared.Compared.{Compared}
 
@@ -44,13 +44,13 @@ abbrev pub lateLine : ℕ → ℕ → List ℕ → List ℕ → List ℕ → Lis
 lateLine level earlier line said notes late buffer =
     onLevel (levelOf level)
     (λ (row : Row).
-    leftOn row earlier (length line) late (length buffer) (mixedLine row (lineOn row earlier said notes buffer) (lineOn row earlier line late buffer)) line)
+    leftBy (sendFaultOf row earlier (length line) late (length buffer)) (mixedLine row (lineOn row earlier said notes buffer) (lineOn row earlier line late buffer)) line)
     line
 
 -- `late_line`: its answer is that of multiplexing by the late notes, `said` is left as the line of a right multiplexer, and the line as above
 abbrev pub LateLineMet : ℕ → ℕ → List ℕ → List ℕ → List ℕ → List ℕ → List ℕ → Counted → List ℕ → List ℕ → Type 0
 LateLineMet level earlier line said notes late buffer answer saidLeft lineLeft =
-    (answer ≡ answered level earlier (length line) late (length buffer))
+    (answer ≡ sendAnswered level earlier (length line) late (length buffer))
     × (saidLeft ≡ lineAfter level earlier said notes buffer)
     × (lineLeft ≡ lateLine level earlier line said notes late buffer)
 

@@ -8,8 +8,8 @@
 //! - the line of a multiplex call, the notes that are read and the buffer of an extract call hold
 //!   165 in every byte beforehand, so that a byte left alone can be told from a byte cleared;
 //! - byte i of a multiplex call's buffer is i modulo 256;
-//! - a multiplex call's notes are 0 before frame `from`, and `note` from that frame on, and the vote
-//!   before frame 0 is 0; where an earlier vote is named, it is that one, and the notes are those named;
+//! - a multiplex call's notes are `before` before frame `from`, and `note` from that frame on, and the
+//!   vote before frame 0 is 0; where an earlier vote is named, it is that one, and the notes are those named;
 //! - the line that a multiplex call leaves is then extracted by the same notes;
 //! - every byte of a line whose notes are read is `fill`, and it is then extracted by the notes that
 //!   the reading leaves;
@@ -35,8 +35,8 @@ use reference::{read_capture, write_capture};
 const BEFORE: u8 = 165;
 const MAX: u64 = u64::MAX;
 
-/// level, line bytes, notes, note, from, buffer bytes
-type Sending = (u64, usize, usize, u8, usize, usize);
+/// level, line bytes, notes, before, note, from, buffer bytes
+type Sending = (u64, usize, usize, u8, u8, usize, usize);
 /// level, earlier vote, line bytes, notes, buffer bytes
 type Voting = (u64, u64, usize, [u8; 2], usize);
 /// level, line bytes, fill, notes, buffer bytes
@@ -71,40 +71,52 @@ const MAKINGS: [Making; 16] = [
     (512, 480, 15, 9, 255, 14, 16),
 ];
 
-const SENDINGS: [Sending; 27] = [
+const SENDINGS: [Sending; 37] = [
     // Case 9, and the other levels at the same borders.
-    (2, 6784, 64, 15, 32, 6592),
-    (2, 6890, 65, 0, 0, 6696),
-    (2, 105, 1, 0, 0, 104),
-    (2, 106, 1, 0, 0, 104),
-    (2, 106, 1, 0, 0, 100),
-    (3, 12288, 64, 5, 1, 12096),
-    (3, 12480, 65, 0, 0, 12288),
-    (4, 23424, 64, 250, 1, 23136),
-    (4, 23790, 65, 0, 0, 23500),
+    (2, 6784, 64, 32, 47, 32, 6592),
+    (2, 6890, 65, 32, 32, 0, 6696),
+    (2, 105, 1, 32, 32, 0, 104),
+    (2, 106, 1, 32, 32, 0, 104),
+    (2, 106, 1, 32, 32, 0, 100),
+    (3, 12288, 64, 32, 37, 1, 12096),
+    (3, 12480, 65, 32, 32, 0, 12288),
+    (4, 23424, 64, 224, 250, 1, 23136),
+    (4, 23790, 65, 224, 224, 0, 23500),
     // Case 10, and the note alone.
-    (2, 106, 1, 64, 0, 100),
-    (2, 106, 1, 64, 0, 104),
-    (3, 960, 5, 128, 3, 960),
-    (4, 366, 1, 64, 0, 364),
+    (2, 106, 1, 32, 64, 0, 100),
+    (2, 106, 1, 32, 64, 0, 104),
+    (3, 960, 5, 32, 128, 3, 960),
+    (4, 366, 1, 224, 224, 0, 364),
+    // A national digit that is not 1: at levels 2 and 3 there is one, at level 4 there are three.
+    (2, 106, 1, 32, 31, 0, 104),
+    (3, 960, 5, 32, 0, 3, 960),
+    (4, 1098, 3, 224, 223, 2, 1088),
+    (4, 1098, 3, 224, 191, 2, 1088),
+    (4, 1098, 3, 224, 127, 2, 1088),
+    (4, 1098, 3, 224, 16, 1, 1088),
+    // A short quarter comes before it, and a bit that the level lacks in any later note too.
+    (2, 106, 1, 32, 0, 0, 100),
+    (2, 212, 2, 0, 32, 1, 208),
+    (2, 212, 2, 0, 64, 1, 208),
+    (3, 960, 5, 0, 160, 4, 960),
     // Notes one short and one long, buffers that are no multiple of 4.
-    (2, 212, 1, 0, 0, 208),
-    (2, 106, 2, 0, 0, 104),
-    (2, 106, 1, 0, 0, 103),
-    (2, 106, 1, 0, 0, 105),
+    (2, 212, 1, 32, 32, 0, 208),
+    (2, 106, 2, 32, 32, 0, 104),
+    (2, 106, 1, 32, 32, 0, 103),
+    (2, 106, 1, 32, 32, 0, 105),
     // Room is asked for F·n digits even where frames are stuffed.
-    (2, 848, 8, 15, 0, 820),
-    (2, 848, 8, 15, 0, 824),
+    (2, 848, 8, 32, 47, 0, 820),
+    (2, 848, 8, 32, 47, 0, 824),
     // No frames, and levels that there are not.
-    (2, 0, 0, 0, 0, 0),
-    (2, 0, 0, 0, 0, 3),
-    (258, 0, 0, 0, 0, 0),
-    (MAX, 0, 0, 0, 0, 0),
-    // The order 1, 2, 3, 4, 5: the first wrong thing, and all later ones wrong as well.
-    (5, 105, 2, 64, 0, 103),
-    (2, 105, 2, 64, 0, 103),
-    (2, 106, 2, 64, 0, 103),
-    (2, 106, 1, 64, 0, 103),
+    (2, 0, 0, 0, 0, 0, 0),
+    (2, 0, 0, 0, 0, 0, 3),
+    (258, 0, 0, 0, 0, 0, 0),
+    (MAX, 0, 0, 0, 0, 0, 0),
+    // The order 1, 2, 3, 4, 5, 10: the first wrong thing, and all later ones wrong as well.
+    (5, 105, 2, 0, 64, 1, 103),
+    (2, 105, 2, 0, 64, 1, 103),
+    (2, 106, 2, 0, 64, 1, 103),
+    (2, 212, 2, 0, 64, 1, 207),
 ];
 
 const VOTINGS: [Voting; 6] = [
@@ -286,12 +298,14 @@ fn counted(answer: &Counted, bytes: &[u8]) -> String {
     format!("refusal {refusal} frame {frame} counts {a} {b} {c} {d} sum {}", sum(bytes))
 }
 
-fn sending((level, line, notes, note, from, buffer): Sending) {
+fn sending((level, line, notes, before, note, from, buffer): Sending) {
     let mut bytes = vec![BEFORE; line];
-    let list: Vec<u8> = (0..notes).map(|k| if k < from { 0 } else { note }).collect();
+    let list: Vec<u8> = (0..notes).map(|k| if k < from { before } else { note }).collect();
     let quarters = count_up(buffer);
-    let with =
-        format!("level {level} line {line} notes {notes} note {note} from {from} buffer {buffer}");
+    let with = format!(
+        "level {level} line {line} notes {notes} before {before} note {note} from {from} \
+         buffer {buffer}"
+    );
     there_and_back(&with, level, 0, &mut bytes, &list, &quarters);
 }
 
@@ -429,7 +443,7 @@ fn stretched((level, digits, zeros, few, alarm, fill, first, count): Stretched) 
 /// the frame's 106 bytes.
 fn case_11(size: u64) {
     let mut line = [0; 106];
-    multiplex(2, 0, &mut line, &[0], &[0; 104]);
+    multiplex(2, 0, &mut line, &[32], &[0; 104]);
     let four = line.repeat(4);
     let (mut state, mut first) = (fresh(2).1, 0);
     while first < 3392 {
@@ -446,7 +460,7 @@ fn case_11(size: u64) {
 /// The capture of case 1 without a label: all its bytes.
 fn example() {
     let (mut line, mut file) = ([0; 106], [0; 113]);
-    multiplex(2, 0, &mut line, &[0], &[0; 104]);
+    multiplex(2, 0, &mut line, &[32], &[0; 104]);
     let answer = write_capture(2, &line, None, &mut file);
     let bytes: String = file.iter().map(|byte| format!(" {byte}")).collect();
     println!("case 1 kept: refusal {} bytes {}{bytes}", answer.refusal, answer.bytes);

@@ -1,19 +1,15 @@
 -- `extract_on`: refused for a fault, or extracted.
-use mathlib.Core.Path.{_≡_, sym, _∙_, ap}
+use mathlib.Core.Path.{sym, _∙_, ap}
 use mathlib.Core.List.{List}
 use Prim.Native.Nat.{ℕ, _/_}
 use borrow.Author.Needs.{needs}
 use lib.ListN.{length}
 use Rattle.table.specs.declared.Row.{Row}
-use Rattle.levels.specs.declared.judging.Fault.{Fault}
 use Rattle.levels.specs.Judging.{refusedWith}
-use Rattle.levels.proofs.Refusals.{faultless, refused-kept, accepted-new}
+use Rattle.levels.proofs.Refusals.{number, faultless, refused-kept, accepted-new}
 use Rattle.extraction.specs.Quarters.{quartersFrom}
 use Rattle.extraction.proofs.extract_on.Statement.{statement}
 use Rattle.extraction.proofs.extract_on.Tie as tie
-
-number : {f g : Fault} → f ≡ g → f .refusal ≡ g .refusal
-number e = ap (λ (found : Fault). found .refusal) e
 
 -- the buffer that is extracted
 abbrev buffer : Row → ℕ → List ℕ → List ℕ → List ℕ → List ℕ
@@ -24,7 +20,7 @@ returns c =
     let a = c .before .before .before .before .before .before .before .args in
     let f = c .before .before .before .fault-of .ensures in
     let new = buffer (a .row) (a .earlier) (a .line .now) (a .notes .now) (a .buffer .now) in
-    let both = refused-kept (a .row) (a .earlier) (length (a .line .now)) (a .notes .now) (length (a .buffer .now)) new (a .buffer .now)
+    let both = refused-kept (a .row) (a .earlier) (a .notes .now) _ new (a .buffer .now)
     (λ z. c .before .if1 .taken (number f ∙ z)) in
     (c .refused .ensures ∙ ap refusedWith f ∙ both .0, both .1)
 
@@ -40,7 +36,7 @@ returns-2 c =
     let all = c .before .before .extract-all in
     let z = sym (number (c6 .fault-of .ensures)) ∙ c .before .before .before .before .if1 .left in
     let new = buffer (a .row) (a .earlier) (a .line .now) (a .notes .now) (a .buffer .now) in
-    let both = accepted-new (a .row) (a .earlier) (length (a .line .now)) (a .notes .now) (length (a .buffer .now)) new (a .buffer .now)
+    let both = accepted-new (a .row) (a .earlier) (a .notes .now) _ new (a .buffer .now)
     (all .result) z (all .ensures .0) in
     (both .0, rw (all .ensures .1) (both .1))
 

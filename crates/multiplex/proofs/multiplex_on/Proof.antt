@@ -1,20 +1,16 @@
 -- `multiplex_on`: refused for a fault, or sent.
-use mathlib.Core.Path.{_≡_, sym, _∙_, ap}
+use mathlib.Core.Path.{sym, _∙_, ap}
 use mathlib.Core.List.{List}
 use Prim.Native.Nat.{ℕ}
 use borrow.Author.Needs.{needs}
 use lib.ListN.{length}
 use Rattle.table.specs.declared.Row.{Row}
-use Rattle.levels.specs.declared.judging.Fault.{Fault}
 use Rattle.levels.specs.Judging.{refusedWith}
-use Rattle.levels.proofs.Refusals.{faultless, refused-kept, accepted-new}
+use Rattle.levels.proofs.Refusals.{number, faultless, send-faultless, refused-kept, accepted-new}
 use Rattle.multiplex.specs.Line.{lineOf}
 use Rattle.multiplex.specs.Sending.{tributaryOf}
 use Rattle.multiplex.proofs.multiplex_on.Statement.{statement}
 use Rattle.multiplex.proofs.multiplex_on.Tie as tie
-
-number : {f g : Fault} → f ≡ g → f .refusal ≡ g .refusal
-number e = ap (λ (found : Fault). found .refusal) e
 
 -- the line that is sent
 abbrev line : Row → ℕ → List ℕ → List ℕ → List ℕ → List ℕ
@@ -23,25 +19,25 @@ line row earlier old notes buffer = lineOf row earlier notes (tributaryOf buffer
 returns : tie.Need-returns
 returns c =
     let a = c .before .before .before .before .before .before .before .args in
-    let f = c .before .before .before .fault-of .ensures in
+    let f = c .before .before .before .send-fault-of .ensures in
     let new = line (a .row) (a .earlier) (a .line .now) (a .notes .now) (a .buffer .now) in
-    let both = refused-kept (a .row) (a .earlier) (length (a .line .now)) (a .notes .now) (length (a .buffer .now)) new (a .line .now)
+    let both = refused-kept (a .row) (a .earlier) (a .notes .now) _ new (a .line .now)
     (λ z. c .before .if1 .taken (number f ∙ z)) in
     (c .refused .ensures ∙ ap refusedWith f ∙ both .0, both .1)
 
 send-frames-requires : tie.Need-send-frames-requires
 send-frames-requires c κs =
     let b = c .before .before .before .before .before .before .before in
-    (b .pre, faultless _ _ _ _ _ (sym (number (c .before .before .before .fault-of .ensures)) ∙ c .before .if1 .left) .0)
+    (b .pre, faultless _ _ _ _ _ (send-faultless _ _ _ _ _ (sym (number (c .before .before .before .send-fault-of .ensures)) ∙ c .before .if1 .left) .0) .0)
 
 returns-2 : tie.Need-returns-2
 returns-2 c =
     let c6 = c .before .before .before .before .before .before in
     let a = c6 .before .before .before .before .args in
     let all = c .before .before .send-frames in
-    let z = sym (number (c6 .fault-of .ensures)) ∙ c .before .before .before .before .if1 .left in
+    let z = sym (number (c6 .send-fault-of .ensures)) ∙ c .before .before .before .before .if1 .left in
     let new = line (a .row) (a .earlier) (a .line .now) (a .notes .now) (a .buffer .now) in
-    let both = accepted-new (a .row) (a .earlier) (length (a .line .now)) (a .notes .now) (length (a .buffer .now)) new (a .line .now)
+    let both = accepted-new (a .row) (a .earlier) (a .notes .now) _ new (a .line .now)
     (all .result) z (all .ensures .counted) in
     (both .0, rw (all .ensures .line) (both .1))
 

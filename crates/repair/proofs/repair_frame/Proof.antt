@@ -8,11 +8,11 @@ use Rattle.repair.proofs.repair_frame.Statement.{statement}
 use Rattle.repair.proofs.repair_frame.Tie as tie
 
 abbrev Inv-loop : tie.InvT-loop
-Inv-loop row line₀ f votes sums₀ s₀ line sums s =
-    (s ≤ row .sets) × Onward row f (votes .preceding) (votes .note) (f * row .digits) (f * row .digits + s * row .set) line₀ sums₀ line sums
+Inv-loop row line₀ f rule sums₀ s₀ line sums s =
+    (s ≤ row .sets) × Onward row (rule .national) f (rule .preceding) (rule .note) (f * row .digits) (f * row .digits + s * row .set) line₀ sums₀ line sums
 
 abbrev μ-loop : tie.MeasureT-loop
-μ-loop row line₀ f votes sums₀ s₀ line sums s = row .sets - s
+μ-loop row line₀ f rule sums₀ s₀ line sums s = row .sets - s
 
 loop-holds : tie.Need-loop-holds Inv-loop μ-loop
 loop-holds c = (omega arith, onward-none (omega arith))

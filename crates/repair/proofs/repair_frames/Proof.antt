@@ -9,11 +9,11 @@ use Rattle.repair.proofs.repair_frames.Statement.{statement}
 use Rattle.repair.proofs.repair_frames.Tie as tie
 
 abbrev Inv-loop : tie.InvT-loop
-Inv-loop row earlier line₀ sums₀ frames preceding₀ f₀ line sums preceding f =
-    (f ≤ frames) × (frames ≡ framesOf row (length line₀)) × Framing row earlier line₀ f preceding line sums
+Inv-loop row earlier national line₀ sums₀ frames preceding₀ f₀ line sums preceding f =
+    (f ≤ frames) × (frames ≡ framesOf row (length line₀)) × Framing row earlier national line₀ f preceding line sums
 
 abbrev μ-loop : tie.MeasureT-loop
-μ-loop row earlier line₀ sums₀ frames preceding₀ f₀ line sums preceding f = frames - f
+μ-loop row earlier national line₀ sums₀ frames preceding₀ f₀ line sums preceding f = frames - f
 
 div-frames : tie.Need-div-frames Inv-loop μ-loop
 div-frames c =
@@ -24,7 +24,7 @@ loop-holds : tie.Need-loop-holds Inv-loop μ-loop
 loop-holds c =
     let b = c .before .before in
     let a = b .args in
-    (omega arith, refl, framing-none (a .row) (a .earlier) (a .line .now) (a .sums .now) (b .pre .0) (λ i. omega (arith, c .before .slice-known .given i)) (b .pre .1))
+    (omega arith, refl, framing-none (a .row) (a .earlier) (a .national) (a .line .now) (a .sums .now) (b .pre .0) (λ i. omega (arith, c .before .slice-known .given i)) (b .pre .1))
 
 read-note-requires : tie.Need-read-note-requires Inv-loop μ-loop
 read-note-requires c κs =

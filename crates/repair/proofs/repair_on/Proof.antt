@@ -9,14 +9,14 @@ use Rattle.repair.proofs.repair_on.Tie as tie
 returns : tie.Need-returns
 returns c =
     let a = c .before .before .before .before .args in
-    let all = refused-all (a .row) (a .earlier) (a .line .now) 2 (λ z. omega arith)
+    let all = refused-all (a .row) (a .earlier) (a .line .now) (a .national) 2 (λ z. omega arith)
     (bad-line-two (a .row) (a .earlier) (a .line .now) (sym (c .before .before .bad-line .ensures) ∙ c .before .if1 .taken)) in
     (c .refused .ensures ∙ all .0, all .1)
 
 returns-2 : tie.Need-returns-2
 returns-2 c =
     let a = c .before .before .before .before .before .before .args in
-    let all = refused-all (a .row) (a .earlier) (a .line .now) 5 (λ z. omega arith)
+    let all = refused-all (a .row) (a .earlier) (a .line .now) (a .national) 5 (λ z. omega arith)
     (bad-earlier-five (a .row) (a .earlier) (a .line .now) (sym (c .before .before .before .before .bad-line .ensures) ∙ c .before .before .before .if1 .left)
     (sym (c .before .before .bad-earlier .ensures) ∙ c .before .if2 .taken)) in
     (c .refused2 .ensures ∙ all .0, all .1)
@@ -41,4 +41,4 @@ repair-on-spec =
     tie.close
     (tie.spec (λ c κs. search needs) (λ c κs. search needs) returns (λ c κs. search needs) (λ c κs. search needs) returns-2 repair-frames-requires
     (λ c. search needs) (λ c. search needs) (λ c. search needs) (λ c. search needs) (λ c. search needs) (λ c. search needs) (λ c. search needs)
-    (λ c. search needs) (λ c. search needs) (λ c. search needs) returns-3)
+    (λ c. search needs) (λ c. search needs) (λ c. search needs) (λ c. search needs) returns-3)

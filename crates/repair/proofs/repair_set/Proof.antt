@@ -10,12 +10,12 @@ use Rattle.repair.proofs.repair_set.Statement.{statement}
 use Rattle.repair.proofs.repair_set.Tie as tie
 
 abbrev Inv-loop : tie.InvT-loop
-Inv-loop row line₀ f s votes sums₀ end r₀ line sums r =
+Inv-loop row line₀ f s rule sums₀ end r₀ line sums r =
     (r ≤ end) × (end ≡ headEnd row s)
-    × Onward row f (votes .preceding) (votes .note) (f * row .digits + s * row .set) (f * row .digits + (s * row .set + r)) line₀ sums₀ line sums
+    × Onward row (rule .national) f (rule .preceding) (rule .note) (f * row .digits + s * row .set) (f * row .digits + (s * row .set + r)) line₀ sums₀ line sums
 
 abbrev μ-loop : tie.MeasureT-loop
-μ-loop row line₀ f s votes sums₀ end r₀ line sums r = end - r
+μ-loop row line₀ f s rule sums₀ end r₀ line sums r = end - r
 
 head-end-requires : tie.Need-head-end-requires Inv-loop μ-loop
 head-end-requires c κs = c .before .pre .0 .mended .whole .shared

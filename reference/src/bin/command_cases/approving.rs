@@ -4,7 +4,8 @@
 
 use crate::case::{words, Case};
 use crate::inputs::{damaged, level, levels, line, notes, room, tributaries};
-use crate::texts::{self, cannot, no_level, no_room, no_such_digits, no_whole_frames, written};
+use crate::texts::{self, cannot, no_level, no_national, no_room, no_such_digits};
+use crate::texts::{no_whole_frames, written};
 use crate::worked;
 use reference::level::{Row, MOST_FRAMES};
 use reference::random::Random;
@@ -83,6 +84,7 @@ fn wrong_sending() -> Vec<Case> {
     vec![
         fails("plain-send-short", &[0], 100, &no_room(row, "tributaries", 100, 1)),
         fails("plain-send-wrong-note", &[0, 0x40], 208, &no_such_digits("notes", 1)),
+        fails("plain-send-national", &[0x20, 0x1F], 208, &no_national("notes", row, 1)),
     ]
 }
 

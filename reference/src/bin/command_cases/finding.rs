@@ -189,7 +189,7 @@ fn long() -> Vec<Case> {
     assert_eq!(frames.found.alignment().len(), 3);
     let late = Stream::new(row, 17).zeros(border - 5 - 2 * n).good(4).bytes();
     let late = Finding::of(row, late).with_events(&[Event::Found(border - 5)]);
-    let by_hand = worked::send(row, &[0], &[0; 104]).line.repeat(4);
+    let by_hand = worked::send(row, &[0x20], &[0; 104]).line.repeat(4);
     let by_hand = Finding::of(row, by_hand).with_counts(2, 3);
     vec![frames.writes("long"), late.prints("late"), by_hand.writes("worked-by-hand")]
 }

@@ -20,11 +20,13 @@ pub fn known_bits(row: &Row) -> u8 {
     ((1_u32 << row.note_bits()) - 1) as u8
 }
 
-/// Notes in which tributaries 1 and 3 are stuffed in turn, and all else is random.
+/// Notes in which tributaries 1 and 3 are stuffed in turn, the national digits are 1, and all else
+/// is random.
 pub fn notes(row: &Row, frames: usize, seed: u64) -> Vec<u8> {
     let mut random = Random::new(seed);
     let turn = |k: usize| if k % 2 == 0 { 0b0001 } else { 0b0100 };
-    let mut note = |k| random.bytes(1)[0] & known_bits(row) & !0b0101 | turn(k);
+    let always = |k| turn(k) | row.national_bits();
+    let mut note = |k| random.bytes(1)[0] & known_bits(row) & !0b0101 | always(k);
     (0..frames).map(&mut note).collect()
 }
 

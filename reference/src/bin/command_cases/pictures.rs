@@ -10,7 +10,7 @@ use reference::frame::{fill, layout, Place, Waiting};
 use reference::level::Row;
 
 const NOTED: [(u64, &str); 8] =
-    [(2, "00"), (2, "3F"), (2, "15"), (3, "01"), (3, "2a"), (4, "00"), (4, "FF"), (4, "a6")];
+    [(2, "20"), (2, "3F"), (2, "35"), (3, "21"), (3, "2a"), (4, "E0"), (4, "FF"), (4, "e6")];
 
 /// The level, the vote before the frame, and its note.
 const VOTED: [(u64, &str, &str); 6] = [
@@ -22,15 +22,15 @@ const VOTED: [(u64, &str, &str); 6] = [
     (14, "a", "00"),
 ];
 
-const DRAWN: [&str; 8] =
-    ["2", "2 2A", "3 15", "4 c3", "12", "14", "12:3 05", "14:5 0A"];
+const DRAWN: [&str; 8] = ["2", "2 2A", "3 35", "4 e3", "12", "14", "12:3 05", "14:5 0A"];
 
 pub fn cases() -> Vec<Case> {
     let mut cases = Vec::new();
     for row in levels() {
         let command = format!("frame {}", row.level);
         cases.push(
-            Case::new(&command.replace(' ', "-")).accepted(words(&command), &picture(row, NONE_BEFORE, None)),
+            Case::new(&command.replace(' ', "-"))
+                .accepted(words(&command), &picture(row, NONE_BEFORE, None)),
         );
     }
     for (number, note) in NOTED {
@@ -66,6 +66,9 @@ fn failing() -> Vec<Case> {
         // The words of this refusal are left to the program: no file is named here.
         Case::new("frame-2-no-such-digit").like(words("frame 2 40"), 1, &[], "^refused 5: "),
         Case::new("frame-3-no-such-digit").like(words("frame 3 80"), 1, &[], "^refused 5: "),
+        Case::new("frame-2-national").like(words("frame 2 1F"), 1, &[], "^refused 10: "),
+        Case::new("frame-3-national").like(words("frame 3 00"), 1, &[], "^refused 10: "),
+        Case::new("frame-4-national").like(words("frame 4 BF"), 1, &[], "^refused 10: "),
         Case::new("frame-12-no-such-bit").like(words("frame 12 10"), 1, &[], "^refused 5: "),
         Case::new("frame-14-no-such-bit").like(words("frame 14 80"), 1, &[], "^refused 5: "),
         Case::new("frame-14-no-such-vote").fails(words("frame 14:10 00"), &texts::no_vote("14:10")),

@@ -32,6 +32,8 @@ struct Worn {
     line: Vec<u8>,
     new: Vec<u8>,
     changed: Repaired,
+    /// Whether the national digits are repaired too.
+    national: bool,
 }
 
 impl Worn {
@@ -53,56 +55,91 @@ impl Worn {
             line.extend(pack(&digits));
             preceding = note;
         }
-        Worn { row, line, new, changed }
+        Worn { row, line, new, changed, national: false }
+    }
+
+    /// The same with national digits damaged too, where the level has any, and repaired.
+    fn national(number: u64, before: u8, frames: usize) -> Worn {
+        let mut worn = Worn::sent(number, before, frames);
+        let mut random = Random::new(640 + number);
+        let bytes = worn.row.frame_bytes();
+        for frame in worn.line.chunks_mut(bytes) {
+            let mut digits = unpack(frame, worn.row.frame_digits);
+            for (digit, place) in digits.iter_mut().zip(layout(worn.row)) {
+                if matches!(place, Place::National(_)) && random.digit() == 1 {
+                    *digit ^= 1;
+                    worn.changed.national += 1;
+                }
+            }
+            frame.copy_from_slice(&pack(&digits));
+        }
+        Worn { national: true, ..worn }
     }
 
     /// A line of random digits, repaired after this vote.
-    fn random(number: u64, before: u8, frames: usize) -> Worn {
+    fn random(number: u64, before: u8, frames: usize, national: bool) -> Worn {
         let row = level(number);
         let line = Random::new(630 + number).bytes(frames * row.frame_bytes());
         let (mut new, mut changed) = (line.clone(), Repaired::default());
         let mut preceding = before;
         for bytes in new.chunks_mut(row.frame_bytes()) {
             let note = frame::read(row, &unpack(bytes, row.frame_digits)).note;
-            let one = repair(number, preceding.into(), bytes);
+            let one = repair(number, preceding.into(), national.into(), bytes);
             assert_eq!(one.refusal, 0);
             changed.word += one.word;
+            changed.national += one.national;
             (0..4).for_each(|j| changed.control[j] += one.control[j]);
             (0..4).for_each(|j| changed.stuffing[j] += one.stuffing[j]);
             preceding = note;
         }
-        Worn { row, line, new, changed }
+        Worn { row, line, new, changed, national }
+    }
+
+    /// The command's name.
+    fn command(&self) -> &'static str {
+        if self.national {
+            "repair-national"
+        } else {
+            "repair"
+        }
     }
 
     /// Level, frames, and the table.
     fn text(&self) -> String {
         let (row, frames) = (self.row, self.line.len() / self.row.frame_bytes());
         let head = format!("Level {}, {} kbit/s\nframes: {frames}\n", row.level, row.rate);
-        head + &table(&self.changed)
+        head + &table(&self.changed, self.national)
     }
 
     fn of_line(&self, name: &str, vote: &str) -> Case {
         let word = format!("{}{vote}", self.row.level);
-        Case::new(&format!("repair-{}-{name}", word.replace(':', "-after-")))
+        let command = self.command();
+        Case::new(&format!("{command}-{}-{name}", word.replace(':', "-after-")))
             .file("line", &self.line)
             .had("new", OLD)
-            .accepted(words(&format!("repair {word} line new")), &(self.text() + &written(&OUTPUT)))
+            .accepted(
+                words(&format!("{command} {word} line new")),
+                &(self.text() + &written(&OUTPUT)),
+            )
             .makes("new", &self.new)
     }
 
     fn of_capture(&self, name: &str, label: Option<&[u8]>, vote: &str) -> Case {
-        let said = texts::capture(self.row, &self.line, label) + &table(&self.changed);
+        let said =
+            texts::capture(self.row, &self.line, label) + &table(&self.changed, self.national);
+        let command = self.command();
         let vote_name = vote.replace(':', "-after-");
-        Case::new(&format!("repair-capture-{}{vote_name}-{name}", self.row.level))
+        Case::new(&format!("{command}-capture-{}{vote_name}-{name}", self.row.level))
             .file("capture", &capture(self.row, &self.line, label))
-            .accepted(words(&format!("repair {vote} capture new")), &(said + &written(&OUTPUT)))
+            .accepted(words(&format!("{command} {vote} capture new")), &(said + &written(&OUTPUT)))
             .makes("new", &capture(self.row, &self.new, label))
     }
 
     /// What was repaired is repaired again: nothing is changed, and nothing counted.
     fn again(&self, case: Case, label: Option<&[u8]>, vote: &str) -> Case {
         let said = texts::capture(self.row, &self.new, label) + "digits repaired: 0\n";
-        case.accepted(words(&format!("repair {vote} new again")), &(said + &written(&["again"])))
+        let command = self.command();
+        case.accepted(words(&format!("{command} {vote} new again")), &(said + &written(&["again"])))
             .makes("again", &capture(self.row, &self.new, label))
     }
 }
@@ -143,14 +180,17 @@ fn count(changed: &mut Repaired, place: Place) {
 }
 
 /// What is said of the digits changed.
-fn table(changed: &Repaired) -> String {
+fn table(changed: &Repaired, national: bool) -> String {
     let sum = |of: &[u64; 4]| of.iter().sum::<u64>();
-    let all = changed.word + sum(&changed.control) + sum(&changed.stuffing);
+    let all = changed.word + changed.national + sum(&changed.control) + sum(&changed.stuffing);
     let mut text = format!("digits repaired: {all}\n");
     if all == 0 {
         return text;
     }
     text += &format!("\n  alignment word  {:>6}", changed.word);
+    if national {
+        text += &format!("\n  national digits {:>6}", changed.national);
+    }
     text += "\n                  control  stuffing\n";
     for j in 0..4 {
         let (control, stuffing) = (changed.control[j], changed.stuffing[j]);
@@ -165,11 +205,13 @@ fn lines() -> Vec<Case> {
         for frames in [0, 1, 64, 65, 130] {
             cases.push(Worn::sent(row.level, 0, frames).of_line(&format!("{frames}-frames"), ""));
         }
-        cases.push(Worn::random(row.level, 0, 70).of_line("random", ""));
+        cases.push(Worn::random(row.level, 0, 70, false).of_line("random", ""));
+        cases.push(Worn::random(row.level, 0, 70, true).of_line("random", ""));
+        cases.push(Worn::national(row.level, 0, 65).of_line("65-frames", ""));
     }
     for (number, vote, before) in [(12, ":F", 15), (12, ":05", 5), (14, ":a", 10), (14, ":F", 15)] {
         cases.push(Worn::sent(number, before, 66).of_line("66-frames", vote));
-        cases.push(Worn::random(number, before, 65).of_line("random", vote));
+        cases.push(Worn::random(number, before, 65, false).of_line("random", vote));
     }
     // Levels 2 to 4 do not look at the vote.
     cases.push(Worn::sent(3, 0, 2).of_line("2-frames", ":ff"));
@@ -194,17 +236,21 @@ fn captures() -> Vec<Case> {
         cases.push(three.again(three.of_capture("three-frames", label, ""), label, ""));
         cases.push(Worn::sent(row.level, 0, 64).of_capture("64-frames", None, ""));
         cases.push(Worn::sent(row.level, 0, 0).of_capture("no-frames", Some(b""), ""));
-        cases.push(Worn::random(row.level, 0, 64).of_capture("random", most, "").had("new", OLD));
+        cases.push(
+            Worn::random(row.level, 0, 64, false).of_capture("random", most, "").had("new", OLD),
+        );
+        let both = Worn::national(row.level, 0, 4);
+        cases.push(both.again(both.of_capture("four-frames", label, ""), label, ""));
     }
     for (number, vote, before) in [(12, ":F", 15), (12, ":05", 5), (14, ":a", 10), (14, ":F", 15)] {
         let one = Worn::sent(number, before, 9);
         cases.push(one.again(one.of_capture("nine-frames", None, vote), None, vote));
-        cases.push(Worn::random(number, before, 5).of_capture("random", None, vote));
+        cases.push(Worn::random(number, before, 5, true).of_capture("random", None, vote));
     }
     cases.push(Worn::sent(4, 0, 2).of_capture("two-frames", None, ":ff"));
     // Told to by the same name, it takes the place of the one that it reads.
     let own = Worn::sent(14, 0, 64);
-    let said = texts::capture(own.row, &own.line, most) + &table(&own.changed);
+    let said = texts::capture(own.row, &own.line, most) + &table(&own.changed, false);
     cases.push(
         Case::new("repair-capture-14-by-its-own-name")
             .had("capture", &capture(own.row, &own.line, most))

@@ -2,7 +2,7 @@
 
 use crate::case::{in_turn, words, Case, OLD};
 use crate::inputs::{level, levels, notes, room, tributaries};
-use crate::texts::{self, cannot, no_level, no_room, no_such_digits, written};
+use crate::texts::{self, cannot, no_level, no_national, no_room, no_such_digits, written};
 use crate::worked;
 use reference::level::Row;
 use reference::random::Random;
@@ -13,6 +13,7 @@ pub fn cases() -> Vec<Case> {
     let mut cases = accepted();
     cases.extend(in_turn(wrong_lengths(), &OUTPUT));
     cases.extend(in_turn(wrong_notes(), &OUTPUT));
+    cases.extend(in_turn(wrong_national(), &OUTPUT));
     cases.extend(in_turn(wrong_levels(), &OUTPUT));
     cases.extend(in_turn(wrong_inputs(), &OUTPUT));
     cases.extend(wrong_outputs());
@@ -54,7 +55,7 @@ fn accepted() -> Vec<Case> {
     cases.push(random("65-frames", level(2), 65, 0));
     cases.push(random("no-frames-longer-quarters", level(2), 0, 2));
     cases.push(random("over-an-older-file", level(3), 2, 1).had("line", OLD));
-    for (number, note) in [(2, 0), (2, 0x3F), (3, 0x01), (4, 0xFF)] {
+    for (number, note) in [(2, 0x20), (2, 0x3F), (3, 0x21), (4, 0xFF)] {
         let name = format!("send-{number}-worked-by-hand-{note:02x}");
         let zeros = vec![0; 4 * room(level(number), 1)];
         cases.push(sends(&name, level(number), &[note], &zeros));
@@ -81,19 +82,21 @@ fn long_names() -> Case {
 
 /// Level, notes, bytes of the file of tributaries.
 type Lengths = (u64, &'static [u8], usize);
-/// Level, frames, and the frames whose notes are wrong, with the wrong bits.
+/// Level, frames, and the frames whose notes are wrong, with the wrong bits. The first of them is
+/// named.
 type WrongNotes = (u64, usize, &'static [(usize, u8)]);
 
 /// No equal quarters, or too short ones.
-const LENGTHS: [Lengths; 9] = [
+const LENGTHS: [Lengths; 10] = [
     (2, &[], 3),
-    (2, &[0], 0),
-    (2, &[0], 100),
-    (2, &[0], 105),
+    (2, &[0x20], 0),
+    (2, &[0x20], 100),
+    (2, &[0x20], 105),
     // Room is asked for all digits, even where all frames are stuffed.
-    (2, &[15; 8], 4 * 205),
-    // Refusal 4 comes before 5.
-    (2, &[0x40; 2], 4 * 51),
+    (2, &[0x2F; 8], 4 * 205),
+    // Refusal 4 comes before 5, and before 10.
+    (2, &[0x60; 2], 4 * 51),
+    (2, &[0; 2], 4 * 51),
     (3, &[0; 150], 4 * 7087),
     (4, &[0xFF; 65], 4 * 5874),
     (4, &[0; 3], 4 * 272 + 2),
@@ -102,7 +105,8 @@ const LENGTHS: [Lengths; 9] = [
 fn wrong_lengths() -> Vec<Case> {
     let refused = |(number, notes, bytes): Lengths| {
         let row = level(number);
-        let name = format!("send-{number}-{}-frames-of-{bytes}-bytes", notes.len());
+        let note = notes.first().copied().unwrap_or(0);
+        let name = format!("send-{number}-{}-frames-{note:02x}-of-{bytes}-bytes", notes.len());
         let line = no_room(row, "tributaries", bytes, notes.len());
         given(&name, notes, &vec![0; bytes]).fails(command(row), &line)
     };
@@ -128,6 +132,46 @@ fn wrong_notes() -> Vec<Case> {
         given(&name, &list, &buffer).fails(command(row), &no_such_digits("notes", first))
     };
     NOTES.into_iter().map(refused).collect()
+}
+
+/// Bits of national digits that are cleared: bit 5 at levels 2 and 3; at level 4 each of bits 5, 6
+/// and 7 alone, and all three.
+const NATIONAL: [WrongNotes; 9] = [
+    (2, 1, &[(0, 0x20)]),
+    (2, 3, &[(1, 0x20), (2, 0x20)]),
+    (2, 150, &[(70, 0x20), (149, 0x20)]),
+    (3, 64, &[(63, 0x20)]),
+    (3, 150, &[(128, 0x20)]),
+    (4, 3, &[(0, 0x20), (1, 0xE0)]),
+    (4, 3, &[(1, 0x40)]),
+    (4, 3, &[(2, 0x80)]),
+    (4, 190, &[(100, 0xE0), (130, 0x40)]),
+];
+
+fn wrong_national() -> Vec<Case> {
+    let given_notes = |(number, frames, wrong): WrongNotes| {
+        let row = level(number);
+        let mut list = notes(row, frames, 11);
+        let buffer = tributaries(row, &list, 12);
+        wrong.iter().for_each(|&(frame, bits)| list[frame] &= !bits);
+        (row, list, buffer)
+    };
+    let refused = |with: WrongNotes| {
+        let (row, list, buffer) = given_notes(with);
+        let first = with.2[0].0;
+        let name = format!("send-{}-national-{first}-of-{}", row.level, with.1);
+        given(&name, &list, &buffer).fails(command(row), &no_national("notes", row, first))
+    };
+    let mut cases: Vec<Case> = NATIONAL.into_iter().map(refused).collect();
+    // Refusal 5 comes first, in a later note too, however many frames later.
+    for with in [(2, 2, &[(0, 0x20)]), (3, 64, &[(0, 0x20)]), (2, 150, &[(3, 0x20)])] {
+        let (row, mut list, buffer) = given_notes((with.0, with.1, with.2));
+        let last = list.len() - 1;
+        list[last] |= 0x40;
+        let case = given(&format!("send-{}-national-and-no-such-digit", row.level), &list, &buffer);
+        cases.push(case.fails(command(row), &no_such_digits("notes", last)));
+    }
+    cases
 }
 
 fn wrong_levels() -> Vec<Case> {
@@ -163,9 +207,9 @@ fn wrong_inputs() -> Vec<Case> {
 fn wrong_outputs() -> Vec<Case> {
     let no_folder = words("send 2 notes tributaries none/line");
     vec![
-        given("send-line-in-no-folder", &[0], &[0; 104])
+        given("send-line-in-no-folder", &[0x20], &[0; 104])
             .fails(no_folder, &cannot("none/line", "written")),
-        given("send-line-is-a-folder", &[0], &[0; 104])
+        given("send-line-is-a-folder", &[0x20], &[0; 104])
             .folder("line")
             .fails(command(level(2)), &cannot("line", "written")),
     ]

@@ -36,19 +36,19 @@ impl Stream {
         self
     }
 
-    /// Frames of random notes and tributaries.
+    /// Frames of random notes and tributaries, as they are sent: the national digits are 1.
     pub fn good(mut self, frames: usize) -> Stream {
         for _ in 0..frames {
-            let frame = self.frame();
+            let frame = self.frame(self.row.national_bits());
             self.digits.extend(frame);
         }
         self
     }
 
-    /// The same with one wrong digit in each word.
+    /// The same with one wrong digit in each word, and national digits as they come.
     pub fn wrong(mut self, frames: usize) -> Stream {
         for _ in 0..frames {
-            let mut frame = self.frame();
+            let mut frame = self.frame(0);
             frame[self.random.index(self.row.word_length())] ^= 1;
             self.digits.extend(frame);
         }
@@ -78,8 +78,9 @@ impl Stream {
         pack(&self.digits)
     }
 
-    fn frame(&mut self) -> Vec<u8> {
-        let note = self.random.bytes(1)[0] & known_bits(self.row);
+    /// A frame in whose note these bits are set.
+    fn frame(&mut self, bits: u8) -> Vec<u8> {
+        let note = self.random.bytes(1)[0] & known_bits(self.row) | bits;
         let count = self.row.most_digits();
         let mut waiting: Vec<Waiting> = (0..4).map(|_| self.random.digits(count).into()).collect();
         let frame = fill(self.row, self.before, note, &mut waiting);

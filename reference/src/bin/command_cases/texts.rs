@@ -80,10 +80,8 @@ pub fn noted_after(row: &Row, earlier: u8, line: &[u8]) -> String {
         let rest = beside_votes(row, before, one.note);
         before = one.note;
         let dissent = one.dissent.map(|digits| digits.to_string()).join(" ");
-        text += &format!(
-            "{k:>9}  {stuffed:7}  {rest:7}  {:7} {dissent}  {:>9}\n",
-            "", one.alignment
-        );
+        text +=
+            &format!("{k:>9}  {stuffed:7}  {rest:7}  {:7} {dissent}  {:>9}\n", "", one.alignment);
     }
     let taken = take_after(row, earlier, line);
     let four = |counts: [String; 4]| counts.join(" ");
@@ -216,6 +214,16 @@ pub fn no_such_digits(path: &str, frame: usize) -> String {
     format!(
         "refused 5: {path}: the note of frame {frame} has bit 6 or 7 set; only level 4 has \
          these national digits."
+    )
+}
+
+/// A note in which a national digit is 0.
+pub fn no_national(path: &str, row: &Row, frame: usize) -> String {
+    let bits = if row.national_digits == 1 { "bit 5 is" } else { "bits 5, 6 and 7 are" };
+    format!(
+        "refused 10: {path}: the note of frame {frame} has a national digit of 0; at level {} {bits} \
+         1 in every note.",
+        row.level
     )
 }
 

@@ -117,9 +117,8 @@ impl Voted {
 
 /// A vote over F, words that are no vote, and notes with more than votes.
 fn refused() -> Vec<Case> {
-    let given = |name: &str| {
-        Case::new(name).file("notes", &[0, 0]).file("tributaries", &[0; 4 * 68 * 2])
-    };
+    let given =
+        |name: &str| Case::new(name).file("notes", &[0, 0]).file("tributaries", &[0; 4 * 68 * 2]);
     let command = |word: &str| words(&format!("send {word} notes tributaries line"));
     let mut cases = Vec::new();
     for word in ["12:10", "14:10", "12:ff", "14:1F"] {

@@ -55,9 +55,10 @@ pub fn send_after(row: &Row, earlier: u8, notes: &[u8], buffer: &[u8]) -> Sent {
 pub fn frames(row: &Row, earlier: u8, notes: &[u8], wanted: Action) -> [usize; 4] {
     let before: Vec<u8> = [&[earlier], notes].concat();
     let acts = |j: usize| {
-        before.iter().zip(notes).filter(move |(&before, &note)| {
-            frame::action(row, before, note, j) == wanted
-        })
+        before
+            .iter()
+            .zip(notes)
+            .filter(move |(&before, &note)| frame::action(row, before, note, j) == wanted)
     };
     [0, 1, 2, 3].map(|j| acts(j).count())
 }

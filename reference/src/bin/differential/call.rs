@@ -22,6 +22,8 @@ pub struct Lending {
 pub struct Worn {
     pub level: u64,
     pub earlier: u64,
+    /// The switch for national digits: 0 is off.
+    pub national: u64,
     pub line: Vec<u8>,
 }
 
@@ -157,7 +159,7 @@ impl Call {
             Call::FinderFresh => "window, seen, mode, place",
             Call::FinderFeed(_) => "taken, aligned; window, seen, mode, place",
             Call::Swap(..) => "digits taken",
-            Call::Repair(_) => "changed: word, control of four, stuffing of four",
+            Call::Repair(_) => "changed: word, control of four, stuffing of four, national",
             Call::Compare(..) => "file, byte, fifteen sums, all, listed; frame and place of each",
         }
     }
@@ -167,9 +169,10 @@ impl Call {
             Call::Multiplex(with) | Call::ReadNotes(with) | Call::Extract(with) => with.short(),
             Call::Swap(with, tributary) => format!("tributary {tributary}; {}", with.short()),
             Call::Repair(worn) => format!(
-                "level {}; earlier {}; line {}",
+                "level {}; earlier {}; national {}; line {}",
                 worn.level,
                 worn.earlier,
+                worn.national,
                 in_short(&worn.line)
             ),
             Call::Fresh(level) => format!("level {level}"),
@@ -248,9 +251,9 @@ impl Call {
 }
 
 impl Worn {
-    /// The level, the earlier vote and the line of a call that is lent more.
-    pub fn of(with: Lending) -> Worn {
-        Worn { level: with.level, earlier: with.earlier, line: with.line }
+    /// The level, the earlier vote and the line of a call that is lent more, and the switch.
+    pub fn of(with: Lending, national: u64) -> Worn {
+        Worn { level: with.level, earlier: with.earlier, national, line: with.line }
     }
 }
 
@@ -294,8 +297,9 @@ fn swapped(mut with: Lending, tributary: u64) -> Outcome {
 }
 
 fn repaired(mut worn: Worn) -> Outcome {
-    let answer = repair(worn.level, worn.earlier, &mut worn.line);
-    let numbers = [&[answer.word], &answer.control[..], &answer.stuffing].concat();
+    let answer = repair(worn.level, worn.earlier, worn.national, &mut worn.line);
+    let numbers =
+        [&[answer.word], &answer.control[..], &answer.stuffing, &[answer.national]].concat();
     outcome(answer.refusal, numbers, vec![("line", worn.line)])
 }
 

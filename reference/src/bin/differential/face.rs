@@ -74,7 +74,8 @@ extern "C" {
         answer: *mut u64,
     ) -> u64;
     pub fn spritbobbin_repair(
-        level: u64, earlier: u64, line: *mut u8, line_bytes: usize, answer: *mut u64,
+        level: u64, earlier: u64, national: u64, line: *mut u8, line_bytes: usize,
+        answer: *mut u64,
     ) -> u64;
     pub fn spritbobbin_rack_aligned(records: *const u64, number: usize, answer: *mut u64) -> u64;
 }
@@ -254,11 +255,11 @@ fn swap(with: &Lending, tributary: u64) -> Outcome {
 
 fn repair(worn: &Worn) -> Outcome {
     let mut line = bytes("line", &worn.line);
-    let mut answer = numbers("answer", &[UNWRITTEN; 9]);
+    let mut answer = numbers("answer", &[UNWRITTEN; 10]);
     // Sound as above.
     let refusal = unsafe {
         let (l, lc, a) = (line.pointer(), line.count(), answer.pointer());
-        spritbobbin_repair(worn.level, worn.earlier, l, lc, a)
+        spritbobbin_repair(worn.level, worn.earlier, worn.national, l, lc, a)
     };
     outcome(refusal, &[answer], &[line])
 }

@@ -269,12 +269,13 @@ fn long_line(run: &mut Run, level: u64, line: &mut [u8]) {
     let expected = extracted(level, u64::MAX, line, &[0], &mut [0; 4096]);
     run.expect(11, &inputs, &expected, &raw_extract(level, u64::MAX, line, &[0], &mut [0; 4096]));
     long_swap(run, &inputs, level, line, &[0], &[0; 4096]);
-    let mut answer = [UNWRITTEN; 9];
+    let mut answer = [UNWRITTEN; 10];
     // Sound as above.
     let refusal = unsafe {
-        spritbobbin_repair(level, u64::MAX, line.as_mut_ptr(), line.len(), answer.as_mut_ptr())
+        let (at, bytes) = (line.as_mut_ptr(), line.len());
+        spritbobbin_repair(level, u64::MAX, 1, at, bytes, answer.as_mut_ptr())
     };
-    let expected = [&[repair_refusal(level, u64::MAX, line.len() as u64)], &[0; 9][..]].concat();
+    let expected = [&[repair_refusal(level, u64::MAX, line.len() as u64)], &[0; 10][..]].concat();
     run.expect(17, &inputs, &expected, &[&[refusal], &answer[..]].concat());
     untouched(run, &inputs, line);
 }
@@ -312,8 +313,9 @@ fn long_buffer(run: &mut Run, level: u64, frame_bytes: usize, buffer: &mut [u8])
         buffer[j * quarter..][..100].copy_from_slice(&run.random.bytes(100));
     }
     let (mut ours, mut theirs) = (vec![0; frame_bytes], vec![0; frame_bytes]);
-    let expected = multiplexed(level, 3, &mut ours, &[5], buffer);
-    let sent = raw_multiplex(level, 3, &mut theirs, &[5], buffer);
+    let note = 5 | reference::level::row(level).map_or(0, |row| row.national_bits());
+    let expected = multiplexed(level, 3, &mut ours, &[note], buffer);
+    let sent = raw_multiplex(level, 3, &mut theirs, &[note], buffer);
     run.expect(0, &inputs, &expected, &sent);
     let wide = |line: Vec<u8>| line.into_iter().map(u64::from).collect::<Vec<_>>();
     run.expect(0, &format!("{inputs}: the line"), &wide(ours), &wide(theirs.clone()));

@@ -14,7 +14,8 @@ pub fn any_level(random: &mut Random) -> u64 {
     random.near(level)
 }
 
-/// The bits of a note for which the level has a digit.
-pub fn known_bits(row: &Row, note: u8) -> u8 {
-    (u32::from(note) & ((1 << row.note_bits()) - 1)) as u8
+/// The note as it can be sent: of its bits those for which the level has a digit, and 1 for every
+/// national digit.
+pub fn sendable(row: &Row, note: u8) -> u8 {
+    (u32::from(note) & ((1 << row.note_bits()) - 1)) as u8 | row.national_bits()
 }

@@ -1,20 +1,24 @@
 //! Multiplex, read_notes and extract calls: sound ones, damaged lines, notes of any kind, and every set of faults.
 
 use crate::call::{Call, Lending};
-use crate::levels::{any_row, known_bits};
+use crate::levels::{any_row, sendable};
 use crate::Run;
 use reference::frame::{action, Action};
 use reference::level::{row, Row, LEVELS};
 use reference::random::Random;
 
-/// Faults by refusal number: number 1 is the lowest bit, number 5 the highest.
+/// Faults by refusal number, 1 to 5 from the lowest bit on, then 10.
 type Faults = u64;
-const ALL_FAULTS: Faults = 1 << 5;
+const ALL_FAULTS: Faults = 1 << 6;
+/// The bit of refusal 10.
+const NATIONAL: Faults = 1 << 5;
 
 pub fn part(run: &mut Run) {
     every_frame_count(run);
     every_way_of_a_run(run);
     every_earlier_vote(run);
+    every_note(run);
+    every_pair_of_notes(run);
     every_set_of_faults(run);
     anything(run);
 }
@@ -94,13 +98,70 @@ fn every_earlier_vote(run: &mut Run) {
     }
 }
 
+/// Every note at all, alone, after one that can be sent and before one; so every one that lacks a
+/// national digit, or says one that the level lacks.
+fn every_note(run: &mut Run) {
+    for row in LEVELS.into_iter().filter_map(row) {
+        for note in 0..=0xFF {
+            let right = sendable(row, run.random.number() as u8);
+            for notes in [vec![note], vec![right, note], vec![note, right]] {
+                by_notes(run, row, notes);
+            }
+        }
+    }
+}
+
+/// Two notes of any sort in a line of one to four frames and of 64: of two faults of one sort the
+/// first is named, and of a bit that the level lacks and a national digit of 0 the bit is refused,
+/// wherever in the line they are.
+fn every_pair_of_notes(run: &mut Run) {
+    for row in LEVELS.into_iter().filter_map(row) {
+        for frames in [1, 2, 3, 4, 64] {
+            for one in 0..frames.min(4) {
+                for two in [0, 1, 2, 3, frames - 1].into_iter().filter(|&two| two < frames) {
+                    for (set, clear) in
+                        [(0, 0x20), (0x40, 0x20), (0x80, 0x20), (0, 0x40), (0, 0x80), (0x40, 0)]
+                    {
+                        let mut notes = decisions(&mut run.random, row, frames);
+                        notes[one] &= !clear;
+                        notes[two] |= set;
+                        by_notes(run, row, notes.clone());
+                        notes[two] &= !run.random.pick(&[0x20, 0x40, 0x80, 0xE0]);
+                        by_notes(run, row, notes);
+                    }
+                }
+            }
+        }
+    }
+}
+
+/// All three calls on any line with these notes.
+fn by_notes(run: &mut Run, row: &Row, notes: Vec<u8>) {
+    let quarter = (notes.len() * row.most_digits() + 7) / 8;
+    let with = Lending {
+        level: row.level,
+        earlier: run.random.below(16),
+        line: run.random.filled(notes.len() * row.frame_bytes()),
+        notes,
+        buffer: run.random.filled(4 * quarter),
+    };
+    all_three(run, with);
+}
+
+fn all_three(run: &mut Run, with: Lending) {
+    run.compare(&Call::Multiplex(with.clone()));
+    run.compare(&Call::ReadNotes(with.clone()));
+    run.compare(&Call::Extract(with));
+}
+
+/// The notes are sent with national digits of 1.
 fn there_and_back_by(run: &mut Run, row: &Row, earlier: u64, notes: &[u8], spare: usize) {
     let quarter = (notes.len() * row.most_digits() + 7) / 8 + spare;
     let mut with = Lending {
         level: row.level,
         earlier,
         line: run.random.filled(notes.len() * row.frame_bytes()),
-        notes: notes.to_vec(),
+        notes: notes.iter().map(|note| note | row.national_bits()).collect(),
         buffer: run.random.bytes(4 * quarter),
     };
     let sent = run.compare(&Call::Multiplex(with.clone()));
@@ -116,9 +177,7 @@ fn every_set_of_faults(run: &mut Run) {
             for level in LEVELS {
                 let frames = run.random.index(4);
                 let with = lending(&mut run.random, level, frames, faults);
-                run.compare(&Call::Multiplex(with.clone()));
-                run.compare(&Call::ReadNotes(with.clone()));
-                run.compare(&Call::Extract(with));
+                all_three(run, with);
             }
         }
     }
@@ -132,9 +191,7 @@ fn anything(run: &mut Run) {
         if run.random.once_in(4) {
             let faults = run.random.below(ALL_FAULTS);
             let with = lending(&mut run.random, level, frames, faults);
-            run.compare(&Call::Multiplex(with.clone()));
-            run.compare(&Call::ReadNotes(with.clone()));
-            run.compare(&Call::Extract(with));
+            all_three(run, with);
         } else {
             there_and_back(run, level, frames);
         }
@@ -229,6 +286,12 @@ pub fn lending(random: &mut Random, level: u64, frames: usize, faults: Faults) -
             notes[random.index(frames)] |= random.pick(&[0x10, 0x20, 0x40, 0x80, 0xC0, 0xF0]);
         }
     }
+    if faults & NATIONAL != 0 && frames > 0 {
+        for _ in 0..random.pick(&[1, 1, 2, 5]) {
+            notes[random.index(frames)] &=
+                !(random.pick(&[0x20, 0x20, 0x40, 0x80, 0xE0]) & row.national_bits());
+        }
+    }
     if has(3) {
         wrong_notes(random, &mut notes);
     }
@@ -274,7 +337,7 @@ fn wrong_notes(random: &mut Random, notes: &mut Vec<u8>) {
     if random.once_in(2) && !notes.is_empty() {
         notes.truncate(notes.len() - random.pick(&[1, 1, notes.len()]));
     } else {
-        notes.resize(notes.len() + random.pick(&[1, 1, 64, 256]), 0);
+        notes.resize(notes.len() + random.pick(&[1, 1, 64, 256]), random.pick(&[0, 0x20, 0xE0]));
     }
 }
 
@@ -288,7 +351,7 @@ fn wrong_buffer(random: &mut Random, least: usize) -> usize {
     }
 }
 
-/// Notes whose decisions are random, alternate at a pace of their own for each tributary,
+/// Notes that can be sent, whose decisions are random, alternate at a pace of their own for each tributary,
 /// stay, or stay but for one frame. Decisions that stay hide a decision used late.
 fn decisions(random: &mut Random, row: &Row, frames: usize) -> Vec<u8> {
     let mut notes = match random.below(4) {
@@ -303,6 +366,6 @@ fn decisions(random: &mut Random, row: &Row, frames: usize) -> Vec<u8> {
     if frames > 0 && random.once_in(4) {
         notes[random.index(frames)] ^= 1 << random.index(4);
     }
-    notes.iter_mut().for_each(|note| *note = known_bits(row, *note));
+    notes.iter_mut().for_each(|note| *note = sendable(row, *note));
     notes
 }

@@ -1,7 +1,7 @@
 //! Calls of the receiver and of the reader: any state, streams from fresh, any place.
 
 use crate::call::{Call, Outcome, Piece};
-use crate::levels::{any_level, any_row, known_bits};
+use crate::levels::{any_level, any_row, sendable};
 use crate::Run;
 use reference::digits::{of_number, pack};
 use reference::history::{self, HandedOver};
@@ -257,7 +257,7 @@ fn ones(random: &mut Random, row: &Row) -> Vec<u8> {
 
 fn one_frame(random: &mut Random, row: &Row) -> Vec<u8> {
     let mut line = vec![0; row.frame_bytes()];
-    let note = known_bits(row, random.number() as u8);
+    let note = sendable(row, random.number() as u8);
     let buffer = random.filled(4 * ((row.most_digits() + 7) / 8));
     let earlier = random.below(16);
     multiplex(row.level, earlier, &mut line, &[note], &buffer);

@@ -7,10 +7,10 @@ use Rattle.telling.proofs.inputs.notes_from.Statement.{statement}
 use Rattle.telling.proofs.inputs.notes_from.Tie as tie
 
 abbrev Inv-loop : tie.InvT-loop
-Inv-loop notes₀ note from f₀ notes f = length notes ≡ length notes₀
+Inv-loop notes₀ before note from f₀ notes f = length notes ≡ length notes₀
 
 abbrev μ-loop : tie.MeasureT-loop
-μ-loop notes₀ note from f₀ notes f = length notes₀ - f
+μ-loop notes₀ before note from f₀ notes f = length notes₀ - f
 
 pub notes-from-spec : {M : Type 1} → statement M
 notes-from-spec =
