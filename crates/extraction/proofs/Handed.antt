@@ -8,7 +8,7 @@ use lib.Dec.{lit<}
 use lib.ListN.{length, getD, take, replicate, length-append, length-replicate, List·getD-append}
 use lib.Seq.{getD-append-add, take-at}
 use Rattle.digits.specs.Digits.{Binary, digitsOf}
-use Rattle.digits.proofs.Laws.{digits-binary, digits-of-bytes, bytes-length, binary-append, zeros-at}
+use Rattle.digits.proofs.Laws.{digits-binary, digits-of-bytes, bytes-length, binary-append, zeros-at, map-at}
 use Rattle.digits.proofs.Lists.{of-four}
 use Rattle.table.specs.declared.Row.{Row}
 use Rattle.levels.specs.declared.order.Action.{Action}
@@ -25,14 +25,6 @@ binary-map : (f : ℕ → ℕ) (l : List ℕ) → ((k : ℕ) → f k < 2) → Bi
 binary-map f [] h i = lit< tt
 binary-map f (x ∷ l) h zero = h x
 binary-map f (x ∷ l) h (suc i) = binary-map f l h i
-
-map-at : (f : ℕ → ℕ) (l : List ℕ) (i : ℕ) → i < length l → getD (map f l) i 0 ≡ f (getD l i 0)
-map-at f [] i h = absurd (none h)
-  where
-    none : i < 0 → ⊥
-    none h = omega arith
-map-at f (x ∷ l) zero h = refl
-map-at f (x ∷ l) (suc i) h = map-at f l i (omega arith)
 
 module _ (row : Row) (earlier : ℕ) (notes line : List ℕ) (q j : ℕ) where
   abbrev acts : ℕ → Action

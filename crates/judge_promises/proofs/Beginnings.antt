@@ -2,7 +2,7 @@
 -- differs from another before the first justification place, and a pattern's digits go on from there by the recurrence alone.
 use mathlib.Core.Path.{_≡_, refl, sym, _∙_, ap, subst}
 use mathlib.Core.Bool.{Bool, cond, true, false}
-use mathlib.Core.List.{List, [], _∷_, map}
+use mathlib.Core.List.{List, map}
 use Prim.Native.Nat.{ℕ, zero, suc, _+_, _*_, _-_, _/_, _%_, _≤_, _<_}
 use native.Mathlib.Omega.{arith}
 use native.Mathlib.Decide.{decLt, ℕ-discrete}
@@ -12,7 +12,8 @@ use lib.ListN.{length, getD, take, drop, length-take, length-map}
 use lib.Seq.{getD-take}
 use borrow.Author.Tests.{eqb-true, eq-eqb, ne-eqb, le-leb}
 use Rattle.digits.specs.Digits.{digitsOf, tab}
-use Rattle.digits.proofs.Laws.{tab-length, tab-of}
+use Rattle.digits.proofs.Laws.{tab-of, map-at}
+use Rattle.digits.proofs.Sums.{sum-zero}
 use Rattle.table.specs.declared.Row.{Row}
 use Rattle.table.specs.declared.Level.{Level}
 use Rattle.table.specs.declared.Level.the-variants.{Of, NoSuchLevel}
@@ -32,15 +33,7 @@ use Rattle.judge.specs.Readings.{majorities, readBy}
 use Rattle.judge.specs.Wrong.{stageOf, madeFrom, dueAt, wrongAt, wrongIn}
 use Rattle.judge.specs.Verdict.{badPattern, numberOf}
 use Rattle.judge_promises.specs.Verdicts.{Question, verdict, JudgeAccepted, ReadsRight, Begins, OneBegins}
-use Rattle.judge_promises.proofs.Fitting.{sum-zero, stage-least, judge-level, known-pattern, judged-places}
-
-map-at : (f : ℕ → ℕ) (l : List ℕ) (i : ℕ) → i < length l → getD (map f l) i 0 ≡ f (getD l i 0)
-map-at f [] i h = absurd (none h)
-  where
-    none : i < 0 → ⊥
-    none h = omega arith
-map-at f (x ∷ l) zero h = refl
-map-at f (x ∷ l) (suc i) h = map-at f l i (omega arith)
+use Rattle.judge_promises.proofs.Fitting.{stage-least, judge-level, known-pattern, judged-places}
 
 -- a level's first set has room for more digits of a tributary than a pattern has stages
 abbrev Roomy : Level → Type 0

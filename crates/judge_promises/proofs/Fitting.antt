@@ -6,7 +6,7 @@ use mathlib.Core.List.{List, [], _∷_}
 use Prim.Native.Nat.{ℕ, zero, suc, _+_, _*_, _-_, _/_, _%_, _≤_, _<_, min}
 use native.Mathlib.Omega.{arith}
 use native.Mathlib.Nat.{mul-left-comm, div-add-mod'}
-use native.Mathlib.Decide.{decLt, ℕ-discrete}
+use native.Mathlib.Decide.{ℕ-discrete}
 use lib.Dec.{eqb}
 use lib.ListN.{length, getD, take, length-take}
 use lib.Seq.{getD-take}
@@ -36,19 +36,6 @@ use Rattle.judge_promises.proofs.Readings.{tried}
 -- a sum of none
 sum-none : (n : ℕ) (g : ℕ → ℕ) → ((i : ℕ) → i < n → g i ≡ 0) → sumTo n g ≡ 0
 sum-none n g none = sum-all n 0 g none ∙ omega arith
-
--- a sum of 0 has no other value in it
-pub sum-zero : (n : ℕ) (g : ℕ → ℕ) → sumTo n g ≡ 0 → (i : ℕ) → i < n → g i ≡ 0
-unfolding sumTo
-sum-zero zero g e i h = absurd (none h)
-  where
-    none : i < 0 → ⊥
-    none h = omega arith
-sum-zero (suc n) g e i h =
-    elim (decLt i n) [
-      | yes l ↦ sum-zero n g (omega arith) i l
-      | no l ↦ let last : i ≡ n = omega arith in rw last (omega arith)
-    ]
 
 -- the digits of a pattern that are fed back are earlier ones
 pub stage-least : (pattern : ℕ) → pattern ≢ 0 → 0 < stageOf pattern

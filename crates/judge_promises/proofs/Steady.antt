@@ -12,6 +12,7 @@ use borrow.Author.Tests.{eqb-true}
 use Rattle.digits.specs.Digits.{digitsOf}
 use Rattle.digits.specs.Sums.{sumTo}
 use Rattle.digits.proofs.Laws.{tab-length}
+use Rattle.digits.proofs.Sums.{sum-zero}
 use Rattle.table.specs.declared.Row.{Row}
 use Rattle.table.specs.declared.Level.{Level}
 use Rattle.table.specs.declared.Level.the-variants.{Of}
@@ -27,7 +28,7 @@ use Rattle.judge.specs.Wrong.{wrongIn}
 use Rattle.judge.specs.Verdict.{ownWrong, decided, changesOf, judgement}
 use Rattle.judge_promises.specs.Verdicts.{Index, right, late, early, actsOn, Question, verdict, JudgeAccepted, Fits, NeverChanges, NeverChangesAt}
 use Rattle.judge_promises.proofs.Readings.{bitAt, Alike, taken-alike, tried, tried-bit}
-use Rattle.judge_promises.proofs.Fitting.{sum-zero, four-at, judge-level, answers, judged-places, none-fits}
+use Rattle.judge_promises.proofs.Fitting.{four-at, judge-level, answers, judged-places, none-fits}
 
 -- no change in a line: every frame decides as frame 0
 one : (t : Bool) → _≡_ {A = ℕ} (cond t 0 1) 0 → t ≡ true
