@@ -14,6 +14,7 @@ mod captures;
 mod comparisons;
 mod face;
 mod finder;
+mod judging;
 mod lengths;
 mod levels;
 mod multiframes;
@@ -138,6 +139,7 @@ fn main() {
         rack::part(&mut run);
         swapping::part(&mut run);
         repairing::part(&mut run);
+        judging::part(&mut run);
     }
     lengths::part(&mut run);
     println!("{}; no disagreement", run.summary());
