@@ -66,6 +66,10 @@ fn sent(random: &mut Random, row: &Row, frames: usize, pattern: u64) -> [Vec<u8>
 /// patterns, and by what was sent with one digit turned over.
 fn one_line(run: &mut Run, row: &Row, frames: usize, pattern: u64) {
     for (bit, reading) in READINGS.into_iter().enumerate() {
+        // Of long lines one multiplexer's is enough.
+        if frames > 8 && bit != run.random.index(3) {
+            continue;
+        }
         let random = &mut run.random;
         let (notes, earlier) = (decisions(random, row, frames), random.number() as u8 & 15);
         let digits = sent(random, row, frames, pattern);
