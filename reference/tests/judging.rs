@@ -123,6 +123,20 @@ fn the_patterns_themselves() {
     }
 }
 
+/// Votes 1 0, and a late multiplexer that took 0 for the vote before them: it acts on 0 1, as an early one
+/// does that takes 1 for the vote after. A decision that alternates all the time tells only that the index
+/// moved.
+#[test]
+fn late_or_early() {
+    let row = row(2).unwrap();
+    let sent = [0, 1, 2, 3].map(|j| (0..416).map(|k| (k * k / (5 + j) % 2) as u8).collect());
+    let line = line_of(row, 0, &[0x21, 0x20], &sent, Reading::Before, 0);
+    let buffer: Vec<u8> = sent.iter().flat_map(|digits: &Vec<u8>| pack(digits)).collect();
+    let of = &judge(2, 0, &line, 0, &buffer).of[0];
+    assert_eq!((of.fits, of.wrong[1], of.wrong[2], of.changes), (2 | 4, 0, 0, 1));
+    assert_eq!(line, line_of(row, 0, &[0x21, 0x20], &sent, Reading::After, 1));
+}
+
 /// Three frames of level 2 whose votes of tributary 1 are 1 0 0, and of level 12 after 1.
 #[test]
 fn whose_votes_act() {

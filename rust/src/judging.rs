@@ -81,7 +81,9 @@ impl Verdict {
 ///
 /// A line that [`multiplex`](crate::multiplex) made of these digits fits by its own frame, with any
 /// damage to alignment, service and stuffing digits and to fewer than half of each control group. So
-/// where only [`Reading::Before`] fits, no right multiplexer made the line out of these digits.
+/// where only [`Reading::Before`] fits, no right multiplexer made the line out of these digits. Where a
+/// decision alternates from frame to frame all the time, the frames before and after decide alike, and
+/// late cannot be told from early.
 ///
 /// # Errors
 ///
