@@ -9,8 +9,12 @@ use passages::passage::Passage;
 use recordings::sizes;
 use table::Row;
 ghost use Prim.Native.Nat.{_*_, _≤_};
+ghost use lib.ListN.{length};
 ghost use Rattle.levels.specs.Table.{Shared};
 ghost use Rattle.recordings.specs.Sizes.{longest};
+
+// Four quarters with room for 64 frames of any level, so that of a run's notes alone is judged.
+const ROOM: usize = 23680;
 
 pub fn all(row: Row, level: u64, frames: usize, t: Passage) -> Passage
     requires { ⌜ Shared row × (frames ≤ longest) ⌝ }
@@ -67,11 +71,16 @@ fn looked(row: Row, k: usize, f: usize, t: Passage) -> Passage
     requires { ⌜ Shared row × (f ≤ 64) × (64 * k ≤ longest) ⌝ }
 {
     let mut notes = [0u8; 64];
+    looked_in(row, k, &mut notes[..f], t)
+}
+
+fn looked_in(row: Row, k: usize, notes: &mut [u8], t: Passage) -> Passage
+    requires { ⌜ Shared row × (length (now notes) ≤ 64) × (64 * k ≤ longest) ⌝ }
+{
     let from = t.open;
-    let read = files::read_at(from.notes, &mut notes[..f], 64 * k);
-    let n = sizes::frame_bytes(row, f);
-    let b = 4 * sizes::quarter_bytes(row, f);
-    let found = judging::fault_of(row, 0, n, &notes[..f], b);
+    let read = files::read_at(from.notes, notes, 64 * k);
+    let n = sizes::frame_bytes(row, notes.len());
+    let found = judging::fault_of(row, 0, n, notes, ROOM);
     if read && found.refusal == 5 {
         return refused_by(found, k, t);
     }
