@@ -191,6 +191,11 @@ pub fn by_lengths(run: &mut Run, level: u64, earlier: u64, pattern: u64, lengths
     if refusal == 0 && line != 0 {
         return;
     }
+    // Nor a buffer with room that is longer than any slice can be: what is asked here is that
+    // lengths are refused, and this one is not.
+    if refusal == 5 && pattern == 0 && buffer > i64::MAX as u64 {
+        return;
+    }
     let (memory, mut answer) = ([0_u8; 4096], [UNWRITTEN; 20]);
     let at = |length| if length == 0 { std::ptr::null() } else { memory.as_ptr() };
     // Sound if the face judges lengths before it reads, and makes no slice of a null pointer.
