@@ -16,7 +16,14 @@ ghost use Rattle.recordings.specs.Sizes.{longest};
 // Four quarters with room for 64 frames of any level, so that of a run's notes alone is judged.
 const ROOM: usize = 23680;
 
+// All frames; where a run was refused with 10, the refusal of all notes together.
 pub fn all(row: Row, level: u64, frames: usize, t: Passage) -> Passage
+    requires { ⌜ Shared row × (frames ≤ longest) ⌝ }
+{
+    five_first(row, frames, sent(row, level, frames, t))
+}
+
+fn sent(row: Row, level: u64, frames: usize, t: Passage) -> Passage
     requires { ⌜ Shared row × (frames ≤ longest) ⌝ }
 {
     let mut u = t;
@@ -52,7 +59,7 @@ fn one(row: Row, level: u64, k: usize, f: usize, t: Passage) -> Passage
 }
 
 // 10 comes after 5, and 5 is asked of all notes: where a run was refused with 10, a note of any run with a bit that the level has not goes first.
-pub fn five_first(row: Row, frames: usize, t: Passage) -> Passage
+fn five_first(row: Row, frames: usize, t: Passage) -> Passage
     requires { ⌜ Shared row × (frames ≤ longest) ⌝ }
 {
     let mut u = t;
