@@ -12,6 +12,9 @@ use timing::timed;
 use timing::timed::From;
 use timing::timed::Parts;
 use timing::timed::Timed;
+use verdict_page::page;
+use verdict_page::page::Named;
+use verdict_page::strip;
 use wording::clocks;
 use wording::numbers;
 use wording::verdicts;
@@ -37,7 +40,34 @@ pub fn run(row: Row, level: u64, earlier: u64, line: Line, sent: Sent, asked: As
         unread(t.failed, asked);
         return;
     }
-    all(row, level, h, parts, t, sent.stages, asked);
+    if asked.page == 0 {
+        all(row, level, h, parts, t, sent.stages, asked);
+        return;
+    }
+    paged(row, level, h, parts, t, from, asked);
+}
+
+// With the page that the call asks for.
+fn paged(row: Row, level: u64, h: Held, parts: Parts, t: Timed, from: From, asked: Asked)
+    requires { ⌜ Shared row × (parts .frames ≤ longest) ⌝ }
+{
+    let s = strip::all(row, level, from, parts.frames);
+    if !s.ok {
+        files::unread(asked.line);
+        return;
+    }
+    let p = files::page(asked.page);
+    if !p.whole {
+        return;
+    }
+    all(row, level, h, parts, t, asked.stages, asked);
+    let named = Named {
+        line: asked.line,
+        sent: asked.sent,
+        stages: asked.stages,
+    };
+    let last = page::all(p, row, level, h, parts, t, s, named);
+    files::finish(asked.page, last.fd, last.whole);
 }
 
 fn unread(failed: u8, asked: Asked) {

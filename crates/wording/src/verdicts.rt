@@ -21,6 +21,9 @@ pub const ELSEWHERE: u8 = 5;
 
 pub const EMPTY: u8 = 6;
 
+// Its own frame does not fit, and the frame before and the frame after both do, as where its decision changes in every frame.
+pub const SHIFTED: u8 = 7;
+
 // Of tributary j (from 0).
 pub fn verdict(h: Held, j: usize) -> u8
     requires { ⌜ j < 4 ⌝ }
@@ -46,7 +49,7 @@ fn by_fits(own: bool, before: bool, after: bool, still: bool) -> u8 {
     }
     if before {
         if after {
-            return ALIKE;
+            return SHIFTED;
         }
         return LATE;
     }
@@ -75,6 +78,7 @@ pub fn head(p: Page, verdict: u8) -> Page {
         RIGHT => p.put(b"the multiplexer acts in its own frame"),
         LATE => p.put(b"the frame index is late"),
         EARLY => p.put(b"the frame index is early"),
+        SHIFTED => p.put(b"the frame index is late or early, which its decisions do not tell"),
         STILL => p.put(b"cannot be told, because its decision never changes"),
         ALIKE => p.put(b"cannot be told from these digits, because more than one reading fits"),
         EMPTY => p.put(b"cannot be told, because there are no frames"),

@@ -171,7 +171,10 @@ impl Trial {
                 "no reading fits, and the fault is elsewhere (the clock slipped digits before the \
                  multiplexer, or the line is worse than allowed){three}"
             ),
-            _ => format!(
+            [false, true, true] => format!(
+                "the frame index is late or early, which its decisions do not tell{three}"
+            ),
+            [true, ..] => format!(
                 "cannot be told from these digits, because more than one reading fits{three}"
             ),
         }
@@ -408,11 +411,31 @@ fn of_level(row: &'static Row) -> Vec<Case> {
     random.line = Random::new(seed).bytes(random.line.len());
     cases.push(random.judged("random"));
     cases.push(slipped(row, seed).judged("slipped"));
+    cases.push(alternating(row, Reading::Before, seed).judged("late-alternating"));
+    cases.push(alternating(row, Reading::After, seed).judged("early-alternating"));
+    let mut ones = Trial::new(row, 66, Reading::Own, 15, seed + 8);
+    ones.line = alarmed(row, seed);
+    cases.push(ones.judged("all-ones-pattern"));
     if row.negative_places {
         cases.push(Trial::new(row, 65, Reading::Own, 0, seed + 4).after(5).judged("own-vote"));
         cases.push(Trial::new(row, 1, Reading::Before, 15, seed + 5).after(15).judged("late-vote"));
     }
     cases
+}
+
+/// Decisions that change in every frame: before and after are then alike.
+fn alternating(row: &'static Row, reading: Reading, seed: u64) -> Trial {
+    let mut trial = Trial::new(row, 66, Reading::Own, 0, seed + 7);
+    let sent = sent_digits(row, 66, 0, seed + 7);
+    let notes: Vec<u8> = (0..66).map(|f| if f % 2 == 0 { 0b0011 } else { 0b1100 }).collect();
+    trial.line = line_of(row, 0, &notes, &sent, reading, notes[1]);
+    trial
+}
+
+/// Tributaries of ones alone, which meet the recurrence of every pattern.
+fn alarmed(row: &Row, seed: u64) -> Vec<u8> {
+    let ones = [0, 1, 2, 3].map(|_| vec![1; 66 * row.most_digits()]);
+    line_of(row, 0, &notes(row, 66, seed), &ones, Reading::Own, 0)
 }
 
 /// The clock of tributary 2 slipped: a digit less was sent than the file has.
