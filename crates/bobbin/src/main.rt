@@ -13,7 +13,7 @@ use judging::judged;
 use keeping::called;
 use keeping::keep;
 use keeping::opened;
-use levels::judging;
+use levels::judging as refusing;
 use multiframe_picture::picture;
 use multiframes::apart;
 use multiframes::build;
@@ -390,7 +390,7 @@ fn levelled(which: u8, last: usize) {
 fn voted(which: u8, last: usize, row: Row, asked: LevelAsked)
     requires { ⌜ Shared row ⌝ }
 {
-    if judging::bad_earlier(row, asked.earlier) {
+    if refusing::bad_earlier(row, asked.earlier) {
         no_vote();
         return;
     }
