@@ -36,6 +36,12 @@ typedef uint64_t repair_call(uint64_t level, uint64_t earlier, uint64_t national
 
 repair_call plain_repair;
 
+/* The verdict on a line, in the plain engine only. */
+typedef uint64_t judge_call(uint64_t level, uint64_t earlier, const uint8_t *line, size_t line_bytes, uint64_t pattern, const uint8_t *buffer,
+                            size_t buffer_bytes, uint64_t answer[20]);
+
+judge_call plain_judge;
+
 /* The multiframe of 2048 kbit/s, in the plain engine only: its channels are whole bytes anyway. */
 typedef uint64_t build_call(uint8_t *multiframe, size_t multiframe_bytes, const uint8_t *channels, size_t channels_bytes,
                             const uint8_t *signalling, size_t signalling_bytes, const uint8_t *spare, size_t spare_bytes,

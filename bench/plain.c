@@ -261,6 +261,72 @@ uint64_t plain_repair(uint64_t level, uint64_t earlier, uint64_t national, uint8
     return 0;
 }
 
+/* How many digits of tributary j, counted from 0, are wrong where frame f acts on votes[f + 1], and on votes[f] too where there are negative places:
+   beside the digits sent, or where there is a pattern, beside what it makes of the digits before. */
+static uint64_t wrong_digits(const struct row *row, const uint8_t *line, size_t frames, const uint8_t *votes, unsigned j, uint64_t pattern,
+                             const uint8_t *sent)
+{
+    unsigned last = (unsigned)pattern, tap = last == 15 ? 14 : 18;
+    uint64_t wrong = 0, came = 0;
+    size_t start = 0, next = 0;
+
+    for (size_t f = 0; f < frames; f++) {
+        unsigned own = votes[f + 1] >> j & 1, other = row->negative ? votes[f] >> j & 1 : own;
+
+        for (unsigned set = 0; set < row->sets; set++, start += row->set_digits)
+            for (unsigned at = j; at < row->set_digits; at += 4) {
+                enum kind kind = kind_of(row, set, at);
+
+                if (kind == TRIBUTARY || (kind == JUSTIFICATION && !(own & other)) || (kind == NEGATIVE && !(own | other))) {
+                    unsigned digit = get(line, start + at);
+
+                    if (!pattern)
+                        wrong += digit != get(sent, next);
+                    else if (next >= pattern)
+                        wrong += digit != (1 ^ (came >> (tap - 1) & 1) ^ (came >> (last - 1) & 1));
+                    came = came << 1 | digit;
+                    next++;
+                }
+            }
+    }
+    return wrong;
+}
+
+/* The votes of the frames, with room for two before them and one after, which nobody said but the earlier vote. */
+uint64_t plain_judge(uint64_t level, uint64_t earlier, const uint8_t *line, size_t line_bytes, uint64_t pattern, const uint8_t *buffer,
+                     size_t buffer_bytes, uint64_t answer[20])
+{
+    const struct row *row = row_of(level);
+    size_t frames = 8 * line_bytes / row->frame_digits, quarter = buffer_bytes / 4;
+    uint8_t votes[67];
+
+    memset(answer, 0, 20 * sizeof answer[0]);
+    for (size_t f = 0; f < frames; f++)
+        votes[f + 2] = (uint8_t)majorities(row, line, f * row->frame_digits);
+    for (unsigned j = 0; j < 4; j++) {
+        uint64_t *of = answer + 5 * j;
+
+        for (unsigned unknown = 0; unknown < 16; unknown += 15) {
+            const uint8_t *sent = buffer + j * quarter;
+            uint64_t wrong[3];
+
+            votes[0] = votes[frames + 2] = (uint8_t)unknown;
+            votes[1] = (uint8_t)(row->negative ? earlier : unknown);
+            wrong[0] = unknown ? of[1] : wrong_digits(row, line, frames, votes + 1, j, pattern, sent);
+            wrong[1] = wrong_digits(row, line, frames, votes, j, pattern, sent);
+            wrong[2] = wrong_digits(row, line, frames, votes + 2, j, pattern, sent);
+            for (unsigned k = 0; k < 3; k++)
+                if (!unknown || wrong[k] < of[1 + k])
+                    of[1 + k] = wrong[k];
+        }
+        for (unsigned k = 0; k < 3; k++)
+            of[0] += (uint64_t)!of[1 + k] << k;
+        for (size_t f = 1; f < frames; f++)
+            of[4] += (votes[f + 2] ^ votes[f + 1]) >> j & 1;
+    }
+    return 0;
+}
+
 static void begin_frame(const struct row *row, uint8_t *frame, uint64_t window)
 {
     memset(frame, 0, 366);

@@ -1,7 +1,7 @@
 /*
  * spritbobbin.h: frames of 8448, 34368 and 139264 kbit/s (G.742, G.751), and the older frames of
  * 8448 and 139264 kbit/s with positive/zero/negative justification, built, taken apart, found in a
- * stream of digits, repaired, kept in files and compared.
+ * stream of digits, repaired, judged, kept in files and compared.
  *
  * Link with libspritbobbin.a, which is for x86-64 Linux and asks for memcpy, memset and the like
  * and nothing else.
@@ -93,7 +93,8 @@
  *   5  multiplexing and extraction: earlier is over 15, at level 12 or 14, and the answer names
  *      frame 0; or a note has a bit set that notes of its level have not, which is bit 6 or 7 at
  *      level 2 or 3, and bits 4 to 7 at level 12 or 14, and the answer names the first such frame,
- *      counted from 0; for a swap or a repair only the first of the two, and no frame is named
+ *      counted from 0; for a swap, a repair or a judgement only the first of the two, and no frame is
+ *      named
  *   6  the receiver state is not valid: a level as under 1, a window of 2 to the L
  *      or more, over L digits seen, a mode over 6, a place of N or more, hunting at a place
  *      other than 0, not hunting with fewer than L digits seen, N or more digits in the
@@ -109,15 +110,16 @@
  *  11  building a multiframe: the signalling of one of channels 1 to 15 is 0000; the answer names
  *      the first such channel
  *  12  a swap: the tributary is not 1, 2, 3 or 4
+ *  13  a judgement: the pattern is not 0, 15 or 23
  *
  * For a capture 4 means that the file's buffer is shorter than the file; for a swap, that the
  * buffer has fewer digits than F times the level's room.
  *
  * Where several apply, the first in this order is returned: 1, 2, 3, 4, 5, 10 for multiplexing (5
  * in any note before 10 in any); 1, 2, 3, 4, 5 for extraction; 1, 12, 2, 3, 4, 5 for a swap; 1, 2, 5
- * for a repair; 6, 2, 7 for a piece; 1, 2, 9, 4 for writing a capture, 9, 1, 2 for reading one; 2, 11
- * for building a multiframe; for a comparison see spritbobbin_compare; for a rack 8, 2 and then as a
- * piece, or 1 for a reset.
+ * for a repair; 1, 13, 2, 4, 5 for a judgement; 6, 2, 7 for a piece; 1, 2, 9, 4 for writing a capture,
+ * 9, 1, 2 for reading one; 2, 11 for building a multiframe; for a comparison see spritbobbin_compare;
+ * for a rack 8, 2 and then as a piece, or 1 for a reset.
  *
  * A refused call writes nothing that it was lent, but the answer: all its numbers are 0, except the
  * named frame under 5 and 10, the named byte under 9, the named channel under 11 and the file at
@@ -201,7 +203,8 @@ enum {
     SPRITBOBBIN_REFUSED_FIELD = 9,
     SPRITBOBBIN_REFUSED_NATIONAL = 10,
     SPRITBOBBIN_REFUSED_SIGNALLING = 11,
-    SPRITBOBBIN_REFUSED_TRIBUTARY = 12
+    SPRITBOBBIN_REFUSED_TRIBUTARY = 12,
+    SPRITBOBBIN_REFUSED_PATTERN = 13
 };
 
 /* Sizes, by level where they differ. */
@@ -302,6 +305,26 @@ enum {
 /* What else stands where in the answer of a repair, tributary being 1 to 4. */
 #define SPRITBOBBIN_CONTROL_REPAIRED(tributary) (tributary)
 #define SPRITBOBBIN_STUFFING_REPAIRED(tributary) (4 + (tributary))
+
+/* What was sent into the tributaries of a line that is judged. */
+enum {
+    SPRITBOBBIN_DIGITS_SENT = 0, /* the digits of the buffer's quarters */
+    SPRITBOBBIN_PATTERN_15 = 15, /* the pseudo-random pattern of 2^15 - 1 digits, inverted */
+    SPRITBOBBIN_PATTERN_23 = 23  /* that of 2^23 - 1 digits, inverted */
+};
+
+/* What stands where in the answer of a judgement, tributary being 1 to 4, and the readings that fit,
+   which are added up. */
+#define SPRITBOBBIN_FITS(tributary) (5 * (tributary) - 5)
+#define SPRITBOBBIN_WRONG_BY_OWN(tributary) (5 * (tributary) - 4)
+#define SPRITBOBBIN_WRONG_BY_BEFORE(tributary) (5 * (tributary) - 3)
+#define SPRITBOBBIN_WRONG_BY_AFTER(tributary) (5 * (tributary) - 2)
+#define SPRITBOBBIN_CHANGES(tributary) (5 * (tributary) - 1)
+enum {
+    SPRITBOBBIN_FITS_BY_OWN = 1,
+    SPRITBOBBIN_FITS_BY_BEFORE = 2, /* the frame index is late */
+    SPRITBOBBIN_FITS_BY_AFTER = 4   /* it is early */
+};
 
 /* What stands where in a receiver's state, and the mode numbers. */
 enum {
@@ -405,6 +428,36 @@ uint64_t spritbobbin_swap(uint64_t level, uint64_t earlier, uint64_t tributary, 
  */
 uint64_t spritbobbin_repair(uint64_t level, uint64_t earlier, uint64_t national, uint8_t *line, size_t line_bytes,
                             uint64_t answer[10]);
+
+/*
+ * Judges a line by what was sent into its tributaries: did the clock move, or the frame index?
+ *
+ * Each tributary is read in three ways: by the decision of its own frame, of the frame before (a
+ * multiplexer whose index is late) and of the frame after (early). The decisions are the majorities
+ * of the line. At levels 12 and 14 a reading shifts both votes that a frame acts on: by the frame
+ * before, frame f acts on the votes of f - 1 and f - 2. The vote before frame 0 is earlier there; at
+ * levels 2 to 4 it is not looked at. A decision that the line does not hold, before its first frame
+ * or after its last, is tried both ways, and the fewer wrong digits count.
+ *
+ * pattern 0: the buffer's quarters hold the digits sent, beginning with the line's first frame, and a
+ * wrong digit is one of the reading that is not the digit sent at its number. pattern 15 or 23: a test
+ * set's pseudo-random pattern of O.150 was sent, inverted, from any phase; the buffer is not looked at.
+ * A wrong digit is then one after the first 15 (23) that is not 1 xor the digits read 14 and 15 (18
+ * and 23) before it. A reading without wrong digits fits.
+ *
+ * A line that multiplexing made of these digits fits by its own frame, with any alignment, service and
+ * stuffing digits damaged and fewer than half of each control group. Where a decision never changes,
+ * all three readings fit and nothing can be told; where it alternates from frame to frame all the time,
+ * the frames before and after decide alike, and late cannot be told from early. A line without frames
+ * fits by all.
+ *
+ * answer: for each tributary which readings fit (1 own, 2 before, 4 after, added up), wrong digits by
+ * its own frame, by the frame before, by the frame after, and in how many frames the decision differs
+ * from that of the frame before, the first frame not counted. Returns 0, 1, 13, 2, 4 (pattern 0
+ * only: as for extraction) or 5.
+ */
+uint64_t spritbobbin_judge(uint64_t level, uint64_t earlier, const uint8_t *line, size_t line_bytes, uint64_t pattern,
+                           const uint8_t *buffer, size_t buffer_bytes, uint64_t answer[20]);
 
 /*
  * The plain engine: a second engine that goes digit by digit and shares only the level table with

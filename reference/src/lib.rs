@@ -16,6 +16,7 @@ pub mod digits;
 mod finder;
 pub mod frame;
 pub mod history;
+pub mod judging;
 pub mod level;
 mod multiframe;
 mod multiplexing;
@@ -29,6 +30,7 @@ pub use captures::{read_capture, write_capture, Read, Written};
 pub use comparison::{compare, sum, Differences, MOST_LISTED};
 pub use finder::{finder_feed, finder_refusal, FinderState, Found};
 pub use finder::{FRAME_DIGITS, SECOND_PLACE, WORD, WORD_PLACE};
+pub use judging::{judge, judge_refusal, Judged, Reading, Verdict};
 pub use multiframe::{build_multiframe, multiframe_refusal, take_multiframe_apart};
 pub use multiplexing::{
     extract, frames_refusal, length_refusal, multiplex, read_notes, Counted, Noted,

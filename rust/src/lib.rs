@@ -10,6 +10,8 @@
 //!   same three by a second engine, digit by digit.
 //! - [`swap`] rewrites one tributary of a line in place; [`repair`] sets right what is known of a worn
 //!   line, and [`repair_capture`] that of a capture.
+//! - [`judge`] reads a line by the decision of its own frame, of the frame before and of the frame
+//!   after, and says by which it is what was sent.
 //! - A [`Receiver`] finds frames in a stream that comes in pieces of any size; a [`FrameStream`]
 //!   reads the stream too.
 //! - A [`Rack`] keeps the receivers of up to 64 lines.
@@ -84,6 +86,7 @@
 mod capture;
 mod comparison;
 mod finder;
+mod judging;
 mod level;
 mod line;
 mod multiframe;
@@ -102,6 +105,7 @@ pub use comparison::{
     compare, Differences, FileOf, LinePlace, NotCompared, OfTributary, MOST_LISTED,
 };
 pub use finder::{Finder, FinderMode, FinderState, FinderTaken, Turn, Turns};
+pub use judging::{judge, Pattern, Reading, SentInto, Verdict};
 pub use level::{Level, MOST_BYTES, MOST_FRAMES};
 pub use line::{digits, line_digit, Digits};
 pub use multiframe::{Multiframe, MULTIFRAME_BYTES};

@@ -151,6 +151,19 @@ extern "C" {
         answer: &mut [u64; 10],
     ) -> u64;
 
+    /// Answer: of tributaries 1 to 4 each the readings that fit, wrong digits by its own frame, by the
+    /// frame before and by the frame after, and changes of its decision.
+    pub fn spritbobbin_judge(
+        level: u64,
+        earlier: u64,
+        line: *const u8,
+        line_bytes: usize,
+        pattern: u64,
+        buffer: *const u8,
+        buffer_bytes: usize,
+        answer: &mut [u64; 20],
+    ) -> u64;
+
     /// State: level, window, digits seen, mode, place, the stretch's digits and zeros, 1 if the
     /// stretch before had few zeros, 1 if the alarm stands.
     pub fn spritbobbin_receiver_fresh(

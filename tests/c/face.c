@@ -1,6 +1,6 @@
 /*
  * Calls every function of the library through its header, from C: worked cases 1, 9, 10 and 11
- * of the specification, frames of levels 12 and 14 worked by hand, swaps, repairs, each refusal, the digits of a line, captures,
+ * of the specification, frames of levels 12 and 14 worked by hand, swaps, repairs, judgements, each refusal, the digits of a line, captures,
  * comparisons, multiframes, frames of 2048 kbit/s and a rack of lines. Prints "face: ok", or what failed.
  *
  * All bytes that are lent come from malloc in their exact number, so that valgrind sees a read or
@@ -342,6 +342,62 @@ static void repairs(void)
     free(line);
     free(case_1);
     free(zeros);
+}
+
+/* A judgement that is refused with this number, and answers nothing. */
+static void refused_judgement(uint64_t level, uint64_t earlier, size_t line_bytes, uint64_t pattern, size_t buffer_bytes, uint64_t refusal)
+{
+    uint8_t *line = lend(line_bytes, 0xA5), *buffer = lend(buffer_bytes, 0x5A);
+    uint64_t answer[20];
+
+    memset(answer, 0xA5, sizeof answer);
+    check(spritbobbin_judge(level, earlier, line, line_bytes, pattern, buffer, buffer_bytes, answer) == refusal, "the refusal of a judgement");
+    check(all_zero(answer, 20) && all(line, line_bytes, 0xA5) && all(buffer, buffer_bytes, 0x5A), "a refused judgement answers and writes nothing");
+    free(line);
+    free(buffer);
+}
+
+/* Two frames of zeros at level 2, tributary 1 stuffed in the first: only its stuffing digit is 1. By the frame before, whose decision is unknown in frame 0,
+   a zero is left out of frame 1; by the frame after, frame 0 hands out its stuffing digit. Then frames of one digit: ones meet both patterns, zeros neither. */
+static void judgements(void)
+{
+    uint8_t *line = lend(212, 0), *notes = lend(2, SPRITBOBBIN_NATIONAL_1), *buffer = lend(208, 0), *ones = lend(132, 0xFF);
+    uint64_t answer[20], counts[5], tributary;
+
+    notes[0] |= SPRITBOBBIN_STUFFED_1;
+    check(spritbobbin_multiplex(2, 0, line, 212, notes, 2, buffer, 208, counts) == 0, "two frames are sent");
+    memset(answer, 0xA5, sizeof answer);
+    check(spritbobbin_judge(2, UINT64_MAX, line, 212, SPRITBOBBIN_DIGITS_SENT, buffer, 208, answer) == SPRITBOBBIN_ACCEPTED, "and judged");
+    check(answer[SPRITBOBBIN_FITS(1)] == (SPRITBOBBIN_FITS_BY_OWN | SPRITBOBBIN_FITS_BY_BEFORE), "tributary 1 is not early");
+    check(answer[SPRITBOBBIN_WRONG_BY_OWN(1)] == 0 && answer[SPRITBOBBIN_WRONG_BY_BEFORE(1)] == 0
+          && answer[SPRITBOBBIN_WRONG_BY_AFTER(1)] == 1 && answer[SPRITBOBBIN_CHANGES(1)] == 1, "one digit would be wrong, and its decision changes once");
+    for (tributary = 2; tributary <= 4; tributary++)
+        check(answer[SPRITBOBBIN_FITS(tributary)] == 7 && all_zero(answer + SPRITBOBBIN_WRONG_BY_OWN(tributary), 4), "of the others nothing is told");
+    buffer[0] = 0x80;
+    check(spritbobbin_judge(2, 0, line, 212, 0, buffer, 208, answer) == 0 && answer[SPRITBOBBIN_FITS(1)] == 0, "another digit sent: no reading fits");
+    check(answer[SPRITBOBBIN_WRONG_BY_OWN(1)] == 1 && answer[SPRITBOBBIN_WRONG_BY_AFTER(1)] == 2, "by one more wrong digit");
+
+    check(spritbobbin_judge(12, 9, ones, 132, SPRITBOBBIN_PATTERN_15, NULL, 0, answer) == 0 && answer[SPRITBOBBIN_FITS(1)] == 7, "ones meet 2^15 - 1");
+    check(spritbobbin_judge(12, 9, ones, 132, SPRITBOBBIN_PATTERN_23, buffer, 3, answer) == 0 && answer[SPRITBOBBIN_FITS(4)] == 7, "and 2^23 - 1");
+    check(spritbobbin_judge(2, 0, buffer + 1, 106, SPRITBOBBIN_PATTERN_15, NULL, 0, answer) == 0 && answer[SPRITBOBBIN_FITS(2)] == 0, "zeros do not");
+    check(answer[SPRITBOBBIN_WRONG_BY_OWN(2)] == 191 && answer[SPRITBOBBIN_WRONG_BY_BEFORE(2)] == 190 && answer[SPRITBOBBIN_WRONG_BY_AFTER(2)] == 190,
+          "all but 15 of 206 digits; of the unknown's two ways the fewer");
+    check(spritbobbin_judge(14, 15, NULL, 0, 0, NULL, 0, answer) == 0 && answer[SPRITBOBBIN_FITS(1)] == 7 && all_zero(answer + 1, 4), "no frames fit by all");
+
+    refused_judgement(5, 16, 131, 1, 3, SPRITBOBBIN_REFUSED_LEVEL);
+    refused_judgement(12, 16, 131, 1, 3, SPRITBOBBIN_REFUSED_PATTERN);
+    refused_judgement(12, 16, 131, UINT64_C(1) << 32 | 15, 3, SPRITBOBBIN_REFUSED_PATTERN);
+    refused_judgement(12, 16, 131, 0, 3, SPRITBOBBIN_REFUSED_LINE);
+    refused_judgement(12, 16, 65 * 132, 23, 0, SPRITBOBBIN_REFUSED_LINE);
+    refused_judgement(12, 16, 132, 0, 128, SPRITBOBBIN_REFUSED_BUFFER);
+    refused_judgement(12, 16, 132, 0, 133, SPRITBOBBIN_REFUSED_BUFFER);
+    refused_judgement(12, 16, 132, 0, 132, SPRITBOBBIN_REFUSED_NOTE_BITS);
+    refused_judgement(12, 16, 132, 15, 3, SPRITBOBBIN_REFUSED_NOTE_BITS);
+    refused_judgement(14, UINT64_MAX, 0, 23, 0, SPRITBOBBIN_REFUSED_NOTE_BITS);
+    free(line);
+    free(notes);
+    free(buffer);
+    free(ones);
 }
 
 /* Two frames with notes of their own and a buffer of 0x5A and 0xC3, sent, read and extracted by both engines, and
@@ -760,6 +816,7 @@ int main(void)
     earlier_vote();
     swaps();
     repairs();
+    judgements();
     two_engines(4, 0xE5, 0xFA, 732, 724);
     two_engines(4, 0xE5, 0xFA, 732, 720);  /* refusal 4 */
     two_engines(7, 0xE5, 0xFA, 732, 724);  /* refusal 1 */

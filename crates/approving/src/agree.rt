@@ -139,7 +139,7 @@ fn noted_in(
     quick: &mut [u8],
     plain: &mut [u8],
 ) -> Ran
-    requires { ⌜ (b ≤ 65536) × (length (now line) ≤ 65536) × (length (now quick) ≤ 64) ⌝ }
+    requires { ⌜ (b ≤ 65536) × (length (now line) ≤ 65536) ⌝ }
 {
     if !pair::read_notes(level, line, quick, plain) {
         return Ran {
@@ -155,7 +155,7 @@ fn noted_in(
 
 // The frames taken apart by these notes.
 fn extracted(level: u64, earlier: u64, line: &[u8], notes: &[u8], b: usize) -> u8
-    requires { ⌜ (b ≤ 65536) × (length (now line) ≤ 65536) × (length (now notes) ≤ 64) ⌝ }
+    requires { ⌜ (b ≤ 65536) × (length (now line) ≤ 65536) ⌝ }
 {
     let mut quick = io::large_buffer();
     let mut plain = io::large_buffer();
@@ -177,7 +177,7 @@ fn extracted_in(
     quick: &mut [u8],
     plain: &mut [u8],
 ) -> u8
-    requires { ⌜ (length (now line) ≤ 65536) × (length (now notes) ≤ 64) ⌝ }
+    requires { ⌜ length (now line) ≤ 65536 ⌝ }
 {
     if !pair::extract(level, earlier, line, notes, quick, plain) {
         return EXTRACT;
@@ -194,17 +194,30 @@ fn nationals_of(level: u64) -> usize {
     }
 }
 
-// The notes as they came, their national bits set.
+// The line of n bytes made again, of the notes as they came with their national bits set.
 fn multiplexed(level: u64, earlier: u64, n: usize, notes: &[u8], buffer: &[u8]) -> u8
-    requires { ⌜ (n ≤ 65536) × (length (now notes) ≤ 64) ⌝ }
+    requires { ⌜ n ≤ 65536 ⌝ }
 {
     let mut set = [0u8; 64];
-    let f = notes.len();
-    national::set(&mut set[..f], notes, nationals_of(level));
-    multiplexed_by(level, earlier, n, &set[..f], buffer)
+    let f = sizes::least(notes.len(), 64);
+    multiplexed_in(level, earlier, n, notes, buffer, &mut set[..f])
 }
 
-// The line of n bytes, made again.
+fn multiplexed_in(
+    level: u64,
+    earlier: u64,
+    n: usize,
+    notes: &[u8],
+    buffer: &[u8],
+    set: &mut [u8],
+) -> u8
+    requires { ⌜ n ≤ 65536 ⌝ }
+{
+    national::set(set, notes, nationals_of(level));
+    multiplexed_by(level, earlier, n, set, buffer)
+}
+
+// The line by these notes, by both engines.
 fn multiplexed_by(level: u64, earlier: u64, n: usize, notes: &[u8], buffer: &[u8]) -> u8
     requires { ⌜ n ≤ 65536 ⌝ }
 {

@@ -9,10 +9,11 @@ use console::words::NO_NOTE;
 use demonstration::demo;
 use finding::find;
 use hunting::hunt;
+use judging::judged;
 use keeping::called;
 use keeping::keep;
 use keeping::opened;
-use levels::judging;
+use levels::judging as refusing;
 use multiframe_picture::picture;
 use multiframes::apart;
 use multiframes::build;
@@ -87,7 +88,10 @@ const HUNT: u8 = 18;
 
 const MULTIFRAME: u8 = 19;
 
-const NO_COMMAND: u8 = 20;
+// The verdict on a recording, which takes a level or a capture.
+const JUDGE: u8 = 20;
+
+const NO_COMMAND: u8 = 21;
 
 // Beside NO_NOTE, where there is none: a word that should be a note and is none.
 const WRONG_NOTE: u16 = 257;
@@ -173,6 +177,9 @@ fn which_of_plain(word: &[u8]) -> u8 {
     if check::same(word, b"repair-national") {
         return REPAIR_NATIONAL;
     }
+    if check::same(word, b"judge") {
+        return JUDGE;
+    }
     which_of_2048(word)
 }
 
@@ -213,6 +220,7 @@ fn fits(which: u8, last: usize) -> bool {
         BUILD => last == build::MULTIFRAMES,
         APART => last == apart::SPARE,
         HUNT => last == hunt::RECORDING,
+        JUDGE => judged::fits(last),
         _ => last == COMMAND || last == picture::PICTURE,
     }
 }
@@ -254,6 +262,7 @@ fn wrong_words_of_plain(which: u8) {
         REPAIR | REPAIR_NATIONAL => help::wrong_call(
             b"repair and repair-national take a level and two files, without the level where the first is a capture.",
         ),
+        JUDGE => judged::wrong_words(),
         _ => wrong_words_of_2048(which),
     }
 }
@@ -326,6 +335,7 @@ fn unlevelled(which: u8, last: usize) {
         BUILD => build::run(),
         APART => taken_apart(),
         HUNT => hunt::run(),
+        JUDGE => judged::run(last),
         _ => multiframe(last),
     }
 }
@@ -380,7 +390,7 @@ fn levelled(which: u8, last: usize) {
 fn voted(which: u8, last: usize, row: Row, asked: LevelAsked)
     requires { ⌜ Shared row ⌝ }
 {
-    if judging::bad_earlier(row, asked.earlier) {
+    if refusing::bad_earlier(row, asked.earlier) {
         no_vote();
         return;
     }

@@ -18,6 +18,8 @@ pub fn forms() {
                                                      the file NEW is LINE with this tributary written anew
   ./spritbobbin repair LEVEL LINE NEW                the file NEW is LINE with worn digits set right
   ./spritbobbin repair-national LEVEL LINE NEW       as repair, and national digits are set to 1
+  ./spritbobbin judge LEVEL LINE SENT                did the clock move, or the frame index; SENT: TRIBUTARIES as sent,
+                                                     or pattern-15, pattern-23; CAPTURE for LEVEL LINE
   ./spritbobbin find LEVEL STREAM [PREFIX]           finds the frames in a recording; PREFIX: takes them apart
   ./spritbobbin watch LEVEL STREAM [..]              up to 64 recordings side by side, LEVEL and STREAM of each
   ./spritbobbin keep LEVEL LINE CAPTURE [LABEL]      makes a capture of up to 64 frames, with a site label

@@ -1,7 +1,8 @@
--- Laws of sums: of equal values, of values that are bounded, of one value over and over.
+-- Laws of sums: of equal values, of values that are bounded, of one value over and over, of nothing.
 use mathlib.Core.Path.{_≡_, refl}
 use Prim.Native.Nat.{ℕ, zero, suc, _*_, _≤_, _<_}
 use native.Mathlib.Omega.{arith}
+use native.Mathlib.Decide.{decLt}
 use native.Mathlib.Nat.{suc-mul}
 use Rattle.digits.specs.Sums.{sumTo}
 
@@ -19,3 +20,16 @@ pub sum-all : (n m : ℕ) (g : ℕ → ℕ) → ((i : ℕ) → i < n → g i ≡
 unfolding sumTo
 sum-all zero m g same = omega arith
 sum-all (suc n) m g same = omega (arith, suc-mul n m, sum-all n m g (λ i hi. same i (omega arith)), same n (omega arith))
+
+-- a sum of 0 has no other value in it
+pub sum-zero : (n : ℕ) (g : ℕ → ℕ) → sumTo n g ≡ 0 → (i : ℕ) → i < n → g i ≡ 0
+unfolding sumTo
+sum-zero zero g e i h = absurd (none h)
+  where
+    none : i < 0 → ⊥
+    none h = omega arith
+sum-zero (suc n) g e i h =
+    elim (decLt i n) [
+      | yes l ↦ sum-zero n g (omega arith) i l
+      | no l ↦ let last : i ≡ n = omega arith in rw last (omega arith)
+    ]

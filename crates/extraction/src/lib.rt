@@ -20,7 +20,13 @@ ghost use Rattle.extraction.specs.Quarters.{quartersFrom};
 ghost use Rattle.extraction.specs.Extract.{bufferOn, ExtractMet};
 
 // The four extractions: the frames hand out their digits, then each quarter is ended.
-fn extract_all(row: Row, earlier: u64, line: &[u8], notes: &[u8], buffer: &mut [u8]) -> [usize; 4]
+pub fn extract_all(
+    row: Row,
+    earlier: u64,
+    line: &[u8],
+    notes: &[u8],
+    buffer: &mut [u8],
+) -> [usize; 4]
     requires { ⌜ Shared row × Accepted row (length (now line)) (length (now notes)) (length (now buffer)) ⌝ }
     ensures { λ r. ⌜
         (r ≡ countsOf row earlier (now (notes .entry)) (length (now (notes .entry))))

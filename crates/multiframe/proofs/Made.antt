@@ -6,7 +6,7 @@ use mathlib.Core.Bool.{Bool, cond, true, false, _&&_}
 use mathlib.Core.List.{List, [], _∷_, _++_, map}
 use Prim.Native.Nat.{ℕ, zero, suc, _+_, _-_, _*_, _/_, _%_, _^_, _≤_, _<_}
 use native.Mathlib.Omega.{arith}
-use native.Mathlib.Nat.{zero-add, not-suc-le-zero}
+use native.Mathlib.Nat.{zero-add}
 use native.Mathlib.Decide.{ℕ-discrete}
 use lib.Dec.{eqb, ltb, lit<}
 use lib.ListN.{length, getD, set, List·getD-append}
@@ -15,7 +15,7 @@ use borrow.Author.Tests.{eq-eqb, ne-eqb, eqb-true, ltb-true}
 use Rattle.digits.specs.Digits.{digitsOf, byteOf, bytesOf, tab, Bytes, Binary}
 use Rattle.digits.proofs.Bits.{eight-at, eight-byte}
 use Rattle.digits.proofs.Lists.{each-binary}
-use Rattle.digits.proofs.Laws.{digit-at, digits-binary, bytes-by-place, bytes-length, bytes-are-bytes, digits-of-bytes, tab-at, binary-append, map-binary, zeros-at}
+use Rattle.digits.proofs.Laws.{digit-at, digits-binary, bytes-by-place, bytes-length, bytes-are-bytes, digits-of-bytes, tab-at, binary-append, map-binary, map-at, zeros-at}
 use Rattle.multiframe.specs.declared.SpareDigit.{SpareDigit}
 use Rattle.multiframe.specs.declared.SpareDigit.the-variants.{International, Alarm, National, Extra, MultiframeAlarm}
 use Rattle.multiframe.specs.declared.Kind.{Kind}
@@ -232,11 +232,6 @@ module _ (channels signalling spares new : List ℕ) (laid : Laid channels signa
       bytes-by-place new (digitFor channels signalling spares) b (λ p h. built-digit p (omega arith) (told p (omega arith))) ∙ rw l refl
 
 -- ---- the spare digits taken
-
-map-at : (g : ℕ → ℕ) (xs : List ℕ) (i : ℕ) → i < length xs → getD (map g xs) i 0 ≡ g (getD xs i 0)
-map-at g [] i h = absurd (not-suc-le-zero h)
-map-at g (x ∷ xs) zero h = refl
-map-at g (x ∷ xs) (suc i) h = map-at g xs i (omega arith)
 
 module _ (multiframe : List ℕ) where
   abbrev list : List ℕ

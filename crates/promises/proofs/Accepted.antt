@@ -1,19 +1,18 @@
 -- What an accepted call is over its level's row: the line, the counts, the notes and the quarters as the theorems speak of them.
 use mathlib.Core.Path.{_≡_, refl, sym, _∙_, ap}
 use mathlib.Core.Bool.{Bool, cond, true, false}
-use mathlib.Core.List.{List, [], _∷_, _++_, append-assoc, append-nil}
+use mathlib.Core.List.{List, [], _∷_}
 use Prim.Native.Nat.{ℕ, zero, suc, _+_, _*_, _-_, _/_, _%_, _^_, _≤_, _<_}
 use native.Mathlib.Omega.{arith}
 use native.Mathlib.Decide.{decLt, ℕ-discrete}
 use native.Mathlib.Nat.{mul-left-comm, not-suc-le-zero, div-add-mod'}
 use lib.Dec.{eqb, lit<}
-use lib.ListN.{length, getD, take, replicate, length-append, length-map, length-replicate}
-use lib.Seq.{take-at}
+use lib.ListN.{length, getD, take, length-map}
 use borrow.Author.Tests.{eq-eqb, ne-eqb, le-ltb, lt-leb, ltb-false, leb-false}
 use Rattle.digits.specs.Digits.{digitsOf, Binary}
-use Rattle.digits.proofs.Laws.{digits-length, digits-binary, digits-of-bytes, bytes-length, tab-length, map-binary, binary-append, zeros-binary}
+use Rattle.digits.proofs.Laws.{digits-length, digits-binary, digits-of-bytes, tab-length}
 use Rattle.digits.proofs.Lists.{of-four}
-use Rattle.levels.proofs.Buffers.{quarter-at, quarter-length}
+use Rattle.levels.proofs.Buffers.{quarter-length}
 use Rattle.table.specs.declared.Row.{Row}
 use Rattle.table.specs.declared.Level.{Level}
 use Rattle.table.specs.declared.Level.the-variants.{Of, NoSuchLevel}
@@ -22,7 +21,7 @@ use Rattle.levels.specs.Table.{Shared}
 use Rattle.levels.specs.Sizes.{onLevel, framesOf, sizeRefusal, quarterOf, Accepted}
 use Rattle.levels.specs.Order.{actions, countOf, countsOf, placesOf}
 use Rattle.levels.proofs.Rows.{shared-row}
-use Rattle.levels.proofs.Counts.{line-count, count-room}
+use Rattle.levels.proofs.Counts.{line-count}
 use Rattle.levels.proofs.Columns.{columns, frame-start}
 use Rattle.levels.proofs.Inverse.{places-length}
 use Rattle.levels.proofs.Judged.{accepted, fits-quarter, no-size-refused}
@@ -32,8 +31,9 @@ use Rattle.levels.specs.Judging.{fault, badEarlier, faultOf, sendFaultOf, refus
 use Rattle.levels.proofs.Refusals.{EarlierFits, NotesFit, NationalsSet, number, faultless, fit-faultless, send-faultless, set-faultless}
 use Rattle.multiplex.specs.Line.{lineDigit, lineOf}
 use Rattle.reading.specs.Notes.{noteOf, notesOf, dissentTo, dissentsOf}
-use Rattle.extraction.specs.Quarters.{takenTo, quarterFrom, quartersFrom}
+use Rattle.extraction.specs.Quarters.{takenTo, quartersFrom}
 use Rattle.extraction.specs.Extract.{bufferAfter}
+use Rattle.extraction.proofs.Handed.{quarter-first}
 use Rattle.promises.specs.Damage.{lineDigits}
 use Rattle.promises.specs.Carried.{Sound, digitsSent, digitsRead}
 use Rattle.promises.specs.Calls.{Lent, SendAccepted, sentLine, sentCounts, sentDigits, outcome, ReadAccepted, readNotes, readDigits, LentFor}
@@ -92,50 +92,6 @@ count-at row earlier notes F = of-four (λ (j : ℕ). getD (countsOf row earlier
 pub dissent-at : (row : Row) (ds : List ℕ) (F j : ℕ) → j < 4 → getD (dissentsOf row ds F) j 0 ≡ dissentTo row ds j F
 dissent-at row ds F = of-four (λ (j : ℕ). getD (dissentsOf row ds F) j 0 ≡ dissentTo row ds j F) refl refl refl refl
 
--- the quarters that an extraction leaves are those of its tributaries
-module _ (row : Row) (earlier : ℕ) (notes line : List ℕ) (q : ℕ) where
-  abbrev part : ℕ → List ℕ
-  part j = quarterFrom row earlier notes line q j
-
-  long : (j : ℕ) → length (part j) ≡ q
-  unfolding quarterFrom
-  long j = bytes-length q _
-
-  pub quarters-length : length (quartersFrom row earlier notes line q) ≡ 4 * q
-  unfolding quartersFrom
-  quarters-length = simp length-append (omega (arith, long 0, long 1, long 2, long 3))
-
-  quarter-is : (j : ℕ) → j < 4 → quarterOf (quartersFrom row earlier notes line q) j ≡ part j
-  unfolding quartersFrom
-  quarter-is =
-      of-four (λ (j : ℕ). quarterOf all j ≡ part j)
-      (quarter-at all [] (part 0) (part 1 ++ (part 2 ++ part 3)) 0 q refl quarters-length (omega arith) (long 0))
-      (quarter-at all (part 0) (part 1) (part 2 ++ part 3) 1 q refl quarters-length (omega (arith, long 0)) (long 1))
-      (quarter-at all (part 0 ++ part 1) (part 2) (part 3) 2 q (sym (append-assoc (part 0) (part 1) (part 2 ++ part 3))) quarters-length (two ∙ omega arith) (long 2))
-      (quarter-at all ((part 0 ++ part 1) ++ part 2) (part 3) [] 3 q last quarters-length (length-append (part 0 ++ part 1) (part 2) ∙ omega (arith, two, long 2)) (long 3))
-    where
-      all : List ℕ
-      all = quartersFrom row earlier notes line q
-
-      two : length (part 0 ++ part 1) ≡ q + q
-      two = length-append (part 0) (part 1) ∙ omega (arith, long 0, long 1)
-
-      last : all ≡ ((part 0 ++ part 1) ++ part 2) ++ (part 3 ++ [])
-      last = simp (append-nil, append-assoc)
-
--- a quarter with room for a tributary's digits holds them, and zeros after them
-quarter-digits : (row : Row) (earlier : ℕ) (notes line taken : List ℕ) (q j : ℕ) → takenTo row earlier notes (digitsOf line) j (2 * length line) ≡ taken → length taken ≤ 8 * q
-    → digitsOf (quarterFrom row earlier notes line q j) ≡ taken ++ replicate (8 * q - length taken) 0
-unfolding quarterFrom takenTo
-quarter-digits row earlier notes line taken q j e room =
-    let zeros = replicate {A = ℕ} (8 * q - length taken) 0 in
-    rw e
-    (digits-of-bytes q (taken ++ zeros) (binary-append taken zeros (rw e at small) (zeros-binary (8 * q - length taken)))
-    (length-append taken zeros ∙ omega (arith, length-replicate {A = ℕ} (8 * q - length taken) 0)))
-  where
-    small : Binary (takenTo row earlier notes (digitsOf line) j (2 * length line))
-    small = map-binary (λ (p : ℕ). getD (digitsOf line) p 0) (placesOf row (actions row earlier notes j) j (2 * length line)) (λ i. digits-binary line i)
-
 -- a tributary has as many digits as are counted
 pub taken-length : (row : Row) → Shared row → (earlier : ℕ) (notes ds : List ℕ) (F j : ℕ) → j < 4 → length (takenTo row earlier notes ds j (F * columns row)) ≡ countOf row (actions row earlier notes j) F
 unfolding takenTo countOf
@@ -158,12 +114,9 @@ module _ (row : Row) (sh : Shared row) (earlier : ℕ) (notes line : List ℕ) (
       rw all
 
   pub quarter-taken : take count (digitsOf (quarterOf (quartersFrom row earlier notes line q) j)) ≡ taken
-  unfolding countOf
   quarter-taken =
-      let all = taken-length row sh earlier notes (digitsOf line) F j hj in
-      ap (λ (l : List ℕ). take count (digitsOf l)) (quarter-is row earlier notes line q j hj)
-      ∙ ap (λ (l : List ℕ). take count l) (quarter-digits row earlier notes line taken q j whole (omega (arith, all, count-room row sh j hj (actions row earlier notes j) F, room)))
-      ∙ take-at taken (replicate (8 * q - length taken) 0) count all
+      let bytes : length line ≡ F * row .bytes = omega (arith, places, ap (λ (n : ℕ). F * n) (sh .packed), mul-left-comm F 8 (row .bytes)) in
+      quarter-first row sh earlier notes line F q j hj bytes room ∙ whole
 
 -- a line of accepted length is its frames, in bytes and in digits
 line-bytes : (row : Row) (line notes buffer : ℕ) → Accepted row line notes buffer → line ≡ notes * row .bytes

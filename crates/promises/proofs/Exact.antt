@@ -25,6 +25,7 @@ use Rattle.levels.proofs.Refusals.{NationalsSet}
 use Rattle.multiplex.specs.Line.{lineDigit, lineOf}
 use Rattle.multiplex.proofs.Unread.{Agree, same-line}
 use Rattle.reading.specs.Notes.{notesOf}
+use Rattle.extraction.proofs.Handed.{quarters-length}
 use Rattle.promises.specs.Damage.{kept, libertyAt, Damage, lineDigits}
 use Rattle.promises.specs.Calls.{Lent, SendAccepted, sentLine, sentCounts, sentDigits, ReadAccepted, readNotes, readCounts, readDigits, readDissent}
 use Rattle.promises.specs.Calls.{NationalsSetAt, sentOn, LentAt, DamageAt, SendsSame, SendReturned, SendBack, ReadsSame}
@@ -34,7 +35,7 @@ use Rattle.promises.proofs.Reading.{note-fits}
 use Rattle.promises.proofs.Order.{carries-same, before-same, actions-same}
 use Rattle.promises.proofs.Recovered.{kept-carries}
 use Rattle.promises.proofs.RoundTrip.{line-binary}
-use Rattle.promises.proofs.Accepted.{send-level, read-level, shared, quarters-length, line-digits, send-accepted, tributary, send-whole, send-places, send-sound}
+use Rattle.promises.proofs.Accepted.{send-level, read-level, shared, line-digits, send-accepted, tributary, send-whole, send-places, send-sound}
 use Rattle.promises.proofs.Accepted.{send-bytes, send-line, send-counts, send-count, accepted-size, accepted-vote, read-sizes, read-answer, read-notes, read-frames, read-buffer}
 use Rattle.promises.proofs.Calls.{on-damage, send-returned, send-back}
 

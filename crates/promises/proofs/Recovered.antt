@@ -3,9 +3,9 @@
 use mathlib.Core.Path.{_≡_, refl, sym, _∙_, ap}
 use mathlib.Core.Bool.{Bool, cond, true, false, false≢true}
 use mathlib.Core.List.{List}
-use Prim.Native.Nat.{ℕ, _+_, _*_, _%_, _<_}
+use Prim.Native.Nat.{ℕ, _+_, _*_, _%_, _≤_, _<_}
 use native.Mathlib.Omega.{arith}
-use lib.ListN.{length, getD, take}
+use lib.ListN.{length, getD, take, replicate}
 use Rattle.digits.specs.Digits.{Binary, differing}
 use Rattle.digits.proofs.Sums.{sum-same}
 use Rattle.levels.proofs.Groups.{group-binary, differing-votes}
@@ -23,7 +23,7 @@ use Rattle.levels.proofs.Counts.{line-count, count-room}
 use Rattle.levels.proofs.Majority.{group-length, vote-stands}
 use Rattle.reading.specs.Notes.{voteAt, notesOf, dissentTo}
 use Rattle.extraction.specs.Quarters.{takenTo}
-use Rattle.promises.specs.Damage.{at-will, kept, liberty, libertyAt, groupAt, Damage, controlsChanged, lineDigits}
+use Rattle.promises.specs.Damage.{at-will, kept, liberty, libertyAt, groupAt, allowed, Damage, controlsChanged, lineDigits}
 use Rattle.promises.specs.Carried.{digitsRead, digitsSent, countSent, Room, Returned}
 use Rattle.promises.proofs.Sent.{sent-group, sent-carried}
 use Rattle.promises.proofs.Reading.{decisions-read}
@@ -49,6 +49,18 @@ kept-carries (Justification sign) act e = go (carried (Justification sign) act) 
     go false c e = cc
 kept-carries Tributary act e = refl
 
+-- where a group was sent unanimous and fewer than half of its digits were changed, its vote is what was sent, and the digits that dissent are those that were changed
+pub group-vote : (row : Row) → Shared row → (sent ds : List ℕ) → Binary ds → (f j : ℕ) (st : Bool) → groupAt row sent f j ≡ replicate (row .control) (cond st 1 0)
+    → differing (groupAt row sent f j) (groupAt row ds f j) ≤ allowed row → voteAt row ds f j ≡ record { stuffed = st; dissent = differing (groupAt row sent f j) (groupAt row ds f j) }
+unfolding voteAt
+group-vote row sh sent ds bin f j st all few =
+    let g = groupAt row ds f j in
+    let place = f * row .digits + (row .set + j) in
+    let binary : Binary g = group-binary ds bin place (row .set) (row .control) in
+    let len : length g ≡ row .control = group-length ds place (row .set) (row .control) in
+    let changed : votesFor (cond st 0 1) g ≡ differing (groupAt row sent f j) g = sym (differing-votes st g binary) ∙ rw (len, all) in
+    rw (vote-stands st g binary (omega (arith, changed, sh .odd)), changed)
+
 module _ (row : Row) (sh : Shared row) (F : ℕ) where
   module _ (earlier : ℕ) (notes : List ℕ) (tributary : ℕ → List ℕ) (ds : List ℕ) (damage : Damage row earlier notes F (lineDigits row earlier notes tributary F) ds) where
     abbrev sent : List ℕ
@@ -57,16 +69,8 @@ module _ (row : Row) (sh : Shared row) (F : ℕ) where
     -- a group's vote is the send's decision, and the digits that dissent are those that were changed
     pub vote-kept : (f j : ℕ) → f < F → j < 4
         → voteAt row ds f j ≡ record { stuffed = decisions notes j f; dissent = differing (groupAt row sent f j) (groupAt row ds f j) }
-    unfolding voteAt
     vote-kept f j hf hj =
-        let g = groupAt row ds f j in
-        let st = decisions notes j f in
-        let place = f * row .digits + (row .set + j) in
-        let bin : Binary g = group-binary ds (damage .digits) place (row .set) (row .control) in
-        let len : length g ≡ row .control = group-length ds place (row .set) (row .control) in
-        let few = damage .few-controls f j hf hj in
-        let changed : votesFor (cond st 0 1) g ≡ differing (groupAt row sent f j) g = sym (differing-votes st g bin) ∙ rw (len, sent-group row sh earlier notes tributary F f j hf hj) in
-        rw (vote-stands st g bin (omega (arith, changed, sh .odd)), changed)
+        group-vote row sh sent ds (damage .digits) f j (decisions notes j f) (sent-group row sh earlier notes tributary F f j hf hj) (damage .few-controls f j hf hj)
 
     pub decision-kept : (f j : ℕ) → f < F → j < 4 → decisions (notesOf row ds F) j f ≡ decisions notes j f
     decision-kept f j hf hj = decisions-read row ds (damage .digits) F f j hf hj ∙ ap (λ (v : Vote). v .stuffed) (vote-kept f j hf hj)

@@ -94,7 +94,7 @@ fn four_sums(a: [usize; 4], b: [usize; 4]) -> [usize; 4]
 }
 
 // Reads the notes of a line, and counts the wrong alignment digits and the dissenting digits of each tributary.
-fn read_frames(row: Row, line: &[u8], notes: &mut [u8]) -> Noted
+pub fn read_frames(row: Row, line: &[u8], notes: &mut [u8]) -> Noted
     requires { ⌜ Shared row × (length (now line) ≡ length (now notes) * row .bytes) × (length (now notes) ≤ 64) ⌝ }
     ensures { λ r. ⌜
         (r ≡ notedFrom row (digitsOf (now (line .entry))) (length (now (notes .entry))))

@@ -1,12 +1,14 @@
 -- "A multiplexed line whose only damage is of demand 3's sort, service digits excepted, comes back exactly as it was sent." With the switch on damaged national
--- digits come back too, of a send whose national bits are all 1.
+-- digits come back too: an accepted send has 1 at every national place.
 use mathlib.Core.Path.{_≡_, refl, sym, _∙_, ap}
 use mathlib.Core.Bool.{Bool, cond, true, false}
 use mathlib.Core.List.{List}
-use Prim.Native.Nat.{ℕ, _*_, _/_, _%_, _<_}
+use Prim.Native.Nat.{ℕ, _*_, _-_, _/_, _%_, _^_, _<_}
 use native.Mathlib.Omega.{arith}
 use native.Mathlib.Nat.{lt-of-mul-lt-mul-right}
+use lib.Dec.{eqb}
 use lib.ListN.{length, getD}
+use borrow.Author.Tests.{eqb-true, not-false}
 use Rattle.digits.specs.Digits.{digitsOf, bytesOf, tab}
 use Rattle.digits.proofs.Laws.{digits-length, bytes-by-place}
 use Rattle.table.specs.declared.Row.{Row}
@@ -28,11 +30,11 @@ use Rattle.promises.specs.Damage.{kept, liberty, lineDigits}
 use Rattle.promises.specs.Calls.{Lent, SendAccepted, sentLine}
 use Rattle.promises.proofs.Sent.{sent-at}
 use Rattle.promises.proofs.Recovered.{vote-kept, acts-kept}
-use Rattle.promises.proofs.Accepted.{send-level, shared, tributary, send-sizes, send-vote, send-places, send-bytes, send-line}
+use Rattle.promises.proofs.Accepted.{send-level, shared, tributary, send-sizes, send-vote, send-places, send-sound, send-bytes, send-line}
 use Rattle.repair.specs.declared.Repaired.{Repaired}
 use Rattle.repair.specs.Repair.{repairedService, repairedBy, repairedDigit, becomes, numberOf, changed, repairedLine, RepairMet}
 use Rattle.repair.proofs.Answering.{none-refused}
-use Rattle.repair_promises.specs.Repairing.{isNational, unrepaired, Wear, WearAt, NationalsSet, NationalsSetAt}
+use Rattle.repair_promises.specs.Repairing.{isNational, unrepaired, Wear, WearAt}
 use Rattle.repair_promises.proofs.National.{nationalKind, national-sent}
 use Rattle.repair_promises.proofs.Places.{repaired-length, repaired-bytes, repaired-at}
 
@@ -64,6 +66,10 @@ as-sent row national note act j r next came (Justification sign) keeps service s
     go true c = rw c at (keeps (rw c))
     go false c = refl
 as-sent row national note act j r next came Tributary keeps service set = keeps refl
+
+-- every note has 1 in each of the level's national bits: bits 5 and up, as many as the level has national digits
+abbrev NationalsSet : Row → List ℕ → Type 0
+NationalsSet row notes = (f : ℕ) → f < length notes → getD notes f 0 / 2 ^ 5 % 2 ^ row .nationals ≡ 2 ^ row .nationals - 1
 
 -- over the row
 module _ (row : Row) (sh : Shared row) (F earlier : ℕ) (national : Bool) (notes : List ℕ) (many : length notes ≡ F) (tributary : ℕ → List ℕ) (line : List ℕ)
@@ -102,9 +108,15 @@ module _ (row : Row) (sh : Shared row) (F earlier : ℕ) (national : Bool) (note
       ∙ ap (λ (n : ℕ). bytesOf n (tab (8 * n) 0 (lineDigit row earlier notes tributary))) long
 
 module _ (level earlier : ℕ) (national : Bool) (row : Row) (e : levelOf level ≡ Of row) (send : Lent) (ok : SendAccepted level earlier send) (line : List ℕ)
-    (ones : national ≡ true → NationalsSet row (send .notes)) (wear : Wear row earlier national (send .notes) (length (send .notes)) (digitsOf (sentLine level earlier send)) (digitsOf line)) where
+    (wear : Wear row earlier national (send .notes) (length (send .notes)) (digitsOf (sentLine level earlier send)) (digitsOf line)) where
   long : length line ≡ length (send .line)
   long = omega (arith, digits-length line, wear .damage .size, send-places level earlier row e send ok)
+
+  -- an accepted send has them
+  ones : NationalsSet row (send .notes)
+  ones f hf =
+      let bits = getD (send .notes) f 0 / 2 ^ 5 % 2 ^ row .nationals in
+      eqb-true bits (2 ^ row .nationals - 1) (not-false (eqb bits (2 ^ row .nationals - 1)) (send-sound level earlier row e send ok .nationals-set f hf))
 
   good : badLine row (length line) ≡ false
   unfolding framesRefusal
@@ -124,7 +136,7 @@ module _ (level earlier : ℕ) (national : Bool) (row : Row) (e : levelOf level 
       let sent : bytesOf (length line) (tab (8 * length line) 0 (lineDigit row earlier (send .notes) given)) ≡ sentLine level earlier send = rw long (sym (send-bytes level earlier row e send ok)) in (
         ap (λ (r : Repaired). r .refusal) (met .0) ∙ rw (e, number),
         repaired
-            ∙ line-back row (shared level row e) F earlier national (send .notes) refl given line ones (rw (send-line level earlier row e send ok) at wear) (rw long (sym (send-sizes level earlier row e send ok .framed .noted)))
+            ∙ line-back row (shared level row e) F earlier national (send .notes) refl given line (λ on. ones) (rw (send-line level earlier row e send ok) at wear) (rw long (sym (send-sizes level earlier row e send ok .framed .noted)))
             ∙ sent,
       )
 
@@ -133,15 +145,12 @@ wear-on : (level earlier : ℕ) (national : Bool) (row : Row) → levelOf level 
     → Wear row earlier national notes (length notes) (digitsOf sent) (digitsOf received)
 wear-on level earlier national row e notes sent received w = rw e at w
 
-ones-on : (level : ℕ) (row : Row) → levelOf level ≡ Of row → (notes : List ℕ) → NationalsSetAt level notes → NationalsSet row notes
-ones-on level row e notes o = rw e at o
-
 -- the repair of a worn line of an accepted send is accepted, and leaves the line that was sent
 pub comes-back : (level earlier : ℕ) (national : Bool) (send : Lent) (line : List ℕ) (answer : Repaired) (left : List ℕ) → SendAccepted level earlier send
-    → (national ≡ true → NationalsSetAt level (send .notes)) → WearAt level earlier national (send .notes) (sentLine level earlier send) line
+    → WearAt level earlier national (send .notes) (sentLine level earlier send) line
     → RepairMet level earlier national line answer left → (answer .refusal ≡ 0) × (left ≡ sentLine level earlier send)
-comes-back level earlier national send line answer left ok ones wear =
+comes-back level earlier national send line answer left ok wear =
     let on = send-level level earlier send ok in
     let row = on .0 in
-    back-on level earlier national row (on .1) send ok line (λ t. ones-on level row (on .1) (send .notes) (ones t))
+    back-on level earlier national row (on .1) send ok line
     (wear-on level earlier national row (on .1) (send .notes) (sentLine level earlier send) line wear) answer left

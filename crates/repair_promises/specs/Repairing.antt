@@ -104,13 +104,6 @@ isService Tributary = false
 abbrev pub servicePutBack : Row → ℕ → List ℕ → List ℕ → List ℕ
 servicePutBack row F sent received = tab (F * row .digits) 0 (λ (p : ℕ). cond (isService (kindAt row p)) (getD sent p 0) (getD received p 0))
 
--- every note has 1 in each of the level's national bits, as request 14 asks of a send: bits 5 and up, as many as the level has national digits
-abbrev pub NationalsSet : Row → List ℕ → Type 0
-NationalsSet row notes = (f : ℕ) → f < length notes → getD notes f 0 / 2 ^ 5 % 2 ^ row .nationals ≡ 2 ^ row .nationals - 1
-
-abbrev pub NationalsSetAt : ℕ → List ℕ → Type 0
-NationalsSetAt level notes = onLevel (levelOf level) (λ (row : Row). NationalsSet row notes) ⊥
-
 -- ---- "how many digits it changed of each kind and tributary"
 
 -- the fifteen sums that a comparison of input and result has (request 6), of which these are the answer's: no remote alarm digit and no ordinary digit changes

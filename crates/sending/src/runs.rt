@@ -9,10 +9,21 @@ use passages::passage::Passage;
 use recordings::sizes;
 use table::Row;
 ghost use Prim.Native.Nat.{_*_, _≤_};
+ghost use lib.ListN.{length};
 ghost use Rattle.levels.specs.Table.{Shared};
 ghost use Rattle.recordings.specs.Sizes.{longest};
 
+// Four quarters with room for 64 frames of any level, so that of a run's notes alone is judged.
+const ROOM: usize = 23680;
+
+// All frames; where a run was refused with 10, the refusal of all notes together.
 pub fn all(row: Row, level: u64, frames: usize, t: Passage) -> Passage
+    requires { ⌜ Shared row × (frames ≤ longest) ⌝ }
+{
+    five_first(row, frames, sent(row, level, frames, t))
+}
+
+fn sent(row: Row, level: u64, frames: usize, t: Passage) -> Passage
     requires { ⌜ Shared row × (frames ≤ longest) ⌝ }
 {
     let mut u = t;
@@ -48,7 +59,7 @@ fn one(row: Row, level: u64, k: usize, f: usize, t: Passage) -> Passage
 }
 
 // 10 comes after 5, and 5 is asked of all notes: where a run was refused with 10, a note of any run with a bit that the level has not goes first.
-pub fn five_first(row: Row, frames: usize, t: Passage) -> Passage
+fn five_first(row: Row, frames: usize, t: Passage) -> Passage
     requires { ⌜ Shared row × (frames ≤ longest) ⌝ }
 {
     let mut u = t;
@@ -67,11 +78,16 @@ fn looked(row: Row, k: usize, f: usize, t: Passage) -> Passage
     requires { ⌜ Shared row × (f ≤ 64) × (64 * k ≤ longest) ⌝ }
 {
     let mut notes = [0u8; 64];
+    looked_in(row, k, &mut notes[..f], t)
+}
+
+fn looked_in(row: Row, k: usize, notes: &mut [u8], t: Passage) -> Passage
+    requires { ⌜ Shared row × (length (now notes) ≤ 64) × (64 * k ≤ longest) ⌝ }
+{
     let from = t.open;
-    let read = files::read_at(from.notes, &mut notes[..f], 64 * k);
-    let n = sizes::frame_bytes(row, f);
-    let b = 4 * sizes::quarter_bytes(row, f);
-    let found = judging::fault_of(row, 0, n, &notes[..f], b);
+    let read = files::read_at(from.notes, notes, 64 * k);
+    let n = sizes::frame_bytes(row, notes.len());
+    let found = judging::fault_of(row, 0, n, notes, ROOM);
     if read && found.refusal == 5 {
         return refused_by(found, k, t);
     }

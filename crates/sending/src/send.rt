@@ -50,8 +50,7 @@ pub fn run(row: Row, level: u64, earlier: u64, plain: bool)
         quarter: tributaries.bytes / 4,
     };
     let start = passage::start_by(row, earlier, from, plain);
-    let sent = runs::all(row, level, notes.bytes, start);
-    end(level, runs::five_first(row, notes.bytes, sent));
+    end(level, runs::all(row, level, notes.bytes, start));
 }
 
 fn is_short(bytes: usize, wanted: usize) -> bool {

@@ -5,3 +5,4 @@ pub mod RackAnswers
 pub mod PlainAnswers
 pub mod SwapAnswers
 pub mod RepairAnswers
+pub mod JudgeAnswers

@@ -4,3 +4,4 @@ pub mod Comparing
 pub mod PlainFace
 pub mod SwapFace
 pub mod RepairFace
+pub mod JudgeFace

@@ -2,6 +2,7 @@
 // a pointer. include/spritbobbin.h declares these functions for C; nothing checks that header against this file but the tests.
 pub mod compare_face;
 pub mod finder_face;
+pub mod judge_face;
 pub mod plain_face;
 pub mod rack_face;
 pub mod repair_face;

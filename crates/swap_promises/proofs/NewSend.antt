@@ -28,7 +28,7 @@ use Rattle.levels.proofs.Buffers.{quarter-at, quarter-length}
 use Rattle.levels.proofs.Choice.{cond-by}
 use Rattle.levels.proofs.Counts.{count-room}
 use Rattle.levels.proofs.Judged.{no-size-refused}
-use Rattle.levels.proofs.Refusals.{EarlierFits, NotesFit}
+use Rattle.levels.proofs.Refusals.{EarlierFits, NotesFit, NationalsSet}
 use Rattle.promises.specs.Calls.{Lent, SendAccepted, sentLine, sentCounts, sentDigits}
 use Rattle.promises.specs.Extraction.{SameBit}
 use Rattle.promises.proofs.Accepted.{shared, send-sizes, send-vote, send-sound, send-accepted, send-bytes, send-count}
@@ -154,6 +154,13 @@ module _ (level x : ℕ) (row : Row) (e : levelOf level ≡ Of row) (send : Lent
       let was : old < 2 ^ (4 + notedOf row) = send-sound level x row e send sent .notes-fit f (omega (arith, frames)) in
       rw (note-at f (omega (arith, frames))) (omega (arith, was, pow-add 2 4 (notedOf row), same-service j (getD (s .notes) f 0) old small))
 
+  nationals-kept : NationalsSet row (four .notes)
+  nationals-kept f h =
+      let old = getD (send .notes) f 0 in
+      let was = send-sound level x row e send sent .nationals-set f (omega (arith, frames)) in
+      let same : mixed j (getD (s .notes) f 0) old / 2 ^ 5 ≡ old / 2 ^ 5 = omega (arith, same-service j (getD (s .notes) f 0) old small) in
+      rw (note-at f (omega (arith, frames)), same) was
+
   -- the vote before them
   vote-fits : EarlierFits row y
   vote-fits = go (hasNegative row) (send-vote level x row e send sent)
@@ -183,7 +190,7 @@ module _ (level x : ℕ) (row : Row) (e : levelOf level ≡ Of row) (send : Lent
   -- so it is accepted
   made : SendAccepted level y four
   made =
-      send-accepted level y row e four (no-size-refused row (length (send .line)) (length (four .notes)) (length (four .buffer)) new-sizes) vote-fits note-fits
+      send-accepted level y row e four (no-size-refused row (length (send .line)) (length (four .notes)) (length (four .buffer)) new-sizes) vote-fits note-fits nationals-kept
 
   -- and is of the new four
   swap-frames : length (s .notes) ≡ F

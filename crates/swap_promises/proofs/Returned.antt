@@ -7,11 +7,11 @@ use mathlib.Core.List.{List, map}
 use Prim.Native.Nat.{ℕ, suc, _+_, _*_, _-_, _/_, _%_, _<_}
 use native.Mathlib.Omega.{arith}
 use lib.Dec.{eqb}
-use lib.ListN.{length, getD, take, drop, length-map, length-take, List·getD-map}
-use lib.Seq.{split-at, getD-at, getD-take}
+use lib.ListN.{length, getD, take}
+use lib.Seq.{getD-take}
 use borrow.Author.Tests.{eq-eqb, ne-eqb, eqb-true, not-false}
 use Rattle.digits.specs.Digits.{digitsOf}
-use Rattle.digits.proofs.Laws.{digits-length}
+use Rattle.digits.proofs.Laws.{digits-length, map-at}
 use Rattle.table.specs.declared.Row.{Row}
 use Rattle.table.specs.declared.Level.the-variants.{Of}
 use Rattle.table.specs.Table.{levelOf}
@@ -143,15 +143,6 @@ kept-by row note act j r next d (Justification sign) o sound same = go (carried 
     go false sound same = eqb-true d 1 (not-false (eqb d 1) sound)
 kept-by row note act j r next d Tributary o sound same = same refl
 
--- a digit of a list picked out
-picked : (f : ℕ → ℕ) (xs : List ℕ) (i : ℕ) → i < length xs → getD (map f xs) i 0 ≡ f (getD xs i 0)
-picked f xs i h =
-    let l = map f xs in
-    let inside : i < length l = omega (arith, length-map xs f) in
-    ap (λ (m : List ℕ). getD m i 0) (split-at l i (f 0) inside)
-    ∙ getD-at (take i l) (getD l i (f 0)) (drop (suc i) l) 0 i (length-take i l ∙ omega arith)
-    ∙ List·getD-map f xs i 0
-
 -- over the row: what was taken by notes, put back by them
 module _ (row : Row) (sh : Shared row) (x : ℕ) (notes ds : List ℕ) (j : ℕ) (hj : j < 4) where
   abbrev taken : List ℕ
@@ -168,7 +159,7 @@ module _ (row : Row) (sh : Shared row) (x : ℕ) (notes ds : List ℕ) (j : ℕ)
       let one : cond {A = ℕ} (carries row by-notes (4 * z + j)) 1 0 ≡ 1 = rw c in
       let within : before row by-notes j z < length (placesOf row by-notes j n) = omega (arith, one, before-rises row by-notes j (suc z) n h, places-length row by-notes j n) in
       sym
-      (picked (λ (p : ℕ). getD ds p 0) (placesOf row by-notes j n) (before row by-notes j z) within ∙ ap (λ (p : ℕ). getD ds p 0) (digit-of-place row by-notes j n z h c))
+      (map-at (λ (p : ℕ). getD ds p 0) (placesOf row by-notes j n) (before row by-notes j z) within ∙ ap (λ (p : ℕ). getD ds p 0) (digit-of-place row by-notes j n z h c))
 
   put-back : (p : ℕ) → p < length notes * row .digits → p % 4 ≡ j → isOwn (kindAt row p) ≡ true → damagedAt row x notes j ds p ≡ false
       → getD ds p 0 ≡ lineDigit row x notes (λ (k : ℕ). taken) p

@@ -23,6 +23,7 @@ mod comparing;
 mod finding;
 mod hunting;
 mod inputs;
+mod judging;
 mod keeping;
 mod multiframes;
 mod noting;
@@ -67,6 +68,7 @@ fn main() -> io::Result<()> {
     cases.extend(trips::cases());
     cases.extend(voting::cases());
     cases.extend(swapping::cases());
+    cases.extend(judging::cases());
     cases.extend(repairing::cases());
     cases.extend(calling::cases());
     let mut list = String::new();

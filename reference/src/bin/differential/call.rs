@@ -4,6 +4,7 @@ use reference::{build_multiframe, take_multiframe_apart};
 use reference::{compare, Differences, MOST_LISTED};
 use reference::{extract, feed, fresh, line_digit, multiplex, read_notes, Counted, State};
 use reference::{finder_feed, FinderState};
+use reference::{judge, Judged};
 use reference::{read_capture, repair, swap, write_capture};
 
 /// What a multiplex or extract call is lent; reading notes is lent all but the buffer.
@@ -25,6 +26,16 @@ pub struct Worn {
     /// The switch for national digits: 0 is off.
     pub national: u64,
     pub line: Vec<u8>,
+}
+
+/// What judging is lent.
+#[derive(Clone)]
+pub struct Trace {
+    pub level: u64,
+    pub earlier: u64,
+    pub line: Vec<u8>,
+    pub pattern: u64,
+    pub buffer: Vec<u8>,
 }
 
 #[derive(Clone)]
@@ -80,10 +91,11 @@ pub enum Call {
     /// What is lent, and the tributary's number. The buffer is one tributary's.
     Swap(Lending, u64),
     Repair(Worn),
+    Judge(Trace),
 }
 
 /// The names of the calls, in the order of their numbers.
-pub const NAMES: [&str; 18] = [
+pub const NAMES: [&str; 19] = [
     "multiplex",
     "read_notes",
     "receiver_fresh",
@@ -102,6 +114,7 @@ pub const NAMES: [&str; 18] = [
     "rack_aligned",
     "swap",
     "repair",
+    "judge",
 ];
 
 /// All that a call answers and leaves: two outcomes are equal or there is a disagreement.
@@ -136,6 +149,7 @@ impl Call {
             Call::Compare(..) => 12,
             Call::Swap(..) => 16,
             Call::Repair(_) => 17,
+            Call::Judge(_) => 18,
         }
     }
 
@@ -160,6 +174,7 @@ impl Call {
             Call::FinderFeed(_) => "taken, aligned; window, seen, mode, place",
             Call::Swap(..) => "digits taken",
             Call::Repair(_) => "changed: word, control of four, stuffing of four, national",
+            Call::Judge(_) => "of each: fits, wrong by own, before and after, changes",
             Call::Compare(..) => "file, byte, fifteen sums, all, listed; frame and place of each",
         }
     }
@@ -174,6 +189,14 @@ impl Call {
                 worn.earlier,
                 worn.national,
                 in_short(&worn.line)
+            ),
+            Call::Judge(trace) => format!(
+                "level {}; earlier {}; line {}; pattern {}; buffer {}",
+                trace.level,
+                trace.earlier,
+                in_short(&trace.line),
+                trace.pattern,
+                in_short(&trace.buffer)
             ),
             Call::Fresh(level) => format!("level {level}"),
             Call::Feed(piece) => format!(
@@ -242,6 +265,7 @@ impl Call {
             Call::Extract(with) => extracted(with.clone()),
             Call::Swap(with, tributary) => swapped(with.clone(), *tributary),
             Call::Repair(worn) => repaired(worn.clone()),
+            Call::Judge(trace) => judged(trace.clone()),
             Call::Compare(one, other) => {
                 let (refusal, numbers) = compared_numbers(&compare(one, other));
                 outcome(refusal, numbers, vec![("one", one.clone()), ("other", other.clone())])
@@ -301,6 +325,20 @@ fn repaired(mut worn: Worn) -> Outcome {
     let numbers =
         [&[answer.word], &answer.control[..], &answer.stuffing, &[answer.national]].concat();
     outcome(answer.refusal, numbers, vec![("line", worn.line)])
+}
+
+fn judged(trace: Trace) -> Outcome {
+    let answer = judge(trace.level, trace.earlier, &trace.line, trace.pattern, &trace.buffer);
+    let lent = vec![("line", trace.line), ("buffer", trace.buffer)];
+    outcome(answer.refusal, judged_numbers(&answer), lent)
+}
+
+pub fn judged_numbers(answer: &Judged) -> Vec<u64> {
+    let five = |j: usize| {
+        let of = &answer.of[j];
+        [of.fits, of.wrong[0], of.wrong[1], of.wrong[2], of.changes]
+    };
+    [five(0), five(1), five(2), five(3)].concat()
 }
 
 pub fn counted_numbers(answer: &Counted) -> Vec<u64> {

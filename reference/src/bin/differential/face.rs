@@ -1,7 +1,7 @@
 //! The product's C face, and the calls made through it with guards around all that is lent.
 
 use crate::call::{
-    finder_numbers, state_numbers, Call, Hunt, Lending, Outcome, Piece, Whole, Worn, Writing,
+    finder_numbers, state_numbers, Call, Hunt, Lending, Outcome, Piece, Trace, Whole, Worn, Writing,
 };
 
 #[rustfmt::skip]
@@ -76,6 +76,10 @@ extern "C" {
     pub fn spritbobbin_repair(
         level: u64, earlier: u64, national: u64, line: *mut u8, line_bytes: usize,
         answer: *mut u64,
+    ) -> u64;
+    pub fn spritbobbin_judge(
+        level: u64, earlier: u64, line: *const u8, line_bytes: usize, pattern: u64,
+        buffer: *const u8, buffer_bytes: usize, answer: *mut u64,
     ) -> u64;
     pub fn spritbobbin_rack_aligned(records: *const u64, number: usize, answer: *mut u64) -> u64;
 }
@@ -179,6 +183,7 @@ pub fn by_face(call: &Call) -> Outcome {
         Call::Compare(one, other) => compare(one, other),
         Call::Swap(with, tributary) => swap(with, *tributary),
         Call::Repair(worn) => repair(worn),
+        Call::Judge(trace) => judge(trace),
     }
 }
 
@@ -262,6 +267,19 @@ fn repair(worn: &Worn) -> Outcome {
         spritbobbin_repair(worn.level, worn.earlier, worn.national, l, lc, a)
     };
     outcome(refusal, &[answer], &[line])
+}
+
+fn judge(trace: &Trace) -> Outcome {
+    let mut line = bytes("line", &trace.line);
+    let mut buffer = bytes("buffer", &trace.buffer);
+    let mut answer = numbers("answer", &[UNWRITTEN; 20]);
+    // Sound as above.
+    let refusal = unsafe {
+        let (l, b, a) = (line.pointer(), buffer.pointer(), answer.pointer());
+        let (lc, bc) = (line.count(), buffer.count());
+        spritbobbin_judge(trace.level, trace.earlier, l, lc, trace.pattern, b, bc, a)
+    };
+    outcome(refusal, &[answer], &[line, buffer])
 }
 
 fn fresh(level: u64) -> Outcome {

@@ -1,16 +1,19 @@
 //! Lengths far beyond what a call accepts, which a cut to 32 bits would make small, and
 //! then pointers and lengths that lend no memory at all.
 
-use crate::call::{compared_numbers, counted_numbers, read_numbers};
+use crate::call::{compared_numbers, counted_numbers, judged_numbers, read_numbers};
+use crate::face::spritbobbin_line_digit;
 use crate::face::{self, spritbobbin_capture_read, spritbobbin_capture_write, spritbobbin_compare};
-use crate::face::{spritbobbin_extract, spritbobbin_finder_feed, spritbobbin_line_digit};
+use crate::face::{spritbobbin_extract, spritbobbin_finder_feed, spritbobbin_judge};
 use crate::face::{spritbobbin_multiplex, spritbobbin_read_notes, spritbobbin_receiver_feed};
 use crate::face::{spritbobbin_repair, spritbobbin_swap, UNWRITTEN};
+use crate::judging;
 use crate::multiframes;
 use crate::rack;
 use crate::repairing;
 use crate::swapping;
 use crate::Run;
+use reference::judge;
 use reference::read_notes;
 use reference::{
     extract, feed, feed_refusal, frames_refusal, fresh, length_refusal, line_digit, multiplex,
@@ -277,6 +280,9 @@ fn long_line(run: &mut Run, level: u64, line: &mut [u8]) {
     };
     let expected = [&[repair_refusal(level, u64::MAX, line.len() as u64)], &[0; 10][..]].concat();
     run.expect(17, &inputs, &expected, &[&[refusal], &answer[..]].concat());
+    for pattern in [0, 15] {
+        long_judge(run, level, line, pattern, &[0; 4096]);
+    }
     untouched(run, &inputs, line);
 }
 
@@ -320,9 +326,27 @@ fn long_buffer(run: &mut Run, level: u64, frame_bytes: usize, buffer: &mut [u8])
     let wide = |line: Vec<u8>| line.into_iter().map(u64::from).collect::<Vec<_>>();
     run.expect(0, &format!("{inputs}: the line"), &wide(ours), &wide(theirs.clone()));
     long_swap(run, &inputs, level, &mut theirs, &[5], buffer);
+    for pattern in [0, 15, 23] {
+        long_judge(run, level, &theirs, pattern, buffer);
+    }
     for j in 0..4 {
         buffer[j * quarter..][..100].fill(0);
     }
+}
+
+/// A long line, or a long buffer, of which only what a line's frames have is read.
+fn long_judge(run: &mut Run, level: u64, line: &[u8], pattern: u64, buffer: &[u8]) {
+    let inputs =
+        format!("level {level}, line {}, pattern {pattern}, buffer {}", line.len(), buffer.len());
+    let expected = judge(level, 3, line, pattern, buffer);
+    let mut answer = [UNWRITTEN; 20];
+    // Sound if the face keeps to what it is lent.
+    let refusal = unsafe {
+        let (l, b, a) = (line.as_ptr(), buffer.as_ptr(), answer.as_mut_ptr());
+        spritbobbin_judge(level, 3, l, line.len(), pattern, b, buffer.len(), a)
+    };
+    let expected = [vec![expected.refusal], judged_numbers(&expected)].concat();
+    run.expect(18, &inputs, &expected, &[&[refusal], &answer[..]].concat());
 }
 
 fn long_piece(run: &mut Run, slice: &[u8]) {
@@ -378,6 +402,9 @@ fn null_pointers(run: &mut Run) {
         for earlier in EARLIER {
             null_lines(run, level, earlier);
             repairing::by_length(run, level, earlier, 0);
+            for pattern in [0, 15, 23, 1, u64::MAX] {
+                judging::by_lengths(run, level, earlier, pattern, [0; 2]);
+            }
             for tributary in [0, 1, 4, 5] {
                 swapping::by_lengths(run, level, earlier, tributary, [0; 3]);
             }
@@ -447,6 +474,13 @@ fn false_lengths(run: &mut Run) {
                 swapping::by_lengths(run, level, 16, 1, lengths);
             }
             repairing::by_length(run, level, 16, long);
+            for pattern in [0, 15, 23, 1] {
+                for earlier in [0, 16] {
+                    for lengths in [[long, long], [long, 4 * frame], [frame, long], [0, long]] {
+                        judging::by_lengths(run, level, earlier, pattern, lengths);
+                    }
+                }
+            }
             // The most bytes that eight times over do not fit in 64 bits, and room enough.
             swapping::by_lengths(run, level, 16, 4, [frame, 1, long]);
             false_capture(run, level, long);

@@ -1,10 +1,12 @@
 //! Compares the product's C face with the reference, call by call.
 //!
 //! ```text
-//! cargo run --release --features face --bin differential -- [seed=N] [times=N] [lent-only] [trace]
+//! cargo run --release --features face --bin differential -- \
+//!     [seed=N] [times=N] [part=NAME] [lent-only] [trace]
 //! ```
 //!
-//! `seed` chooses the run, `times` makes it so many times longer. `lent-only` leaves out the
+//! `seed` chooses the run, `times` makes it so many times longer. `part` makes one of its parts alone,
+//! such as `multiplexing` or `judging`, and no lengths. `lent-only` leaves out the
 //! last part, whose pointers are null or whose lengths no memory holds. `trace` names every
 //! call before it is made, for a face that does not return. The first disagreement is
 //! printed and ends the run with 1.
@@ -14,6 +16,7 @@ mod captures;
 mod comparisons;
 mod face;
 mod finder;
+mod judging;
 mod lengths;
 mod levels;
 mod multiframes;
@@ -31,6 +34,7 @@ use std::process::exit;
 pub struct Run {
     seed: u64,
     times: u64,
+    part: Option<String>,
     lent_only: bool,
     trace: bool,
     random: Random,
@@ -105,40 +109,58 @@ fn print_difference(name: &str, ours: &[u8], theirs: &[u8]) {
 fn arguments() -> Run {
     let (seed, calls) = (1, [0; NAMES.len()]);
     let random = Random::new(seed);
-    let mut run = Run { seed, times: 1, lent_only: false, trace: false, random, calls };
+    let (times, part) = (1, None);
+    let mut run = Run { seed, times, part, lent_only: false, trace: false, random, calls };
     for argument in std::env::args().skip(1) {
         let number = |name| argument.strip_prefix(name).and_then(|text| text.parse().ok());
+        let part = argument.strip_prefix("part=");
         if let Some(seed) = number("seed=") {
             run.seed = seed;
             run.random = Random::new(seed);
         } else if let Some(times) = number("times=") {
             run.times = times;
+        } else if let Some((part, _)) = PARTS.iter().find(|(name, _)| part == Some(*name)) {
+            run.part = Some(part.to_string());
         } else if argument == "lent-only" {
             run.lent_only = true;
         } else if argument == "trace" {
             run.trace = true;
         } else {
-            eprintln!("unknown: {argument}; known: seed=N times=N lent-only trace");
+            eprintln!("unknown: {argument}; known: seed=N times=N part=NAME lent-only trace");
+            let names: Vec<&str> = PARTS.iter().map(|(name, _)| *name).collect();
+            eprintln!("parts: {}", names.join(" "));
             exit(2);
         }
     }
     run
 }
 
+/// The parts of a run by name, in their order.
+const PARTS: [(&str, fn(&mut Run)); 10] = [
+    ("multiplexing", multiplexing::part),
+    ("receiver", receiver::part),
+    ("captures", captures::part),
+    ("multiframes", multiframes::part),
+    ("finder", finder::part),
+    ("comparisons", comparisons::part),
+    ("rack", rack::part),
+    ("swapping", swapping::part),
+    ("repairing", repairing::part),
+    ("judging", judging::part),
+];
+
 fn main() {
     let mut run = arguments();
     println!("seed {} times {}", run.seed, run.times);
     for _ in 0..run.times {
-        multiplexing::part(&mut run);
-        receiver::part(&mut run);
-        captures::part(&mut run);
-        multiframes::part(&mut run);
-        finder::part(&mut run);
-        comparisons::part(&mut run);
-        rack::part(&mut run);
-        swapping::part(&mut run);
-        repairing::part(&mut run);
+        for (name, part) in PARTS {
+            if run.part.as_deref().map_or(true, |one| one == name) {
+                part(&mut run);
+            }
+        }
     }
-    lengths::part(&mut run);
+    if run.part.is_none() {
+        lengths::part(&mut run);
+    }
     println!("{}; no disagreement", run.summary());
 }

@@ -234,19 +234,19 @@ fn read_and_extract(run: &mut Run, mut with: Lending) {
 
 /// Changes some digits of a line: any, or only control digits, so that groups split.
 pub fn damage(random: &mut Random, with: &mut Lending) {
-    let row = match row(with.level) {
-        Some(row) => row,
-        None => return,
-    };
-    let digits = with.line.len() * 8;
+    if let Some(row) = row(with.level) {
+        damage_line(random, row, &mut with.line);
+    }
+}
+
+pub fn damage_line(random: &mut Random, row: &Row, line: &mut [u8]) {
+    let digits = line.len() * 8;
     let changes = digits.min(random.index(60));
     match random.below(5) {
         0 => {}
-        1 => with.line = random.filled(with.line.len()),
-        2 => (0..changes).for_each(|_| flip(&mut with.line, random.index(digits))),
-        _ => {
-            (0..changes * 4).for_each(|_| flip(&mut with.line, control_place(random, row, digits)))
-        }
+        1 => line.copy_from_slice(&random.filled(line.len())),
+        2 => (0..changes).for_each(|_| flip(line, random.index(digits))),
+        _ => (0..changes * 4).for_each(|_| flip(line, control_place(random, row, digits))),
     }
 }
 
@@ -315,7 +315,7 @@ pub fn any_earlier(random: &mut Random) -> u64 {
     random.below(16)
 }
 
-fn wrong_level(random: &mut Random) -> u64 {
+pub fn wrong_level(random: &mut Random) -> u64 {
     loop {
         let level = random.hostile();
         if row(level).is_none() {
@@ -324,7 +324,7 @@ fn wrong_level(random: &mut Random) -> u64 {
     }
 }
 
-fn wrong_line(random: &mut Random, row: &Row, right: usize) -> usize {
+pub fn wrong_line(random: &mut Random, row: &Row, right: usize) -> usize {
     let off = random.pick(&[1, 2, row.frame_bytes() - 1, row.frame_bytes() / 2]);
     if random.once_in(2) && right >= off {
         right - off
@@ -342,7 +342,7 @@ fn wrong_notes(random: &mut Random, notes: &mut Vec<u8>) {
 }
 
 /// A length that is not a multiple of 4, or one byte short in each quarter.
-fn wrong_buffer(random: &mut Random, least: usize) -> usize {
+pub fn wrong_buffer(random: &mut Random, least: usize) -> usize {
     match random.below(4) {
         0 if least > 0 => 4 * (least - 1),
         1 if least > 0 => 4 * least - 1 - random.index(3),
@@ -353,7 +353,7 @@ fn wrong_buffer(random: &mut Random, least: usize) -> usize {
 
 /// Notes that can be sent, whose decisions are random, alternate at a pace of their own for each tributary,
 /// stay, or stay but for one frame. Decisions that stay hide a decision used late.
-fn decisions(random: &mut Random, row: &Row, frames: usize) -> Vec<u8> {
+pub fn decisions(random: &mut Random, row: &Row, frames: usize) -> Vec<u8> {
     let mut notes = match random.below(4) {
         0 | 1 => random.bytes(frames),
         2 => {

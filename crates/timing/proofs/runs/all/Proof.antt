@@ -1,14 +1,14 @@
 -- The run stays inside the runs.
 use Prim.Native.Nat.{_≤_, _-_, _+_, _/_}
 use borrow.Author.Needs.{needs}
-use Rattle.sending.proofs.runs.all.Statement.{statement}
-use Rattle.sending.proofs.runs.all.Tie as tie
+use Rattle.timing.proofs.runs.all.Statement.{statement}
+use Rattle.timing.proofs.runs.all.Tie as tie
 
 abbrev Inv-loop : tie.InvT-loop
-Inv-loop row level frames u₀ k₀ u k = k ≤ (frames + 63) / 64
+Inv-loop row level from parts frames u₀ k₀ u k = k ≤ (frames + 63) / 64
 
 abbrev μ-loop : tie.MeasureT-loop
-μ-loop row level frames u₀ k₀ u k = (frames + 63) / 64 - k
+μ-loop row level from parts frames u₀ k₀ u k = (frames + 63) / 64 - k
 
 pub all-spec : {M : Type 1} → statement M
 all-spec =

@@ -1,0 +1,15 @@
+-- The part that is lent has the length asked for, since the array is longer.
+use lib.ListN.{length-take}
+use native.Mathlib.Omega.{arith}
+use borrow.Author.Needs.{needs}
+use Rattle.holding.proofs.runs.one.Statement.{statement}
+use Rattle.holding.proofs.runs.one.Tie as tie
+
+slice-aggregate-read-on : tie.Need-slice-aggregate-read-on
+slice-aggregate-read-on c = simp length-take (omega arith)
+
+pub one-spec : {M : Type 1} → statement M
+one-spec =
+    tie.close
+    (tie.spec (λ c κs. search needs) (λ c κs. search needs) (λ c. search needs) (λ c κs. search needs) (λ c κs. search needs) (λ c κs. search needs)
+    (λ c κs. search needs) (λ c. search needs) slice-aggregate-read-on (λ c κs. search needs) (λ c. search needs))

@@ -1,0 +1,6 @@
+pub mod Acted
+pub mod Readings
+pub mod Fitting
+pub mod Verdicts
+pub mod Steady
+pub mod Beginnings
