@@ -2,7 +2,7 @@
 
 use crate::case::{words, Case};
 
-const COMMANDS: [&str; 20] = [
+const COMMANDS: [&str; 22] = [
     "demo",
     "frame",
     "send",
@@ -13,6 +13,8 @@ const COMMANDS: [&str; 20] = [
     "extract",
     "swap",
     "repair",
+    "repair-national",
+    "judge",
     "find",
     "watch",
     "keep",
