@@ -1,7 +1,7 @@
 -- One column of a line after the other: the two ways of a place of a head, its column place after place, and what is out after one column more. What a
 -- column may rely on, and a head as a number.
 use mathlib.Core.Path.{_≡_, refl, sym, _∙_, ap}
-use mathlib.Core.Bool.{Bool, cond, true, false, true≢false}
+use mathlib.Core.Bool.{cond, true, false}
 use mathlib.Core.List.{List, [], _∷_, _++_, append-assoc, append-nil}
 use Prim.Native.Nat.{ℕ, suc, _+_, _*_, _-_, _/_, _%_, _^_, _≤_, _<_}
 use native.Mathlib.Omega.{arith}
@@ -19,7 +19,6 @@ use Rattle.digits.proofs.Windows.{window-more}
 use Rattle.digits.proofs.Written.{written-one, written-cat}
 use Rattle.table.specs.declared.Row.{Row}
 use Rattle.levels.specs.declared.order.Action.{Action}
-use Rattle.levels.specs.declared.places.At.{At}
 use Rattle.levels.specs.declared.places.Kind.{Kind}
 use Rattle.levels.specs.Table.{Shared}
 use Rattle.levels.specs.Places.{middleSet, lastSet, kindOf, posOf}
@@ -28,7 +27,7 @@ use Rattle.levels.specs.Sizes.{Fits}
 use Rattle.levels.proofs.Choice.{cond-same}
 use Rattle.levels.proofs.Positions.{in-frame, pos-of-sum}
 use Rattle.levels.proofs.Sentences.{set-start}
-use Rattle.levels.proofs.Columns.{columns, frame-start}
+use Rattle.levels.proofs.Columns.{frame-start}
 use Rattle.levels.proofs.Walk.{Walking, column as walked}
 use Rattle.levels.proofs.Ways.{kind-word, kind-service}
 use Rattle.multiplex.specs.Line.{digitBy, lineDigit}

@@ -1,6 +1,4 @@
 -- `head_column`: the first set's place by place, a later set's by what its first place is.
-use mathlib.Core.Path.{_≡_}
-use Prim.Native.Nat.{_+_, _≤_}
 use native.Mathlib.Omega.{arith}
 use borrow.Author.Needs.{needs}
 use Rattle.levels.specs.Places.{headEnd}

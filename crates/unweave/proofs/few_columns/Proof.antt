@@ -4,7 +4,6 @@ use Prim.Native.Nat.{ℕ, _*_, _/_, _%_, _^_, _≤_}
 use native.Mathlib.Omega.{arith}
 use lib.Pow.{pow-mono}
 use borrow.Author.Needs.{needs}
-use Rattle.digits.specs.Digits.{digitsOf}
 use Rattle.digits.proofs.Laws.{digits-binary}
 use Rattle.digits.proofs.Lists.{of-four}
 use Rattle.unweave.specs.Quarters.{numberOf}

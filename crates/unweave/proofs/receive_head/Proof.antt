@@ -1,7 +1,6 @@
 -- `receive_head` hands out the columns behind the control digits where the set is the last, and nothing where it is another: the invariant is
 -- `Heading`, of the columns handed out so far.
-use mathlib.Core.Path.{_∙_}
-use Prim.Native.Nat.{ℕ, _-_}
+use Prim.Native.Nat.{_-_}
 use native.Mathlib.Omega.{arith}
 use Rattle.digits.specs.Digits.{digitsOf}
 use Rattle.unweave.specs.Lanes.{actsBy, headDigits}

@@ -1,9 +1,8 @@
 -- `rest_columns`: the columns so far, as four numbers; what is left of them are eights.
-use Prim.Native.Nat.{ℕ, _-_, _%_, _≤_}
+use Prim.Native.Nat.{_-_, _%_, _≤_}
 use mathlib.Core.Path.{_≡_, refl}
 use native.Mathlib.Omega.{arith}
 use lib.Pow.{pow-mono}
-use borrow.Author.Needs.{needs}
 use Rattle.digits.specs.Digits.{digitsOf}
 use Rattle.unweave.specs.Quarters.{Numbered}
 use Rattle.unweave.proofs.rest_columns.Statement.{statement}

@@ -1,6 +1,6 @@
 -- `send_narrow`: the first few columns, then eights, of which some are still to come (`Eights`).
 use mathlib.Core.Path.{_≡_, refl, _∙_}
-use Prim.Native.Nat.{ℕ, _-_, _%_}
+use Prim.Native.Nat.{_-_, _%_}
 use native.Mathlib.Omega.{arith}
 use borrow.Author.Needs.{needs}
 use Rattle.digits.specs.Digits.{digitsOf}
