@@ -1,18 +1,19 @@
 -- A line on its way: what the inner functions leave, set by set. The public call's definitions are in specs/Line.antt and
 -- specs/Multiplex.antt; these lie between them and the loops.
 use mathlib.Core.Path.{_≡_}
-use mathlib.Core.Bool.{cond}
+use mathlib.Core.Bool.{cond, true}
 use mathlib.Core.List.{List, [], _∷_}
-use Prim.Native.Nat.{ℕ, _+_, _*_, _-_, _/_, _%_, _<_}
-use lib.Dec.{eqb}
+use Prim.Native.Nat.{ℕ, _+_, _*_, _-_, _/_, _^_, _<_}
+use lib.Dec.{eqb, ltb}
 use lib.ListN.{length, getD}
-use Rattle.digits.specs.Digits.{digitsOf, tab}
+use Rattle.digits.specs.Digits.{digitsOf, tab, written}
 use Rattle.words.specs.declared.Writer.{Writer}
 use Rattle.words.specs.Words.{Ready, outFrom, Appended}
 use Rattle.weave.specs.declared.Next.{Next}
 use Rattle.weave.specs.Weave.{woven}
 use Rattle.table.specs.declared.Row.{Row}
 use Rattle.levels.specs.declared.order.Action.{Action}
+use Rattle.levels.specs.declared.places.Kind.{Kind}
 use Rattle.levels.specs.Places.{kindOf}
 use Rattle.levels.specs.Order.{actions, carried, before, countsOf}
 use Rattle.levels.specs.Sizes.{quarterOf, Fits}
@@ -22,12 +23,26 @@ use Rattle.multiplex.specs.Line.{digitBy, lineDigit, lineOf}
 abbrev pub tributaryOf : List ℕ → ℕ → List ℕ
 tributaryOf buffer j = digitsOf (quarterOf buffer j)
 
--- one place of a head, in a frame that acts so: its digit, and its tributary's index is one further on where the place carries one
-pub record Placed (row : Row) (note : ℕ) (act : Action) (set r : ℕ) (buffer next : List ℕ) (d : ℕ) (next′ : List ℕ) : Type 0 where
-  pub digit : d ≡ digitBy row note act (r % 4) r (getD (tributaryOf buffer (r % 4)) (getD next (r % 4) 0) 0) (kindOf row set r)
+-- one place of a head, of this kind and of tributary j, in a frame that acts so: its digit, and its tributary's index is one further on where the place
+-- carries one
+pub record Placed (row : Row) (note : ℕ) (act : Action) (kind : Kind) (j r : ℕ) (buffer next : List ℕ) (d : ℕ) (next′ : List ℕ) : Type 0 where
+  pub digit : d ≡ digitBy row note act j r (getD (tributaryOf buffer j) (getD next j 0) 0) kind
   pub binary : d < 2
-  pub index : (j : ℕ) → j < 4 → getD next′ j 0 ≡ getD next j 0 + cond (eqb j (r % 4)) (cond (carried (kindOf row set r) act) 1 0) 0
+  pub index : (k : ℕ) → k < 4 → getD next′ k 0 ≡ getD next k 0 + cond (eqb k j) (cond (carried kind act) 1 0) 0
   pub kept : length next′ ≡ length next
+
+-- the first k places of the column from place r of a set on, as a number
+pub record PlacedTo (row : Row) (note : ℕ) (acts : ℕ → Action) (set r : ℕ) (buffer next : List ℕ) (k word : ℕ) (next′ : List ℕ) : Type 0 where
+  pub few : word < 2 ^ k
+  pub digits : written k word
+      ≡ tab k 0 (λ (j : ℕ). digitBy row note (acts j) j (r + j) (getD (tributaryOf buffer j) (getD next j 0) 0) (kindOf row set (r + j)))
+  pub index : (j : ℕ) → j < 4 → getD next′ j 0 ≡ getD next j 0 + cond (ltb j k) (cond (carried (kindOf row set (r + j)) (acts j)) 1 0) 0
+  pub kept : length next′ ≡ length next
+
+-- what such a column relies on: each index is small, and where its place carries a digit the quarter, of so many bytes, has one
+abbrev pub Rely : Row → (ℕ → Action) → ℕ → ℕ → ℕ → List ℕ → Type 0
+Rely row acts set r quarter next =
+    (j : ℕ) → j < 4 → (getD next j 0 < 65536) × (carried (kindOf row set (r + j)) (acts j) ≡ true → getD next j 0 < 8 * quarter)
 
 -- the four indices, each by itself
 abbrev pub nextOf : List ℕ → Next

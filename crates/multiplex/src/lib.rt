@@ -17,6 +17,7 @@ use weave::table::spread_table;
 use words::Writer;
 ghost use mathlib.Core.Path.{_≡_};
 ghost use mathlib.Core.Bool.{true, false};
+ghost use mathlib.Core.List.{List};
 ghost use Prim.Native.Nat.{ℕ, _+_, _*_, _/_, _%_, _<_, _≤_};
 ghost use lib.ListN.{length, getD};
 ghost use Rattle.digits.specs.Digits.{tab};
@@ -24,13 +25,13 @@ ghost use Rattle.words.specs.Words.{Ready};
 ghost use Rattle.weave.specs.Weave.{spreadOf, Has};
 ghost use Rattle.levels.specs.Table.{Shared};
 ghost use Rattle.levels.specs.Sizes.{quarterOf, Accepted};
-ghost use Rattle.levels.specs.Places.{headEnd, kindOf};
+ghost use Rattle.levels.specs.Places.{headEnd};
 ghost use Rattle.levels.specs.Order.{stuffed, actionOf, carried};
 ghost use Rattle.levels.specs.Word.{wordDigit};
 ghost use Rattle.levels.specs.declared.order.Action.{Action};
 ghost use Rattle.levels.specs.declared.places.Kind.the-variants.{Word};
 ghost use Rattle.multiplex.specs.Line.{serviceBy, digitBy};
-ghost use Rattle.multiplex.specs.Sending.{Placed, nextOf, Ran, Sending, AllSent};
+ghost use Rattle.multiplex.specs.Sending.{Placed, PlacedTo, Rely, nextOf, Ran, Sending, AllSent};
 ghost use Rattle.levels.specs.Judging.{sendAnswerOn};
 ghost use Rattle.multiplex.specs.Multiplex.{lineOn, Met};
 
@@ -70,37 +71,31 @@ pub fn idle_digit(row: Row, kind: Kind, note: u8, j: usize, r: usize) -> u8
     }
 }
 
-// One place of a set's head: its digit. Where it carries one of its tributary, that is the next, and the index moves on.
+// One place of a head, of this kind and of tributary j (from 0): its digit. Where it carries one of its tributary, that is the next, and the index
+// moves on.
 fn place_digit(
     row: Row,
+    kind: Kind,
     buffer: &[u8],
     next: &mut [usize; 4],
     preceding: u64,
     note: u8,
-    set: usize,
+    j: usize,
     r: usize,
 ) -> u8
     requires { ⌜
         Shared row
         × (length (now buffer) ≡ 4 * (length (now buffer) / 4))
         × (length (now next) ≡ 4)
-        × (getD (now next) (r % 4) 0 < 65536)
-        × (carried (kindOf row set r) (actionOf row (stuffed preceding (r % 4)) (stuffed note (r % 4))) ≡ true
-        → getD (now next) (r % 4) 0 < 8 * (length (now buffer) / 4))
+        × (j < 4)
+        × (kind ≡ Word → r < row .len)
+        × (getD (now next) j 0 < 65536)
+        × (carried kind (actionOf row (stuffed preceding j) (stuffed note j)) ≡ true → getD (now next) j 0 < 8 * (length (now buffer) / 4))
         ⌝ }
     ensures { λ d. ⌜
-        Placed row note (actionOf row (stuffed preceding (r % 4)) (stuffed note (r % 4))) set r (now (buffer .entry)) (now (next .entry)) d (now (next .exit))
+        Placed row note (actionOf row (stuffed preceding j) (stuffed note j)) kind j r (now (buffer .entry)) (now (next .entry)) d (now (next .exit))
         ⌝ }
 {
-    let j = r % 4;
-    let kind = places::kind_of(
-        row,
-        At {
-            frame: 0,
-            set,
-            place: r,
-        },
-    );
     if order::carries_digit(row, kind, preceding, note, j) {
         let q = buffer.len() / 4;
         let a = j * q;
@@ -118,7 +113,94 @@ fn wide(d: u8) -> u64
     d as u64
 }
 
-// The head of a set of frame f, place by place, put out as one number.
+// The column of the first set's head from place r on, place by place: none of them carries a digit.
+fn first_column(row: Row, note: u8, r: usize) -> u64
+    requires { ⌜ Shared row × (r + 4 ≤ row .first) ⌝ }
+    ensures { λ w. ⌜ ((acts : ℕ → Action) (buffer next : List ℕ) → PlacedTo row note acts 0 r buffer next 4 w next) ⌝ }
+{
+    let mut word: u64 = 0;
+    let mut j: usize = 0;
+    while j < 4 {
+        let place = r + j;
+        let kind = places::kind_of(
+            row,
+            At {
+                frame: 0,
+                set: 0,
+                place,
+            },
+        );
+        word = word * 2 + wide(idle_digit(row, kind, note, j, place));
+        j += 1;
+    }
+    word
+}
+
+// The column of a later set's head from place r on: what its first place is, the others are.
+fn later_column(
+    row: Row,
+    buffer: &[u8],
+    next: &mut [usize; 4],
+    preceding: u64,
+    note: u8,
+    set: usize,
+    r: usize,
+) -> u64
+    requires { ⌜
+        Shared row
+        × (length (now buffer) ≡ 4 * (length (now buffer) / 4))
+        × (length (now next) ≡ 4)
+        × (0 < set)
+        × (r % 4 ≡ 0)
+        × (r < 65536)
+        × Rely row (λ (j : ℕ). actionOf row (stuffed preceding j) (stuffed note j)) set r (length (now buffer) / 4) (now next)
+        ⌝ }
+    ensures { λ w. ⌜ PlacedTo row note (λ (j : ℕ). actionOf row (stuffed preceding j) (stuffed note j)) set r (now (buffer .entry)) (now (next .entry)) 4 w (now (next .exit)) ⌝ }
+{
+    let kind = places::kind_of(
+        row,
+        At {
+            frame: 0,
+            set,
+            place: r,
+        },
+    );
+    let mut word: u64 = 0;
+    let mut j: usize = 0;
+    while j < 4 {
+        word = word * 2 + wide(place_digit(row, kind, buffer, next, preceding, note, j, r + j));
+        j += 1;
+    }
+    word
+}
+
+// The column of a set's head from place r on, as a number.
+fn head_column(
+    row: Row,
+    buffer: &[u8],
+    next: &mut [usize; 4],
+    preceding: u64,
+    note: u8,
+    set: usize,
+    r: usize,
+) -> u64
+    requires { ⌜
+        Shared row
+        × (length (now buffer) ≡ 4 * (length (now buffer) / 4))
+        × (length (now next) ≡ 4)
+        × (r % 4 ≡ 0)
+        × (r < headEnd row set)
+        × Rely row (λ (j : ℕ). actionOf row (stuffed preceding j) (stuffed note j)) set r (length (now buffer) / 4) (now next)
+        ⌝ }
+    ensures { λ w. ⌜ PlacedTo row note (λ (j : ℕ). actionOf row (stuffed preceding j) (stuffed note j)) set r (now (buffer .entry)) (now (next .entry)) 4 w (now (next .exit)) ⌝ }
+{
+    if set == 0 {
+        return first_column(row, note, r);
+    }
+    later_column(row, buffer, next, preceding, note, set, r)
+}
+
+// The head of a set of frame f, column by column, put out as one number.
 fn send_head(
     row: Row,
     earlier: u64,
@@ -147,8 +229,8 @@ fn send_head(
     let mut word: u64 = 0;
     let mut r: usize = 0;
     while r < end {
-        word = word * 2 + wide(place_digit(row, buffer, next, preceding, note, set, r));
-        r += 1;
+        word = word * 16 + head_column(row, buffer, next, preceding, note, set, r);
+        r += 4;
     }
     words::put(line, w, word, end)
 }

@@ -10,7 +10,9 @@ use Rattle.digits.specs.Digits.{Binary, windowAt, written}
 use Rattle.digits.proofs.Lists.{of-four}
 use Rattle.digits.proofs.Written.{written-cat, low-digit}
 use Rattle.digits.proofs.Windows.{window-lt, window-first, window-last}
+use Rattle.unweave.specs.declared.Columns.{Columns}
 use Rattle.unweave.specs.Lanes.{laneOf, lanesOf, picked}
+use Rattle.unweave.specs.Quarters.{numberOf, Numbered}
 
 pub lane-lt : (k x j : ℕ) → laneOf k x j < 2 ^ k
 unfolding laneOf
@@ -173,3 +175,40 @@ pub few-lane-is : (ds : List ℕ) → Binary ds → (p n j x g v : ℕ) → n �
     → (written n v ≡ picked n ds (p + j)) × (v < 2 ^ n)
 few-lane-is ds bin p n j x g v few jh ex eg ev =
     rw (ev, eg, lane-at x j jh, ex) (few-picked ds bin p n j few jh, few-lane ds bin p n j few)
+
+-- ---- columns as four numbers, by the lanes of a word
+
+module _ (ds : List ℕ) (bin : Binary ds) (p : ℕ) (r : Columns) where
+  pub numbered-none : r ≡ record { a = 0; b = 0; c = 0; d = 0 } → Numbered ds p 0 r
+  unfolding picked written
+  numbered-none e =
+      rw e
+      (record {
+        below = of-four (λ (j : ℕ). numberOf (record { a = 0; b = 0; c = 0; d = 0 }) j < 2 ^ 0) (omega arith) (omega arith) (omega arith) (omega arith);
+        digits = λ j h. refl;
+      })
+
+  module _ (g : ℕ) where
+    pub numbered-few : (n x : ℕ) → n ≤ 8 → x ≡ windowAt ds p (4 * n) → g ≡ lanesOf 8 x → ((j : ℕ) → j < 4 → numberOf r j ≡ g / 2 ^ (16 * j) % 2 ^ 16) → Numbered ds p n r
+    numbered-few n x few ex eg lanes =
+        record {
+          below = λ j h. few-lane-is ds bin p n j x g (numberOf r j) few h ex eg (lanes j h) .1;
+          digits = λ j h. few-lane-is ds bin p n j x g (numberOf r j) few h ex eg (lanes j h) .0;
+        }
+
+    -- eight columns more
+    pub numbered-more : (x start k : ℕ) (before : Columns) → x ≡ windowAt ds p 32 → g ≡ lanesOf 8 x
+        → ((j : ℕ) → j < 4 → numberOf r j ≡ numberOf before j * 256 + g / 2 ^ (16 * j) % 2 ^ 16) → p ≡ start + 4 * k → Numbered ds start k before
+        → Numbered ds start (k + 8) r
+    numbered-more x start k before ex eg lanes at so-far =
+        record {
+          below = λ j h. rw (pow-add 2 k 8) (omega (arith, so-far .below j h, lanes j h, eight j h .1));
+          digits = λ j h.
+              let there : p + j ≡ start + j + 4 * k = omega arith in
+              rw (lanes j h)
+              (written-cat k 8 (numberOf before j) (g / 2 ^ (16 * j) % 2 ^ 16) (eight j h .1)
+              ∙ rw (so-far .digits j h, eight j h .0, there) (sym (picked-cat ds (start + j) k 8)));
+        }
+      where
+        eight : (j : ℕ) → j < 4 → (written 8 (g / 2 ^ (16 * j) % 2 ^ 16) ≡ picked 8 ds (p + j)) × (g / 2 ^ (16 * j) % 2 ^ 16 < 2 ^ 8)
+        eight j h = few-lane-is ds bin p 8 j x g (g / 2 ^ (16 * j) % 2 ^ 16) (omega arith) h ex eg refl

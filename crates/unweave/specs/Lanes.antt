@@ -9,8 +9,9 @@ use Rattle.table.specs.declared.Row.{Row}
 use Rattle.levels.specs.declared.order.Action.{Action}
 use Rattle.levels.specs.declared.places.Sign.{Sign}
 use Rattle.levels.specs.declared.places.Sign.the-variants.{Negative, Positive}
+use Rattle.levels.specs.declared.places.Kind.{Kind}
 use Rattle.levels.specs.declared.places.Kind.the-variants.{Justification}
-use Rattle.levels.specs.Places.{headEnd}
+use Rattle.levels.specs.Places.{kindOf, headEnd}
 use Rattle.levels.specs.Order.{stuffed, hasNegative, actionOf, carried}
 
 -- every fourth digit from place p on, k of them
@@ -30,9 +31,18 @@ actsBy row preceding note j = actionOf row (stuffed preceding j) (stuffed note j
 abbrev pub columnDigits : List ℕ → ℕ → Bool → ℕ → List ℕ
 columnDigits ds p carries j = cond carries (getD ds (p + j) 0 ∷ []) []
 
--- so the justification column of a sign, in a frame that acts so for each tributary
+-- so the column whose places are of a kind, in a frame that acts so for each tributary; and the justification column of a sign
+abbrev pub kindDigits : List ℕ → ℕ → Kind → (ℕ → Action) → ℕ → List ℕ
+kindDigits ds p kind acts j = columnDigits ds p (carried kind (acts j)) j
+
 abbrev pub justificationDigits : List ℕ → ℕ → Sign → (ℕ → Action) → ℕ → List ℕ
-justificationDigits ds p sign acts j = columnDigits ds p (carried (Justification sign) (acts j)) j
+justificationDigits ds p sign acts j = kindDigits ds p (Justification sign) acts j
+
+-- k columns behind the control digits of set s, from place p on, each by what its places are
+unfoldable pub headTo : Row → List ℕ → ℕ → ℕ → (ℕ → Action) → ℕ → ℕ → List ℕ
+headTo row ds p s acts zero j = []
+headTo row ds p s acts (suc k) j =
+    headTo row ds p s acts k j ++ kindDigits ds (p + (4 + 4 * k)) (kindOf row s (4 + 4 * k)) acts j
 
 -- that of the negative places, where the level has them: they come next to the control digits
 abbrev pub negativeDigits : Row → List ℕ → ℕ → (ℕ → Action) → ℕ → List ℕ

@@ -4,10 +4,12 @@ use mathlib.Core.Logic.{_≢_}
 use mathlib.Core.List.{List, _++_}
 use Prim.Native.Nat.{ℕ, zero, suc, _+_, _*_, _^_, _<_, _≤_}
 use lib.ListN.{length, take, drop}
+use Rattle.digits.specs.Digits.{written}
 use Rattle.words.specs.declared.Writer.{Writer}
 use Rattle.words.specs.Words.{Ready, outFrom}
 use Rattle.unweave.specs.declared.Writers.{Writers}
 use Rattle.unweave.specs.declared.Columns.{Columns}
+use Rattle.unweave.specs.Lanes.{runDigits}
 
 -- quarter j (from 0) of a buffer, of q bytes
 abbrev pub partOf : ℕ → List ℕ → ℕ → List ℕ
@@ -29,6 +31,11 @@ numberOf x (suc (suc (suc j))) = x .d
 
 abbrev pub Below : ℕ → Columns → Type 0
 Below n x = (j : ℕ) → j < 4 → numberOf x j < 2 ^ n
+
+-- the four numbers are each tributary's digits of n columns from place p on
+pub record Numbered (ds : List ℕ) (p n : ℕ) (x : Columns) : Type 0 where
+  pub below : Below n x
+  pub digits : (j : ℕ) → j < 4 → written n (numberOf x j) ≡ runDigits ds p n j
 
 -- a writer in a quarter of q bytes, with room for n digits more
 pub record Within (q n : ℕ) (w : Writer) : Type 0 where

@@ -5,9 +5,10 @@ pub mod sorting;
 use levels::lent;
 use levels::order;
 use levels::places;
+use levels::places::At;
 use levels::places::FramePlace;
 use levels::places::Kind;
-use levels::places::Sign;
+use table::CONTROL_END;
 use table::Row;
 use words::Writer;
 ghost use mathlib.Core.Path.{_≡_};
@@ -15,8 +16,8 @@ ghost use Prim.Native.Nat.{ℕ, _+_, _*_, _-_, _/_, _%_, _^_, _<_, _≤_};
 ghost use lib.ListN.{length};
 ghost use Rattle.digits.specs.Digits.{digitsOf, tab, written};
 ghost use Rattle.levels.specs.Table.{Shared};
-ghost use Rattle.unweave.specs.Lanes.{lanesOf, runDigits, actsBy, columnDigits, justificationDigits, negativeDigits, headDigits, setDigits};
-ghost use Rattle.unweave.specs.Quarters.{writerOf, numberOf, Below, Within, Roomy, Put, Grown};
+ghost use Rattle.unweave.specs.Lanes.{lanesOf, runDigits, actsBy, columnDigits, kindDigits, headDigits, setDigits};
+ghost use Rattle.unweave.specs.Quarters.{writerOf, numberOf, Below, Numbered, Within, Roomy, Put, Grown};
 
 // The tributaries' writers, in order.
 pub struct Writers {
@@ -60,32 +61,57 @@ fn put_four(buffer: &mut [u8], q: usize, w: Writers, x: Columns, n: usize) -> Wr
     Writers { a, b, c, d }
 }
 
-// Up to eight columns from place p of the line on.
-fn receive_few(
-    table: &[u64; 256],
-    line: &[u8],
-    p: usize,
-    buffer: &mut [u8],
-    q: usize,
-    w: Writers,
-    n: usize,
-) -> Writers
-    requires { ⌜
-        (now table ≡ tab 256 0 (lanesOf 2))
-        × (p + 4 * n ≤ 8 * length (now line))
-        × (0 < n)
-        × (n ≤ 8)
-        × (4 * q ≤ length (now buffer))
-        × Roomy q (λ (j : ℕ). n) w
-        ⌝ }
-    ensures { λ r. ⌜ Grown q (now (buffer .entry)) (now (buffer .exit)) w r (runDigits (digitsOf (now (line .entry))) p n) ⌝ }
+// Up to eight columns from place p of the line on, each tributary's digits as a number.
+fn few_columns(table: &[u64; 256], line: &[u8], p: usize, n: usize) -> Columns
+    requires { ⌜ (now table ≡ tab 256 0 (lanesOf 2)) × (p + 4 * n ≤ 8 * length (now line)) × (n ≤ 8) ⌝ }
+    ensures { λ r. ⌜ Numbered (digitsOf (now (line .entry))) p n r ⌝ }
 {
+    if n == 0 {
+        return Columns {
+            a: 0,
+            b: 0,
+            c: 0,
+            d: 0,
+        };
+    }
     let g = sorting::gather(table, words::read_digits(line, p, 4 * n));
     let a = sorting::lane(g, 0);
     let b = sorting::lane(g, 1);
     let c = sorting::lane(g, 2);
     let d = sorting::lane(g, 3);
-    put_four(buffer, q, w, Columns { a, b, c, d }, n)
+    Columns { a, b, c, d }
+}
+
+// Eight columns more, from place p of the line on.
+fn eight_more(table: &[u64; 256], line: &[u8], p: usize, x: Columns) -> Columns
+    requires { ⌜ (now table ≡ tab 256 0 (lanesOf 2)) × (p + 32 ≤ 8 * length (now line)) × Below 24 x ⌝ }
+    ensures { λ r. ⌜ ((start k : ℕ) → p ≡ start + 4 * k → Numbered (digitsOf (now (line .entry))) start k x → Numbered (digitsOf (now (line .entry))) start (k + 8) r) ⌝ }
+{
+    let g = sorting::gather(table, words::read_digits(line, p, 32));
+    let a = x.a * 256 + sorting::lane(g, 0);
+    let b = x.b * 256 + sorting::lane(g, 1);
+    let c = x.c * 256 + sorting::lane(g, 2);
+    let d = x.d * 256 + sorting::lane(g, 3);
+    Columns { a, b, c, d }
+}
+
+// Up to 32 columns from place p of the line on: the first few, so that the others are eights.
+fn rest_columns(table: &[u64; 256], line: &[u8], p: usize, n: usize) -> Columns
+    requires { ⌜
+        (now table ≡ tab 256 0 (lanesOf 2))
+        × (p + 4 * n ≤ 8 * length (now line))
+        × (p + 4 * n < 2 ^ 31)
+        × (n ≤ 32)
+        ⌝ }
+    ensures { λ r. ⌜ Numbered (digitsOf (now (line .entry))) p n r ⌝ }
+{
+    let mut k = n % 8;
+    let mut x = few_columns(table, line, p, k);
+    while k < n {
+        x = eight_more(table, line, p + 4 * k, x);
+        k += 8;
+    }
+    x
 }
 
 // 32 columns from place p of the line on.
@@ -147,14 +173,14 @@ fn receive_wide(
     w
 }
 
-// Any number of columns from place p of the line on, eight at a time.
+// Up to 32 columns from place p of the line on, put out together: a writer's turn costs as much for a few digits as for many.
 fn receive_narrow(
     table: &[u64; 256],
     line: &[u8],
     p: usize,
     buffer: &mut [u8],
     q: usize,
-    w0: Writers,
+    w: Writers,
     columns: usize,
 ) -> Writers
     requires { ⌜
@@ -162,18 +188,13 @@ fn receive_narrow(
         × (p + 4 * columns ≤ 8 * length (now line))
         × (p + 4 * columns < 2 ^ 31)
         × (4 * q ≤ length (now buffer))
-        × Roomy q (λ (j : ℕ). columns) w0
+        × (columns ≤ 32)
+        × Roomy q (λ (j : ℕ). columns) w
         ⌝ }
-    ensures { λ r. ⌜ Grown q (now (buffer .entry)) (now (buffer .exit)) w0 r (runDigits (digitsOf (now (line .entry))) p columns) ⌝ }
+    ensures { λ r. ⌜ Grown q (now (buffer .entry)) (now (buffer .exit)) w r (runDigits (digitsOf (now (line .entry))) p columns) ⌝ }
 {
-    let mut w = w0;
-    let mut k: usize = 0;
-    while k < columns {
-        let n = words::at_most(columns - k, 8);
-        w = receive_few(table, line, p + 4 * k, buffer, q, w, n);
-        k += n;
-    }
-    w
+    let x = rest_columns(table, line, p, columns);
+    put_four(buffer, q, w, x, columns)
 }
 
 // The columns between two heads, from place p of the line on: each tributary is handed every fourth digit.
@@ -227,12 +248,12 @@ fn receive_place(
     w
 }
 
-// The justification column of a sign, from place p of the line on, of a frame with this note after one with the preceding note.
-fn receive_justification(
+// The column of a head from place p of the line on, its places of this kind, of a frame with this note after one with the preceding note.
+fn receive_column(
     row: Row,
     line: &[u8],
     p: usize,
-    sign: Sign,
+    kind: Kind,
     preceding: u64,
     note: u8,
     buffer: &mut [u8],
@@ -243,13 +264,12 @@ fn receive_justification(
         (p + 4 ≤ 8 * length (now line))
         × (p < 2 ^ 31)
         × (4 * q ≤ length (now buffer))
-        × Roomy q (λ (j : ℕ). length (justificationDigits (digitsOf (now line)) p sign (actsBy row preceding note) j)) w
+        × Roomy q (λ (j : ℕ). length (kindDigits (digitsOf (now line)) p kind (actsBy row preceding note) j)) w
         ⌝ }
     ensures { λ r. ⌜
-        Grown q (now (buffer .entry)) (now (buffer .exit)) w r (justificationDigits (digitsOf (now (line .entry))) p sign (actsBy row preceding note))
+        Grown q (now (buffer .entry)) (now (buffer .exit)) w r (kindDigits (digitsOf (now (line .entry))) p kind (actsBy row preceding note))
         ⌝ }
 {
-    let kind = Kind::Justification(sign);
     let a0 = w.a;
     let b0 = w.b;
     let c0 = w.c;
@@ -265,44 +285,8 @@ fn receive_justification(
     Writers { a, b, c, d }
 }
 
-// The negative places of the last set, which begins at place p of the line: a level that has none hands nothing out.
-fn receive_negative(
-    row: Row,
-    line: &[u8],
-    p: usize,
-    preceding: u64,
-    note: u8,
-    buffer: &mut [u8],
-    q: usize,
-    w: Writers,
-) -> Writers
-    requires { ⌜
-        (p + 8 ≤ 8 * length (now line))
-        × (p < 2 ^ 30)
-        × (4 * q ≤ length (now buffer))
-        × Roomy q (λ (j : ℕ). length (negativeDigits row (digitsOf (now line)) p (actsBy row preceding note) j)) w
-        ⌝ }
-    ensures { λ r. ⌜
-        Grown q (now (buffer .entry)) (now (buffer .exit)) w r (negativeDigits row (digitsOf (now (line .entry))) p (actsBy row preceding note))
-        ⌝ }
-{
-    if order::has_negative(row) {
-        return receive_justification(
-            row,
-            line,
-            p + 4,
-            Sign::Negative,
-            preceding,
-            note,
-            buffer,
-            q,
-            w,
-        );
-    }
-    w
-}
-
-// The head of set s, from place p of the line on: that of the last set ends with the negative places, then the positive ones.
+// The head of set s, from place p of the line on: of the last set's, the columns behind the control digits, each by what its places are, so that the
+// negative places come before the positive ones. One call hands out either, so that the writers stay where the compiler has them.
 fn receive_head(
     row: Row,
     line: &[u8],
@@ -312,25 +296,37 @@ fn receive_head(
     note: u8,
     buffer: &mut [u8],
     q: usize,
-    w: Writers,
+    w0: Writers,
 ) -> Writers
     requires { ⌜
         Shared row
         × (p + row .set ≤ 8 * length (now line))
         × (p < 2 ^ 30)
         × (4 * q ≤ length (now buffer))
-        × Roomy q (λ (j : ℕ). length (headDigits row (digitsOf (now line)) p s (actsBy row preceding note) j)) w
+        × Roomy q (λ (j : ℕ). length (headDigits row (digitsOf (now line)) p s (actsBy row preceding note) j)) w0
         ⌝ }
     ensures { λ r. ⌜
-        Grown q (now (buffer .entry)) (now (buffer .exit)) w r (headDigits row (digitsOf (now (line .entry))) p s (actsBy row preceding note))
+        Grown q (now (buffer .entry)) (now (buffer .exit)) w0 r (headDigits row (digitsOf (now (line .entry))) p s (actsBy row preceding note))
         ⌝ }
 {
     if s != row.sets - 1 {
-        return w;
+        return w0;
     }
-    let v = receive_negative(row, line, p, preceding, note, buffer, q, w);
-    let at = p + (row.last - 4);
-    receive_justification(row, line, at, Sign::Positive, preceding, note, buffer, q, v)
+    let mut w = w0;
+    let mut r: usize = CONTROL_END + 1;
+    while r < row.last {
+        let kind = places::kind_of(
+            row,
+            At {
+                frame: 0,
+                set: s,
+                place: r,
+            },
+        );
+        w = receive_column(row, line, p + r, kind, preceding, note, buffer, q, w);
+        r += 4;
+    }
+    w
 }
 
 // Set s, from place p of the line on, of a frame with this note after one with the preceding note: its head, then its run, up to the next head.

@@ -130,36 +130,34 @@ fn send_many(
     send_eight(table, line, w3, x, y, z, t, 0)
 }
 
-// Up to eight columns.
-fn send_few(
+// Up to eight columns: from those digits of each tributary that are worth 2 to the k and more, no more of them than columns.
+fn send_first(
     table: &[u64; 256],
     line: &mut [u8],
-    a: &[u8],
-    b: &[u8],
-    c: &[u8],
-    d: &[u8],
     w: Writer,
-    i: Next,
+    a: u64,
+    b: u64,
+    c: u64,
+    d: u64,
+    k: usize,
     n: usize,
 ) -> Writer
     requires { ⌜
         (now table ≡ tab 256 0 (spreadOf 8))
         × Ready (w .fill) (w .held)
         × (8 * w .at + (w .fill + 4 * n) ≤ 8 * length (now line))
-        × (0 < n)
+        × (k < 64)
         × (n ≤ 8)
-        × Has (now a) (now b) (now c) (now d) i n
+        × (a / 2 ^ k < 2 ^ n)
+        × (b / 2 ^ k < 2 ^ n)
+        × (c / 2 ^ k < 2 ^ n)
+        × (d / 2 ^ k < 2 ^ n)
         ⌝ }
     ensures { λ r. ⌜
-        Appended (now (line .entry)) (now (line .exit)) w r (4 * n)
-        (woven n (digitsOf (now (a .entry))) (digitsOf (now (b .entry))) (digitsOf (now (c .entry))) (digitsOf (now (d .entry))) i)
+        Appended (now (line .entry)) (now (line .exit)) w r (4 * n) (written (4 * n) (weaveOf (a / 2 ^ k) (b / 2 ^ k) (c / 2 ^ k) (d / 2 ^ k)))
         ⌝ }
 {
-    let x = words::read_digits(a, i.a, n);
-    let y = words::read_digits(b, i.b, n);
-    let z = words::read_digits(c, i.c, n);
-    let t = words::read_digits(d, i.d, n);
-    words::put(line, w, weave(table, x, y, z, t), 4 * n)
+    words::put(line, w, weave(table, a >> k, b >> k, c >> k, d >> k), 4 * n)
 }
 
 // Columns by 32, as many as they make whole.
@@ -195,7 +193,7 @@ fn send_wide(
     w
 }
 
-// Columns by eight, and the last few.
+// Up to 32 columns: the digits of each tributary are read once, then the first few columns are sent, so that the others are eights.
 fn send_narrow(
     table: &[u64; 256],
     line: &mut [u8],
@@ -211,6 +209,7 @@ fn send_narrow(
         (now table ≡ tab 256 0 (spreadOf 8))
         × Ready (w0 .fill) (w0 .held)
         × (8 * w0 .at + (w0 .fill + 4 * columns) ≤ 8 * length (now line))
+        × (columns ≤ 32)
         × Has (now a) (now b) (now c) (now d) i columns
         ⌝ }
     ensures { λ r. ⌜
@@ -218,12 +217,19 @@ fn send_narrow(
         (woven columns (digitsOf (now (a .entry))) (digitsOf (now (b .entry))) (digitsOf (now (c .entry))) (digitsOf (now (d .entry))) i)
         ⌝ }
 {
-    let mut w = w0;
-    let mut k: usize = 0;
-    while k < columns {
-        let n = words::at_most(columns - k, 8);
-        w = send_few(table, line, a, b, c, d, w, moved_on(i, k), n);
-        k += n;
+    if columns == 0 {
+        return w0;
+    }
+    let x = words::read_digits(a, i.a, columns);
+    let y = words::read_digits(b, i.b, columns);
+    let z = words::read_digits(c, i.c, columns);
+    let t = words::read_digits(d, i.d, columns);
+    let first = columns % 8;
+    let mut k = columns - first;
+    let mut w = send_first(table, line, w0, x, y, z, t, k, first);
+    while 0 < k {
+        k -= 8;
+        w = send_eight(table, line, w, x, y, z, t, k);
     }
     w
 }

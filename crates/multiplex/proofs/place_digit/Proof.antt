@@ -1,77 +1,62 @@
 -- `place_digit`: the two ways of one place, by the laws of Placing.
-use mathlib.Core.Path.{_≡_, refl, sym, _∙_, ap}
-use mathlib.Core.Bool.{Bool}
-use Prim.Native.Nat.{_%_}
+use mathlib.Core.Path.{refl, sym, _∙_, ap}
 use native.Mathlib.Omega.{arith}
 use borrow.Author.Needs.{needs}
 use lib.ListN.{length}
-use Rattle.levels.specs.declared.order.Action.{Action}
-use Rattle.levels.specs.declared.places.Kind.{Kind}
-use Rattle.levels.specs.Order.{carried}
 use Rattle.levels.proofs.Buffers.{quarter-in, quarter-part, quarter-length}
-use Rattle.multiplex.proofs.Own.{word-within}
 use Rattle.multiplex.proofs.Placing.{placed-carried, placed-idle}
 use Rattle.multiplex.proofs.place_digit.Statement.{statement}
 use Rattle.multiplex.proofs.place_digit.Tie as tie
 
--- whether the place carries, by its kind as it was found and by what was answered of that
-answered : (act : Action) {k k′ : Kind} {b t : Bool} → k ≡ k′ → b ≡ carried k act → b ≡ t → carried k′ act ≡ t
-answered act ek eb et = ap (λ (k : Kind). carried k act) (sym ek) ∙ sym eb ∙ et
-
 mul-a : tie.Need-mul-a
 mul-a c =
-    let b = c .before .before .before .before .args in
-    omega (arith, quarter-in (b .r % 4) (length (b .buffer .now)) (omega arith))
+    let c3 = c .before .before .before in
+    omega (arith, quarter-in (c3 .args .j) (length (c3 .args .buffer .now)) (c3 .pre .3))
 
 add-e : tie.Need-add-e
 add-e c =
-    let b = c .before .before .before .before .args in
-    omega (arith, quarter-in (b .r % 4) (length (b .buffer .now)) (omega arith))
+    let c3 = c .before .before .before in
+    omega (arith, quarter-in (c3 .args .j) (length (c3 .args .buffer .now)) (c3 .pre .3))
 
 part-tributary-digit-end : tie.Need-part-tributary-digit-end
 part-tributary-digit-end c =
-    let b = c .before .before .before .before .before .args in
-    omega (arith, quarter-in (b .r % 4) (length (b .buffer .now)) (omega arith))
+    let c4 = c .before .before .before .before in
+    omega (arith, quarter-in (c4 .args .j) (length (c4 .args .buffer .now)) (c4 .pre .3))
 
 tributary-digit-requires : tie.Need-tributary-digit-requires
 tributary-digit-requires c κs =
-    let pre = c .before .before .before .before .before .before .pre in
-    let kind-of = c .before .before .before .before .kind-of in
-    let carries-digit = c .before .before .before .carries-digit in
-    let if1 = c .before .before .if1 in
-    let b = c .before .before .before .before .before .before .args in
-    let room = pre .4 (answered _ (kind-of .ensures) (carries-digit .ensures) (if1 .taken)) in
-    omega (arith, room, ap length (quarter-part (b .buffer .now) (b .r % 4)), quarter-length (b .buffer .now) (b .r % 4) (omega arith))
+    let c2 = c .before .before in
+    let c3 = c2 .before in
+    let c5 = c3 .before .before in
+    let b = c5 .args in
+    let room = c5 .pre .6 (sym (c3 .carries-digit .ensures) ∙ c2 .if1 .taken) in
+    omega (arith, room, ap length (quarter-part (b .buffer .now) (b .j)), quarter-length (b .buffer .now) (b .j) (c5 .pre .3))
 
 returns : tie.Need-returns
 returns c =
-    let kind-of = c .before .before .before .before .before .kind-of in
-    let carries-digit = c .before .before .before .before .carries-digit in
-    let if1 = c .before .before .before .if1 in
-    let pre = c .before .before .before .before .before .before .before .pre in
-    let b = c .before .before .before .before .before .before .before .args in
-    let carrying = answered _ (kind-of .ensures) (carries-digit .ensures) (if1 .taken) in
+    let c3 = c .before .before .before in
+    let c4 = c3 .before in
+    let c6 = c4 .before .before in
+    let b = c6 .args in
     let d = c .tributary-digit .ensures in
-    placed-carried _ _ _ _ _ (b .buffer .now) (b .next .now) (pre .2) _ _ carrying refl (d .0 ∙ rw (quarter-part (b .buffer .now) (b .r % 4))) (d .1)
+    placed-carried _ _ _ _ _ _ (b .buffer .now) (b .next .now) (c6 .pre .3) (c6 .pre .2) _ _ (sym (c4 .carries-digit .ensures) ∙ c3 .if1 .taken) refl
+    (d .0 ∙ rw (quarter-part (b .buffer .now) (b .j))) (d .1)
 
 idle-digit-requires : tie.Need-idle-digit-requires
 idle-digit-requires c κs =
-    let kind-of = c .before .before .kind-of in
-    let b = c .before .before .before .before .args in
-    (c .before .before .before .before .pre .0, omega arith, λ e. word-within _ (b .set) _ (sym (kind-of .ensures) ∙ e))
+    let c3 = c .before .before .before in
+    (c3 .pre .0, c3 .pre .3, c3 .pre .4)
 
 returns-2 : tie.Need-returns-2
 returns-2 c =
-    let kind-of = c .before .before .before .kind-of in
-    let carries-digit = c .before .before .carries-digit in
-    let if1 = c .before .if1 in
-    let pre = c .before .before .before .before .before .pre in
+    let c1 = c .before in
+    let c2 = c1 .before in
     let d = c .idle-digit .ensures in
-    placed-idle _ _ _ _ _ _ _ (pre .2) _ (answered _ (kind-of .ensures) (carries-digit .ensures) (if1 .left)) (rw (kind-of .ensures) at (d .0)) (d .1)
+    placed-idle _ _ _ _ _ _ _ _ _ (sym (c2 .carries-digit .ensures) ∙ c1 .if1 .left) (d .0) (d .1)
 
 pub place-digit-spec : {M : Type 1} → statement M
 place-digit-spec =
     tie.close
-    (tie.spec (λ c κs. search needs) (λ c κs. search needs) mul-a add-e (λ c. search needs) (λ c. search needs) (λ c. search needs)
+    (tie.spec (λ c κs. search needs) mul-a add-e (λ c. search needs) (λ c. search needs) (λ c. search needs)
     (λ c. search needs) (λ c. search needs) (λ c. search needs) (λ c. search needs) part-tributary-digit-end tributary-digit-requires
     returns idle-digit-requires returns-2)

@@ -1,15 +1,15 @@
--- `send_head`: the places so far as a number (Placing).
+-- `send_head`: the columns so far as a number (Placing).
 use mathlib.Core.Path.{_≡_}
 use mathlib.Core.List.{_∷_}
-use Prim.Native.Nat.{_+_, _*_, _-_, _≤_, _<_}
+use Prim.Native.Nat.{_+_, _*_, _-_, _%_, _≤_, _<_}
 use native.Mathlib.Omega.{arith}
 use borrow.Author.Needs.{needs}
 use lib.ListN.{getD}
 use lib.Pow.{pow-mono}
 use Rattle.words.specs.Words.{outFrom}
 use Rattle.levels.specs.Places.{headEnd}
-use Rattle.levels.proofs.Runs.{head-end-short, head-end-in}
-use Rattle.multiplex.proofs.Placing.{Headed, headed-start, headed-more, sent-place, place-rely}
+use Rattle.levels.proofs.Runs.{head-end-fours, head-end-short, head-end-in}
+use Rattle.multiplex.proofs.Placing.{Headed, headed-start, headed-more, sent-column, column-rely}
 use Rattle.multiplex.proofs.Running.{head-sent, set-in-line}
 use Rattle.multiplex.proofs.send_head.Statement.{statement}
 use Rattle.multiplex.proofs.send_head.Tie as tie
@@ -18,6 +18,7 @@ abbrev Inv-loop : tie.InvT-loop
 Inv-loop row earlier line notes buffer next₀ w f set note preceding end word₀ r₀ next word r =
     (r ≤ end) × (end ≡ headEnd row set) × (note ≡ getD notes f 0) × (preceding ≡ getD (earlier ∷ notes) f 0)
     × Headed row earlier notes buffer (f * row .digits + set * row .set) (outFrom 0 line w) r word next
+    × (r % 4 ≡ 0)
 
 abbrev μ-loop : tie.MeasureT-loop
 μ-loop row earlier line notes buffer next₀ w f set note preceding end word₀ r₀ next word r = end - r
@@ -34,7 +35,7 @@ head-end-requires c κs = c .before .before .before .before .before .pre .3 .fit
 loop-holds : tie.Need-loop-holds Inv-loop μ-loop
 loop-holds c =
     let pre = c .before .before .before .before .before .before .pre in
-    (omega arith, c .head-end .ensures, c .before .before .note-of .ensures, c .before .preceding-of .ensures, headed-start _ _ _ _ _ _ _ (pre .3 .sent))
+    (omega arith, c .head-end .ensures, c .before .before .note-of .ensures, c .before .preceding-of .ensures, headed-start _ _ _ _ _ _ _ (pre .3 .sent), omega arith)
 
 mul-word : tie.Need-mul-word Inv-loop μ-loop
 mul-word c =
@@ -43,54 +44,57 @@ mul-word c =
     let l = c .before .loop in
     omega (arith, l .inv .4 .few, pow-mono {i = l .r} {j = 16} (omega (arith, l .inv .0, l .inv .1, head-end-short _ (pre .3 .fits .shared) (b .set))))
 
-place-digit-requires : tie.Need-place-digit-requires Inv-loop μ-loop
-place-digit-requires c κs =
-    let pre = c .before .before .before .before .before .before .before .before .before .pre in
-    let note-of = c .before .before .before .before .before .note-of in
-    let preceding-of = c .before .before .before .before .preceding-of in
-    let l = c .before .before .loop in
-    let b = c .before .before .before .before .before .before .before .before .before .args in
-    let h = pre .3 in
-    let inside : l .r < b .row .set = omega (arith, c .before .loop-test .taken, l .inv .1, head-end-in _ (h .fits .shared) (b .set)) in
+head-column-requires : tie.Need-head-column-requires Inv-loop μ-loop
+head-column-requires c κs =
+    let c1 = c .before in
+    let c2 = c1 .before in
+    let c9 = c2 .before .before .before .before .before .before .before in
+    let preceding-of = c2 .before .before .preceding-of in
+    let note-of = c2 .before .before .before .note-of in
+    let l = c2 .loop in
+    let b = c9 .args in
+    let h = c9 .pre .3 in
+    let inside : l .r < b .row .set = omega (arith, c1 .loop-test .taken, l .inv .1, head-end-in _ (h .fits .shared) (b .set)) in
     let rely =
-    place-rely (b .row) (h .fits .shared) (b .f) (b .set) (l .r) (b .f * b .row .digits + b .set * b .row .set + l .r) (omega arith) (pre .1) inside
-    (b .earlier) (b .notes .now) (preceding-of .result) (note-of .result) (l .inv .3) (l .inv .2) _ _ (h .fits) (pre .0) (b .buffer .now) (l .next) _ (l .inv .4 .sent) in
-    (h .fits .shared, pre .2, l .inv .4 .sent .four, rely .0, rely .1)
+    column-rely (b .row) (h .fits .shared) (b .f) (b .set) (l .r) (b .f * b .row .digits + b .set * b .row .set + l .r) (omega arith) (c9 .pre .1) (l .inv .5) inside
+    (b .earlier) (b .notes .now) (preceding-of .result) (note-of .result) (l .inv .3) (l .inv .2) _ _ (h .fits) (c9 .pre .0) (b .buffer .now) (l .next) _
+    (l .inv .4 .sent) in
+    (h .fits .shared, c9 .pre .2, l .inv .4 .sent .four, l .inv .5, omega (arith, c1 .loop-test .taken, l .inv .1), rely)
 
 add-word : tie.Need-add-word Inv-loop μ-loop
 add-word c =
-    let pre = c .before .before .before .before .before .before .before .before .before .before .before .pre in
-    let b = c .before .before .before .before .before .before .before .before .before .before .before .args in
-    let l = c .before .before .before .before .loop in
+    let pre = c .before .before .before .before .before .before .before .before .before .before .pre in
+    let b = c .before .before .before .before .before .before .before .before .before .before .args in
+    let l = c .before .before .before .loop in
     let short = head-end-short _ (pre .3 .fits .shared) (b .set) in
-    omega (arith, l .inv .4 .few, c .wide .ensures, c .before .place-digit .ensures .binary, pow-mono {i = l .r} {j = 16} (omega (arith, l .inv .0, l .inv .1, short)))
+    omega (arith, l .inv .4 .few, c .head-column .ensures .few, pow-mono {i = l .r} {j = 16} (omega (arith, l .inv .0, l .inv .1, short)))
 
 add-r : tie.Need-add-r Inv-loop μ-loop
 add-r c =
-    let test = c .before .before .before .loop-test in
-    let l = c .before .before .before .before .loop in
-    let pre = c .before .before .before .before .before .before .before .before .before .before .before .pre in
-    let b = c .before .before .before .before .before .before .before .before .before .before .before .args in
-    omega (arith, test .taken, l .inv .1, head-end-short _ (pre .3 .fits .shared) (b .set))
+    let pre = c .before .before .before .before .before .before .before .before .before .before .pre in
+    let b = c .before .before .before .before .before .before .before .before .before .before .args in
+    let l = c .before .before .before .loop in
+    omega (arith, c .before .before .loop-test .taken, l .inv .1, head-end-short _ (pre .3 .fits .shared) (b .set))
 
 loop-less : tie.Need-loop-less Inv-loop μ-loop
-loop-less c = omega (arith, c .before .before .before .loop-test .taken)
+loop-less c = omega (arith, c .before .before .loop-test .taken)
 
 loop-again : tie.Need-loop-again Inv-loop μ-loop
 loop-again c =
-    let pre = c .before .before .before .before .before .before .before .before .before .before .before .pre in
-    let test = c .before .before .before .loop-test in
-    let note-of = c .before .before .before .before .before .before .before .note-of in
-    let preceding-of = c .before .before .before .before .before .before .preceding-of in
-    let l = c .before .before .before .before .loop in
-    let b = c .before .before .before .before .before .before .before .before .before .before .before .args in
-    let h = pre .3 in
-    let inside : l .r < b .row .set = omega (arith, test .taken, l .inv .1, head-end-in _ (h .fits .shared) (b .set)) in
+    let c2 = c .before .before in
+    let c3 = c2 .before in
+    let c10 = c3 .before .before .before .before .before .before .before in
+    let preceding-of = c3 .before .before .preceding-of in
+    let note-of = c3 .before .before .before .note-of in
+    let l = c3 .loop in
+    let b = c10 .args in
+    let h = c10 .pre .3 in
+    let inside : l .r < b .row .set = omega (arith, c2 .loop-test .taken, l .inv .1, head-end-in _ (h .fits .shared) (b .set)) in
     let sent =
-    sent-place (b .row) (h .fits .shared) (b .f) (b .set) (l .r) (b .f * b .row .digits + b .set * b .row .set + l .r) (omega arith) (pre .1) inside
-    (b .earlier) (b .notes .now) (preceding-of .result) (note-of .result) (l .inv .3) (l .inv .2) (b .buffer .now) (l .next) _ _ _ (l .inv .4 .sent) (c .before .place-digit .ensures) in
-    let more = headed-more _ _ _ _ _ _ (l .r) (l .word) _ (l .next) _ (l .inv .4) (c .before .place-digit .ensures .binary) sent in
-    (omega (arith, test .taken), l .inv .1, l .inv .2, l .inv .3, rw (c .wide .ensures) more)
+    sent-column (b .row) (h .fits .shared) (b .f) (b .set) (l .r) (b .f * b .row .digits + b .set * b .row .set + l .r) (omega arith) (c10 .pre .1) (l .inv .5) inside
+    (b .earlier) (b .notes .now) (preceding-of .result) (note-of .result) (l .inv .3) (l .inv .2) (b .buffer .now) (l .next) _ _ _ (l .inv .4 .sent) (c .head-column .ensures) in
+    let more = headed-more _ _ _ _ _ _ (l .r) (l .word) _ (l .next) _ (l .inv .4) (c .head-column .ensures .few) sent in
+    (omega (arith, c2 .loop-test .taken, l .inv .1, l .inv .5, head-end-fours _ (h .fits .shared) (b .set)), l .inv .1, l .inv .2, l .inv .3, more, omega (arith, l .inv .5))
 
 put-requires : tie.Need-put-requires Inv-loop μ-loop
 put-requires c κs =
@@ -121,5 +125,5 @@ returns c =
 pub send-head-spec : {M : Type 1} → statement M
 send-head-spec =
     tie.close
-    (tie.spec Inv-loop μ-loop note-of-requires preceding-of-requires head-end-requires loop-holds mul-word place-digit-requires
-    (λ c κs. search needs) add-word add-r loop-less loop-again put-requires (λ c. search needs) returns)
+    (tie.spec Inv-loop μ-loop note-of-requires preceding-of-requires head-end-requires loop-holds mul-word head-column-requires add-word add-r loop-less
+    loop-again put-requires (λ c. search needs) returns)

@@ -24,6 +24,7 @@ receive-narrow-requires c κs =
       omega (arith, c7 .pre .1),
       omega (arith, c7 .pre .2),
       omega (arith, c7 .pre .3, c3 .receive-wide .kept .1 .1 .1 .0),
+      omega arith,
       roomy-after (λ (j : ℕ). rest) (c3 .receive-wide .ensures) (c7 .pre .4) (λ j h. omega (arith, picked-length many (digitsOf (c7 .args .line .now)) (c7 .args .p + j))),
     )
 

@@ -16,6 +16,7 @@ send-narrow-requires c κs =
       pre .0,
       half .ensures .ready,
       omega (arith, half .ensures .place, half .kept .1 .0, pre .2),
+      omega arith,
       has-on (b .a .now) (b .b .now) (b .c .now) (b .d .now) (b .i) (b .columns) (b .columns - b .columns % 32) (b .columns % 32) _ (pre .3) (omega arith) (c .moved-on .ensures),
     )
 

@@ -1,13 +1,13 @@
--- `receive_justification` hands each tributary one digit, or none by what the frame does for it: `grown`, of four puts in turn.
+-- `receive_column` hands each tributary one digit, or none by what the frame does for it: `grown`, of four puts in turn.
 use mathlib.Core.Path.{_∙_, ap}
 use mathlib.Core.Bool.{Bool}
 use native.Mathlib.Omega.{arith}
 use Rattle.digits.specs.Digits.{digitsOf}
-use Rattle.unweave.specs.Lanes.{actsBy, columnDigits, justificationDigits}
+use Rattle.unweave.specs.Lanes.{actsBy, columnDigits, kindDigits}
 use Rattle.unweave.proofs.Four.{put-as, grown}
 use borrow.Author.Needs.{needs}
-use Rattle.unweave.proofs.receive_justification.Statement.{statement}
-use Rattle.unweave.proofs.receive_justification.Tie as tie
+use Rattle.unweave.proofs.receive_column.Statement.{statement}
+use Rattle.unweave.proofs.receive_column.Tie as tie
 
 receive-place-requires : tie.Need-receive-place-requires
 receive-place-requires c κs =
@@ -70,14 +70,14 @@ returns c =
     let c26 = c19 .before .before .before .before .before .before .before in
     let ds = digitsOf (c26 .args .line .now) in
     let p = c26 .args .p in
-    grown (justificationDigits ds p (c26 .args .sign) (actsBy (c26 .args .row) (c26 .args .preceding) (c26 .args .note)))
+    grown (kindDigits ds p (c26 .args .kind) (actsBy (c26 .args .row) (c26 .args .preceding) (c26 .args .note)))
     (put-as (c14 .receive-place .ensures) (ap (λ (t : Bool). columnDigits ds p t 0) (c19 .carries-digit .ensures)))
     (put-as (c10 .receive-place2 .ensures) (ap (λ (t : Bool). columnDigits ds p t 1) (c18 .carries-digit2 .ensures)))
     (put-as (c6 .receive-place3 .ensures) (ap (λ (t : Bool). columnDigits ds p t 2) (c17 .carries-digit3 .ensures)))
     (put-as (c2 .receive-place4 .ensures) (ap (λ (t : Bool). columnDigits ds p t 3) (c16 .carries-digit4 .ensures)))
 
-pub receive-justification-spec : {M : Type 1} → statement M
-receive-justification-spec =
+pub receive-column-spec : {M : Type 1} → statement M
+receive-column-spec =
     tie.close
     (tie.spec (λ c κs. search needs) (λ c κs. search needs) (λ c κs. search needs) (λ c κs. search needs) receive-place-requires
     receive-place-requires-2 receive-place-requires-3 receive-place-requires-4 same-length returns)

@@ -1,0 +1,26 @@
+-- `head_column`: the first set's place by place, a later set's by what its first place is.
+use native.Mathlib.Omega.{arith}
+use borrow.Author.Needs.{needs}
+use Rattle.levels.specs.Places.{headEnd}
+use Rattle.levels.proofs.Runs.{head-end-short}
+use Rattle.multiplex.proofs.head_column.Statement.{statement}
+use Rattle.multiplex.proofs.head_column.Tie as tie
+
+first-column-requires : tie.Need-first-column-requires
+unfolding headEnd
+first-column-requires c κs =
+    let c2 = c .before .before in
+    (c2 .pre .0, omega (arith, rw (c .if1 .taken) at (c2 .pre .4), c2 .pre .3, c2 .pre .0 .first-fours))
+
+returns : tie.Need-returns
+returns c =
+    let c3 = c .before .before .before in
+    rw (c .before .if1 .taken) (c .first-column .ensures _ (c3 .args .buffer .now) (c3 .args .next .now))
+
+later-column-requires : tie.Need-later-column-requires
+later-column-requires c κs =
+    let c3 = c .before .before .before in
+    (c3 .pre .0, c3 .pre .1, c3 .pre .2, omega (arith, c .before .if1 .left), c3 .pre .3, omega (arith, c3 .pre .4, head-end-short _ (c3 .pre .0) (c3 .args .set)), c3 .pre .5)
+
+pub head-column-spec : {M : Type 1} → statement M
+head-column-spec = tie.close (tie.spec first-column-requires returns later-column-requires (λ c. search needs))
