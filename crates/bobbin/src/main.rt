@@ -1,4 +1,4 @@
-// Spritbobbin on the command line: reads the arguments and hands on to a command. The last line of a refused or failed command begins with
+// The commands on lines and captures: reads the arguments and hands on to a command. The last line of a refused or failed command begins with
 // `refused` or `failed`, which ./spritbobbin turns into an exit status.
 use approving::agree;
 use comparing::compared;
@@ -6,17 +6,11 @@ use console::help;
 use console::words;
 use console::words::LevelAsked;
 use console::words::NO_NOTE;
-use demonstration::demo;
 use finding::find;
-use hunting::hunt;
-use judging::judged;
 use keeping::called;
 use keeping::keep;
 use keeping::opened;
 use levels::judging as refusing;
-use multiframe_picture::picture;
-use multiframes::apart;
-use multiframes::build;
 use noting::extract;
 use noting::notes;
 use pictures::frame;
@@ -43,55 +37,38 @@ const NOTE: usize = 3;
 
 const PICTURE: usize = 4;
 
-// The commands that take further words.
-const FRAME: u8 = 0;
+// The commands by number: the order of their lines in `main`. Those from SHOW on take no level in its place.
+const FRAME: usize = 0;
 
-const SEND: u8 = 1;
+const SEND: usize = 1;
 
-const TAKE: u8 = 2;
+const TAKE: usize = 2;
 
-const FIND: u8 = 3;
+const FIND: usize = 3;
 
-const KEEP: u8 = 4;
+const KEEP: usize = 4;
 
-const NOTES: u8 = 5;
+const NOTES: usize = 5;
 
-const EXTRACT: u8 = 6;
+const EXTRACT: usize = 6;
 
-// Those of the plain engine, and of both.
-const PLAIN_SEND: u8 = 7;
+const PLAIN_SEND: usize = 7;
 
-const PLAIN_TAKE: u8 = 8;
+const PLAIN_TAKE: usize = 8;
 
-const AGREE: u8 = 9;
+const AGREE: usize = 9;
 
-// One tributary of a line, and a worn line.
-const SWAP: u8 = 10;
+const SWAP: usize = 10;
 
-const REPAIR: u8 = 11;
+const REPAIR: usize = 11;
 
-const REPAIR_NATIONAL: u8 = 12;
+const REPAIR_NATIONAL: usize = 12;
 
-// Those that take no level in that place.
-const SHOW: u8 = 13;
+const SHOW: usize = 13;
 
-const WATCH: u8 = 14;
+const WATCH: usize = 14;
 
-const COMPARE: u8 = 15;
-
-// Those of 2048 kbit/s.
-const BUILD: u8 = 16;
-
-const APART: u8 = 17;
-
-const HUNT: u8 = 18;
-
-const MULTIFRAME: u8 = 19;
-
-// The verdict on a recording, which takes a level or a capture.
-const JUDGE: u8 = 20;
-
-const NO_COMMAND: u8 = 21;
+const COMPARE: usize = 15;
 
 // Beside NO_NOTE, where there is none: a word that should be a note and is none.
 const WRONG_NOTE: u16 = 257;
@@ -99,108 +76,65 @@ const WRONG_NOTE: u16 = 257;
 fn main() {
     let mut word = [0u8; 16];
     let n = os::arg(COMMAND, &mut word);
-    command(&word[..n], sizes::minus(os::arg_count(), 1));
+    command(
+        b"frame takes a level, then a note and a file for the picture where wanted.
+send takes a level and three files.
+take takes a level and three files, or without the level a capture and two.
+find takes a level and a file, and a prefix where files are wanted.
+keep takes a level and two files, and a label where wanted.
+notes takes a level and a file, and a file for the notes where wanted.
+extract takes a level and three files.
+plain-send takes a level and three files, as send does.
+plain-take takes a level and three files.
+agree takes a level and a file.
+swap takes a level, a tributary and four files, without the level where the first is a capture.
+repair takes a level and two files, without the level where the first is a capture.
+repair-national takes a level and two files, without the level where the first is a capture.
+show takes a capture, and a file where its line is wanted.
+watch takes a level and a file for each of up to 64 lines.
+compare takes two captures, and a file for the picture where wanted.
+",
+        &word[..n],
+        sizes::minus(os::arg_count(), 1),
+    );
 }
 
 // `last` is the number of the call's last word.
-fn command(word: &[u8], last: usize) {
-    if check::same(word, b"help") {
-        help::forms();
+fn command(lines: &[u8], word: &[u8], last: usize) {
+    let found = commands::named(lines, word);
+    let from = found.from;
+    let to = found.to;
+    counted(found.number, &lines[from..to], last);
+}
+
+// Whether the command has as many words as it takes; if not, its line says what it takes.
+fn counted(which: usize, line: &[u8], last: usize) {
+    if COMPARE < which {
+        commands::missing();
         return;
     }
-    if check::same(word, b"demo") {
-        if last != COMMAND {
-            help::wrong_call(b"demo takes no further word.");
+    if !fits(which, last) {
+        help::wrong_call(line);
+        return;
+    }
+    if which == TAKE || which == PLAIN_TAKE {
+        if words::one_name(sizes::minus(last, 1), last) {
+            help::wrong_call(b"NOTES and TRIBUTARIES are two files: give two names.");
             return;
         }
-        demo::run();
+    }
+    if SHOW <= which {
+        unlevelled(which, last);
         return;
     }
-    let which = which_command(word);
-    if which == NO_COMMAND {
-        help::wrong_call(b"there is no such command, or it is missing.");
+    if captured(which, line, last) {
         return;
     }
-    counted(which, last);
-}
-
-fn which_command(word: &[u8]) -> u8 {
-    if check::same(word, b"frame") {
-        return FRAME;
-    }
-    if check::same(word, b"send") {
-        return SEND;
-    }
-    if check::same(word, b"take") {
-        return TAKE;
-    }
-    if check::same(word, b"find") {
-        return FIND;
-    }
-    if check::same(word, b"keep") {
-        return KEEP;
-    }
-    if check::same(word, b"notes") {
-        return NOTES;
-    }
-    if check::same(word, b"extract") {
-        return EXTRACT;
-    }
-    if check::same(word, b"show") {
-        return SHOW;
-    }
-    if check::same(word, b"watch") {
-        return WATCH;
-    }
-    if check::same(word, b"compare") {
-        return COMPARE;
-    }
-    which_of_plain(word)
-}
-
-fn which_of_plain(word: &[u8]) -> u8 {
-    if check::same(word, b"plain-send") {
-        return PLAIN_SEND;
-    }
-    if check::same(word, b"plain-take") {
-        return PLAIN_TAKE;
-    }
-    if check::same(word, b"agree") {
-        return AGREE;
-    }
-    if check::same(word, b"swap") {
-        return SWAP;
-    }
-    if check::same(word, b"repair") {
-        return REPAIR;
-    }
-    if check::same(word, b"repair-national") {
-        return REPAIR_NATIONAL;
-    }
-    if check::same(word, b"judge") {
-        return JUDGE;
-    }
-    which_of_2048(word)
-}
-
-fn which_of_2048(word: &[u8]) -> u8 {
-    if check::same(word, b"build") {
-        return BUILD;
-    }
-    if check::same(word, b"apart") {
-        return APART;
-    }
-    if check::same(word, b"hunt") {
-        return HUNT;
-    }
-    if check::same(word, b"multiframe") {
-        return MULTIFRAME;
-    }
-    NO_COMMAND
+    levelled(which, last);
 }
 
 // Whether a command may have a last word of this number.
-fn fits(which: u8, last: usize) -> bool {
+fn fits(which: usize, last: usize) -> bool {
     match which {
         FRAME => LEVEL <= last && last <= PICTURE,
         SEND => last == send::LINE,
@@ -216,106 +150,28 @@ fn fits(which: u8, last: usize) -> bool {
         REPAIR | REPAIR_NATIONAL => called::fits(last, repair_line::NEW),
         SHOW => last == opened::CAPTURE || last == opened::LINE,
         WATCH => watch::FIRST < last && last <= watch::LAST && last % 2 == 1,
-        COMPARE => last == compared::OTHER || last == compared::PICTURE,
-        BUILD => last == build::MULTIFRAMES,
-        APART => last == apart::SPARE,
-        HUNT => last == hunt::RECORDING,
-        JUDGE => judged::fits(last),
-        _ => last == COMMAND || last == picture::PICTURE,
+        _ => last == compared::OTHER || last == compared::PICTURE,
     }
-}
-
-fn wrong_words(which: u8) {
-    match which {
-        FRAME => help::wrong_call(
-            b"frame takes a level, then a note and a file for the picture where wanted.",
-        ),
-        SEND => help::wrong_call(b"send takes a level and three files."),
-        TAKE => help::wrong_call(
-            b"take takes a level and three files, or without the level a capture and two.",
-        ),
-        FIND => {
-            help::wrong_call(b"find takes a level and a file, and a prefix where files are wanted.")
-        }
-        KEEP => help::wrong_call(b"keep takes a level and two files, and a label where wanted."),
-        NOTES => help::wrong_call(
-            b"notes takes a level and a file, and a file for the notes where wanted.",
-        ),
-        EXTRACT => help::wrong_call(b"extract takes a level and three files."),
-        SHOW => help::wrong_call(b"show takes a capture, and a file where its line is wanted."),
-        WATCH => help::wrong_call(b"watch takes a level and a file for each of up to 64 lines."),
-        COMPARE => help::wrong_call(
-            b"compare takes two captures, and a file for the picture where wanted.",
-        ),
-        _ => wrong_words_of_plain(which),
-    }
-}
-
-fn wrong_words_of_plain(which: u8) {
-    match which {
-        PLAIN_SEND => help::wrong_call(b"plain-send takes a level and three files, as send does."),
-        PLAIN_TAKE => help::wrong_call(b"plain-take takes a level and three files."),
-        AGREE => help::wrong_call(b"agree takes a level and a file."),
-        SWAP => help::wrong_call(
-            b"swap takes a level, a tributary and four files, without the level where the first is a capture.",
-        ),
-        REPAIR | REPAIR_NATIONAL => help::wrong_call(
-            b"repair and repair-national take a level and two files, without the level where the first is a capture.",
-        ),
-        JUDGE => judged::wrong_words(),
-        _ => wrong_words_of_2048(which),
-    }
-}
-
-fn wrong_words_of_2048(which: u8) {
-    match which {
-        BUILD => help::wrong_call(b"build takes four files."),
-        APART => help::wrong_call(b"apart takes four files."),
-        HUNT => help::wrong_call(b"hunt takes a file."),
-        _ => help::wrong_call(b"multiframe takes a file for the picture where wanted."),
-    }
-}
-
-// Whether the command has as many words as it takes.
-fn counted(which: u8, last: usize) {
-    if !fits(which, last) {
-        wrong_words(which);
-        return;
-    }
-    if which == TAKE || which == PLAIN_TAKE {
-        if words::one_name(sizes::minus(last, 1), last) {
-            help::wrong_call(b"NOTES and TRIBUTARIES are two files: give two names.");
-            return;
-        }
-    }
-    if SHOW <= which {
-        unlevelled(which, last);
-        return;
-    }
-    if captured(which, last) {
-        return;
-    }
-    levelled(which, last);
 }
 
 // Whether a command on a line is called with a capture, and then it is done.
-fn captured(which: u8, last: usize) -> bool {
+fn captured(which: usize, line: &[u8], last: usize) -> bool {
     match which {
-        TAKE => on_capture(which, last, take::TRIBUTARIES),
-        SWAP => on_capture(which, last, swap_line::LAST),
-        REPAIR | REPAIR_NATIONAL => on_capture(which, last, repair_line::NEW),
+        TAKE => on_capture(which, line, last, take::TRIBUTARIES),
+        SWAP => on_capture(which, line, last, swap_line::LAST),
+        REPAIR | REPAIR_NATIONAL => on_capture(which, line, last, repair_line::NEW),
         _ => false,
     }
 }
 
 // A level and a file too few are no capture and files, but a file is missing. A tributary may look like a level.
-fn on_capture(which: u8, last: usize, levelled: usize) -> bool {
+fn on_capture(which: usize, line: &[u8], last: usize, levelled: usize) -> bool {
     let by = called::by(last, levelled);
     if !by.captured {
         return false;
     }
     if by.short && which != SWAP {
-        wrong_words(which);
+        help::wrong_call(line);
         return true;
     }
     match which {
@@ -327,37 +183,12 @@ fn on_capture(which: u8, last: usize, levelled: usize) -> bool {
 }
 
 // The commands that take no level.
-fn unlevelled(which: u8, last: usize) {
+fn unlevelled(which: usize, last: usize) {
     match which {
         SHOW => opened::show(last == opened::LINE),
         WATCH => watch::run(sizes::least(last, watch::LAST)),
-        COMPARE => held(last),
-        BUILD => build::run(),
-        APART => taken_apart(),
-        HUNT => hunt::run(),
-        JUDGE => judged::run(last),
-        _ => multiframe(last),
+        _ => held(last),
     }
-}
-
-fn taken_apart() {
-    if apart::share_a_name() {
-        help::wrong_call(b"CHANNELS, SIGNALLING and SPARE are three files: give three names.");
-        return;
-    }
-    apart::run();
-}
-
-// multiframe [FILE.svg]
-fn multiframe(last: usize) {
-    let mut word = io::buffer();
-    let n = os::arg(last, &mut word);
-    let drawn = last == picture::PICTURE;
-    if drawn && !words::is_svg(&word[..n]) {
-        help::wrong_call(b"a picture's file ends in .svg.");
-        return;
-    }
-    picture::run(drawn);
 }
 
 // The picture's file is known by its name.
@@ -375,7 +206,7 @@ fn held(last: usize) {
     compared::run(true);
 }
 
-fn levelled(which: u8, last: usize) {
+fn levelled(which: usize, last: usize) {
     let mut word = io::buffer();
     let n = os::arg(LEVEL, &mut word);
     let asked = words::asked(&word[..n]);
@@ -387,7 +218,7 @@ fn levelled(which: u8, last: usize) {
 }
 
 // Where the level looks at the vote before the first frame, it is a vote.
-fn voted(which: u8, last: usize, row: Row, asked: LevelAsked)
+fn voted(which: usize, last: usize, row: Row, asked: LevelAsked)
     requires { ⌜ Shared row ⌝ }
 {
     if refusing::bad_earlier(row, asked.earlier) {
@@ -403,7 +234,7 @@ fn no_vote() {
     help::no_vote(&word[..n]);
 }
 
-fn started(which: u8, last: usize, row: Row, level: u64, earlier: u64)
+fn started(which: usize, last: usize, row: Row, level: u64, earlier: u64)
     requires { ⌜ Shared row ⌝ }
 {
     match which {

@@ -1,0 +1,5 @@
+# Where the prover's small files go; to be sourced by a script that has rt prove. A check makes and removes thousands of them, which in memory takes a quarter
+# to a third off its time. Only where memory has two gibibytes to spare for it, and nothing else is asked for.
+if [ -z "${TMPDIR:-}" ] && [ -w /dev/shm ] && [ "$(df --output=avail -k /dev/shm | sed -n 2p)" -gt 2097152 ]; then
+    export TMPDIR=/dev/shm
+fi
