@@ -52,11 +52,15 @@ judgeable row sh earlier line pattern buffer none =
     let thirteen = unrefused (badPattern pattern) 13 _ (λ z. omega arith) none in
     let two = unrefused (badLine row (length line)) 2 _ (λ z. omega arith) (thirteen .1) in
     let four = unrefused (eqb pattern 0 && badBuffer row (length line) buffer) 4 _ (λ z. omega arith) (two .1) in
+    let room = framesOf row (length line) * row .room in
+    let bad = badBuffer row (length line) buffer in
+    let has-room : pattern ≡ 0 → ltb (8 * (buffer / 4)) room ≡ false =
+    λ z. or-neither (not (eqb (buffer % 4) 0)) _ (and-asked (eqb pattern 0) bad (four .0) (eq-eqb pattern 0 z)) .1 in
     let five = unrefused (badEarlier row earlier) 5 0 (λ z. omega arith) (four .1) in
     record {
       shared = sh;
       framed = framed row (length line) (two .0);
       known = known pattern (thirteen .0);
-      sent = λ z. ltb-false (8 * (buffer / 4)) (framesOf row (length line) * row .room) (or-neither (not (eqb (buffer % 4) 0)) (ltb (8 * (buffer / 4)) (framesOf row (length line) * row .room)) (and-asked (eqb pattern 0) (badBuffer row (length line) buffer) (four .0) (eq-eqb pattern 0 z)) .1);
+      sent = λ z. ltb-false (8 * (buffer / 4)) room (has-room z);
       earlier-fits = five .0;
     }

@@ -11,7 +11,8 @@ use Rattle.judge.specs.Verdict.{JudgeMet}
 use Rattle.judge.proofs.judge.{signature, ended}
 use Rattle.judge.proofs.judge.Reads.{Asked, Learnt}
 
-pub no-second-answer : (level earlier : ℕ) (line : List ℕ) (pattern : ℕ) (buffer : List ℕ) (r s : Judged) → JudgeMet level earlier line pattern buffer r → JudgeMet level earlier line pattern buffer s → r ≡ s
+pub no-second-answer : (level earlier : ℕ) (line : List ℕ) (pattern : ℕ) (buffer : List ℕ) (r s : Judged) → JudgeMet level earlier line pattern buffer r
+    → JudgeMet level earlier line pattern buffer s → r ≡ s
 no-second-answer level earlier line pattern buffer r s p q = cc
 
 -- and what the call ensures is that statement

@@ -29,8 +29,14 @@ module _ (ds sent : List ℕ) (n : ℕ) (h : n ≤ length ds) where
   unfolding unmadeTo wrongIn dueAt
   wrong-pattern pattern some =
       rw (length-take-le n ds h)
-      (sum-same (n - pattern) (λ (k : ℕ). cond (eqb (getD ds (pattern + k) 0) (madeFrom pattern ds (pattern + k))) 0 1) (λ (k : ℕ). wrongAt pattern sent (take n ds) (pattern + k)) same)
+      (sum-same (n - pattern) (λ (k : ℕ). cond (eqb (getD ds (pattern + k) 0) (madeFrom pattern ds (pattern + k))) 0 1)
+      (λ (k : ℕ). wrongAt pattern sent (take n ds) (pattern + k)) same)
     where
       same : (k : ℕ) → k < n - pattern → cond {A = ℕ} (eqb (getD ds (pattern + k) 0) (madeFrom pattern ds (pattern + k))) 0 1 ≡ wrongAt pattern sent (take n ds) (pattern + k)
       same k hk =
-          rw (ne-eqb pattern 0 some, getD-take n ds (pattern + k) 0 (omega arith), getD-take n ds (pattern + k - stageOf pattern) 0 (omega arith), getD-take n ds (pattern + k - pattern) 0 (omega arith))
+          rw (
+            ne-eqb pattern 0 some,
+            getD-take n ds (pattern + k) 0 (omega arith),
+            getD-take n ds (pattern + k - stageOf pattern) 0 (omega arith),
+            getD-take n ds (pattern + k - pattern) 0 (omega arith),
+          )

@@ -65,12 +65,15 @@ module _ (pattern : ℕ) (ds : List ℕ) (bd : Binary ds) (h : stageOf pattern �
   sums n = bitXor (windowAt ds (pattern + p) n) (bitXor (windowAt ds (pattern + p - stageOf pattern) n) (windowAt ds p n))
 
   pub unmade-few : (n : ℕ) → ones (sums n) ≤ n
-  unmade-few n = ones-le n (sums n) (xor-lt n (windowAt ds (pattern + p) n) _ (window-lt ds bd (pattern + p) n) (xor-lt n (windowAt ds (pattern + p - stageOf pattern) n) (windowAt ds p n) (window-lt ds bd (pattern + p - stageOf pattern) n) (window-lt ds bd p n)))
+  unmade-few n =
+      let stages = xor-lt n (windowAt ds (pattern + p - stageOf pattern) n) (windowAt ds p n) (window-lt ds bd (pattern + p - stageOf pattern) n) (window-lt ds bd p n) in
+      ones-le n (sums n) (xor-lt n (windowAt ds (pattern + p) n) _ (window-lt ds bd (pattern + p) n) stages)
 
   pub unmade-more : (n : ℕ) → unmadeTo pattern ds (p + n) + ones (sums n) ≡ unmadeTo pattern ds p + n
   unfolding windowAt unmadeTo sumTo
   unmade-more zero = rw (add-zero p) (omega (arith, no-ones))
   unmade-more (suc n) =
+      let one = three-more (windowAt ds (pattern + p) n) (windowAt ds (pattern + p - stageOf pattern) n) (windowAt ds p n) in
       let here : pattern + (p + n) ≡ pattern + p + n = omega arith in
       let stage : pattern + p + n - stageOf pattern ≡ pattern + p - stageOf pattern + n = omega arith in
       let last : pattern + p + n - pattern ≡ p + n = omega arith in
@@ -78,4 +81,4 @@ module _ (pattern : ℕ) (ds : List ℕ) (bd : Binary ds) (h : stageOf pattern �
       let a = getD ds (pattern + p - stageOf pattern + n) 0 in
       let b = getD ds (p + n) 0 in
       rw (add-suc p n, here, stage, last)
-      (omega (arith, unmade-more n, three-more (windowAt ds (pattern + p) n) (windowAt ds (pattern + p - stageOf pattern) n) (windowAt ds p n) c a b (bd (pattern + p + n)) (bd (pattern + p - stageOf pattern + n)) (bd (p + n))))
+      (omega (arith, unmade-more n, one c a b (bd (pattern + p + n)) (bd (pattern + p - stageOf pattern + n)) (bd (p + n))))

@@ -1,5 +1,5 @@
-// The readings of a line: its tributaries extracted by its votes, moved by a frame or not, and the wrong digits counted. The votes stand in an array from place 1
-// on, with a place before them and one behind for the vote that the line does not hold: moved or not, they are a part of it.
+// The readings of a line: its tributaries extracted by its votes, moved by a frame or not, and the wrong digits counted. The votes stand in an array from
+// place 1 on, with a place before them and one behind for the vote that the line does not hold: moved or not, they are a part of it.
 use crate::changes;
 use crate::wrong;
 use levels::order;

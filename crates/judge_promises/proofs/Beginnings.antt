@@ -154,7 +154,9 @@ module _ (level : ℕ) (q : Question) (ok : JudgeAccepted level q) (row : Row) (
       frames : i < length (placesOf row (acts votes) j (F * columns row)) → 0 < F
       frames l =
           elim (ℕ-discrete F 0) [
-            | yes z ↦ absurd (none (subst (λ (n : ℕ). i < n) (places-length row (acts votes) j (F * columns row) ∙ ap (λ (n : ℕ). before row (acts votes) j (n * columns row)) z ∙ ap (before row (acts votes) j) (zero-mul (columns row))) l))
+            | yes z ↦
+                let no-column : F * columns row ≡ 0 = ap (λ (n : ℕ). n * columns row) z ∙ zero-mul (columns row) in
+                absurd (none (subst (λ (n : ℕ). i < n) (places-length row (acts votes) j (F * columns row) ∙ ap (before row (acts votes) j) no-column) l))
             | no z ↦ omega arith
           ]
         where

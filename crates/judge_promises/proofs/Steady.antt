@@ -110,7 +110,8 @@ module _ (row : Row) (j earlier : ℕ) (notes : List ℕ) (hj : j < 4) (same : (
 -- so where the decision never changes, what fits by its own frame fits by the other two as well
 pub cannot-tell : (level : ℕ) (q : Question) (j : ℕ) → JudgeAccepted level q → j < 4 → NeverChangesAt level q j → Fits right (verdict level q) j → (index : Index) → Fits index (verdict level q) j
 unfolding judgement ownWrong readBy
-cannot-tell level q j ok hj never fits index = none-fits level row e q ok index (standing row j (q .earlier) notes hj same nor) j hj (ap (wrongIn (q .pattern) (digitsOf (quarterOf (q .buffer) j))) taken ∙ none)
+cannot-tell level q j ok hj never fits index =
+    none-fits level row e q ok index (standing row j (q .earlier) notes hj same nor) j hj (ap (wrongIn (q .pattern) (digitsOf (quarterOf (q .buffer) j))) taken ∙ none)
   where
     on : (row : Row) × (levelOf level ≡ Of row)
     on = judge-level level q ok

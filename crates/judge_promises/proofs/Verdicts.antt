@@ -137,7 +137,9 @@ module _ (level earlier : ℕ) (row : Row) (e : levelOf level ≡ Of row) (send 
   no-number =
       let whole : length (send .line) % row .bytes ≡ 0 = omega (arith, sizes .framed .frames, div-add-mod' (length (send .line)) (row .bytes)) in
       let fours : length (send .buffer) % 4 ≡ 0 = omega (arith, sizes .quarters) in
-      rw (long, whole, le-ltb 64 (framesOf row (length (send .line))) (sizes .framed .few), fours, le-ltb (8 * (length (send .buffer) / 4)) (framesOf row (length (send .line)) * row .room) (sizes .room), send-vote level earlier row e send ok)
+      let few = le-ltb 64 (framesOf row (length (send .line))) (sizes .framed .few) in
+      let room = le-ltb (8 * (length (send .buffer) / 4)) (framesOf row (length (send .line)) * row .room) (sizes .room) in
+      rw (long, whole, few, fours, room, send-vote level earlier row e send ok)
 
   judge-accepted : JudgeAccepted level (asked earlier send line)
   unfolding judgement
@@ -145,12 +147,13 @@ module _ (level earlier : ℕ) (row : Row) (e : levelOf level ≡ Of row) (send 
 
   by-right : Made row right earlier (tributary level earlier row e send ok) line
   by-right =
+      let as-made = send-line level earlier row e send ok ∙ right-line row earlier (send .notes) (tributary level earlier row e send ok) in
       record {
         notes = send .notes;
         unknown = 0;
         frames = sizes .framed .noted ∙ ap (framesOf row) (sym long);
         room = send-sound level earlier row e send ok .room;
-        damage = subst (λ (sent : List ℕ). Damage row earlier (send .notes) (length (send .notes)) sent (digitsOf line)) (send-line level earlier row e send ok ∙ right-line row earlier (send .notes) (tributary level earlier row e send ok)) damage;
+        damage = subst (λ (sent : List ℕ). Damage row earlier (send .notes) (length (send .notes)) sent (digitsOf line)) as-made damage;
       }
 
 damage-on : (l : Level) (row : Row) → l ≡ Of row → (earlier : ℕ) (notes sent line : List ℕ)
@@ -167,4 +170,6 @@ sent-fits level earlier send line ok damaged =
     let row = on .0 in
     let damage = damage-on (levelOf level) row (on .1) earlier (send .notes) (sentLine level earlier send) line damaged in
     let accepted = judge-accepted level earlier row (on .1) send ok line damage in
-    (accepted, λ j hj. made-on level row (on .1) (asked earlier send line) accepted right (tributary level earlier row (on .1) send ok) (by-right level earlier row (on .1) send ok line damage) j hj (λ k hk i low h. refl))
+    let given = tributary level earlier row (on .1) send ok in
+    let made = by-right level earlier row (on .1) send ok line damage in
+    (accepted, λ j hj. made-on level row (on .1) (asked earlier send line) accepted right given made j hj (λ k hk i low h. refl))

@@ -47,13 +47,17 @@ pub some-level : {A : Type 0} (P : A → Type 0) (level : Level) (go : Row → A
 some-level P (Of row) go none n h = (row, refl)
 some-level P NoSuchLevel go none n h = absurd (n h)
 
+-- and so was every answer of a call that did not refuse
+on-level : (level : ℕ) (go : Row → Counted) → onLevel (levelOf level) go (refusedWith (fault 1 0)) .refusal ≡ 0 → (row : Row) × (levelOf level ≡ Of row)
+on-level level go ok = some-level (λ (r : Counted). r .refusal ≡ 0) (levelOf level) go (refusedWith (fault 1 0)) (λ e. omega arith) ok
+
 pub call-level : (level earlier : ℕ) (c : Lent) → ExtractAccepted level earlier c → (row : Row) × (levelOf level ≡ Of row)
 call-level level earlier c ok =
-    some-level (λ (r : Counted). r .refusal ≡ 0) (levelOf level) (λ (row : Row). answerOn row earlier (length (c .line)) (c .notes) (length (c .buffer))) (refusedWith (fault 1 0)) (λ e. omega arith) ok
+    on-level level (λ (row : Row). answerOn row earlier (length (c .line)) (c .notes) (length (c .buffer))) ok
 
 pub send-level : (level earlier : ℕ) (c : Lent) → SendAccepted level earlier c → (row : Row) × (levelOf level ≡ Of row)
 send-level level earlier c ok =
-    some-level (λ (r : Counted). r .refusal ≡ 0) (levelOf level) (λ (row : Row). sendAnswerOn row earlier (length (c .line)) (c .notes) (length (c .buffer))) (refusedWith (fault 1 0)) (λ e. omega arith) ok
+    on-level level (λ (row : Row). sendAnswerOn row earlier (length (c .line)) (c .notes) (length (c .buffer))) ok
 
 -- a reading that was accepted is that of the one call
 pub as-together : (level earlier : ℕ) (c : Lent) → ReadAccepted level earlier c → outcome level earlier c ≡ together level earlier (c .line) (c .notes) (c .buffer)
@@ -93,7 +97,8 @@ pub dissent-at : (row : Row) (ds : List ℕ) (F j : ℕ) → j < 4 → getD (dis
 dissent-at row ds F = of-four (λ (j : ℕ). getD (dissentsOf row ds F) j 0 ≡ dissentTo row ds j F) refl refl refl refl
 
 -- a tributary has as many digits as are counted
-pub taken-length : (row : Row) → Shared row → (earlier : ℕ) (notes ds : List ℕ) (F j : ℕ) → j < 4 → length (takenTo row earlier notes ds j (F * columns row)) ≡ countOf row (actions row earlier notes j) F
+pub taken-length : (row : Row) → Shared row → (earlier : ℕ) (notes ds : List ℕ) (F j : ℕ) → j < 4
+    → length (takenTo row earlier notes ds j (F * columns row)) ≡ countOf row (actions row earlier notes j) F
 unfolding takenTo countOf
 taken-length row sh earlier notes ds F j hj =
     length-map (placesOf row (actions row earlier notes j) j (F * columns row)) (λ (p : ℕ). getD ds p 0)
@@ -130,7 +135,8 @@ pub line-digits : (row : Row) (earlier : ℕ) (notes : List ℕ) (tributary : �
     → digitsOf (lineOf row earlier notes tributary bytes) ≡ lineDigits row earlier notes tributary F
 line-digits row earlier notes tributary bin bytes F places =
     rw places
-    (digits-of-bytes bytes (lineDigits row earlier notes tributary F) (line-binary row earlier notes tributary bin F) (tab-length (F * row .digits) 0 (lineDigit row earlier notes tributary) ∙ sym places))
+    (digits-of-bytes bytes (lineDigits row earlier notes tributary F) (line-binary row earlier notes tributary bin F)
+    (tab-length (F * row .digits) 0 (lineDigit row earlier notes tributary) ∙ sym places))
 
 module _ (level : ℕ) (row : Row) (e : levelOf level ≡ Of row) where
   pub shared : Shared row

@@ -283,7 +283,11 @@ module _ (row : Row) (sh : Shared row) where
               ∙ spoilt-controls row sh earlier (noneStuffed row F) (early row) F (lineOf (noneStuffed row F)) (binary (noneStuffed row F)) j hj ∙ ap (λ (k : ℕ). F * k) early-count;
           changed-other = λ j hj.
               rw meet (spoilt-controls row sh earlier (allStuffed row F) (late row) F (lineOf (allStuffed row F)) (binary (allStuffed row F)) j hj ∙ ap (λ (k : ℕ). F * k) late-count);
-          differ = λ j f hj hf e. true≢false (sym (rw (getD-replicate {A = ℕ} F f (nationalBits row) 0 hf, getD-replicate {A = ℕ} F f (15 + nationalBits row) 0 hf, none-bit (2 ^ row .nationals - 1) j hj, all-bit (2 ^ row .nationals - 1) j hj) at e));
+          differ = λ j f hj hf e.
+              let none = getD-replicate {A = ℕ} F f (nationalBits row) 0 hf in
+              let all = getD-replicate {A = ℕ} F f (15 + nationalBits row) 0 hf in
+              let set = 2 ^ row .nationals - 1 in
+              true≢false (sym (rw (none, all, none-bit set j hj, all-bit set j hj) at e));
         }
 
 -- at 8448 and at 34368 kbit/s the digit too much is the second of three, at 139264 the third of five; with positive/zero/negative justification
@@ -334,7 +338,8 @@ example-read : outcome 2 0 exampleRead
       notes = 0x11 ∷ [];
       buffer = exampleSend .buffer;
     }
-unfolding levelOf framesRefusal sizeRefusal firstWith faultOf noteOf voteAt serviceAt voteBy votesFor groupOf countOf sumTo quartersFrom quarterFrom takenTo placesOf carries actionOf posOf kindOf firstSet middleSet lastSet tab bytesOf digitsOf exampleDamaged
+unfolding levelOf framesRefusal sizeRefusal firstWith faultOf noteOf voteAt serviceAt voteBy votesFor groupOf countOf sumTo quartersFrom
+    quarterFrom takenTo placesOf carries actionOf posOf kindOf firstSet middleSet lastSet tab bytesOf digitsOf exampleDamaged
 example-read = refl
 
 example-lent : LentAt 2 exampleSend exampleRead

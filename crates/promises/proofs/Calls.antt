@@ -35,7 +35,8 @@ use Rattle.promises.proofs.Accepted.{send-level, read-level, shared, co
 use Rattle.promises.proofs.Accepted.{send-counts, send-digits, read-accepted, accepted-vote, read-sizes, read-places, read-answer, read-notes, read-frames, read-digits}
 
 -- the four counts are the same where each is
-counts-same : (row : Row) (earlier : ℕ) (a b : List ℕ) (F : ℕ) → ((j : ℕ) → j < 4 → countOf row (actions row earlier a j) F ≡ countOf row (actions row earlier b j) F) → countsOf row earlier a F ≡ countsOf row earlier b F
+counts-same : (row : Row) (earlier : ℕ) (a b : List ℕ) (F : ℕ) → ((j : ℕ) → j < 4 → countOf row (actions row earlier a j) F ≡ countOf row (actions row earlier b j) F)
+    → countsOf row earlier a F ≡ countsOf row earlier b F
 counts-same row earlier a b F h = rw (h 0 (lit< tt), h 1 (lit< tt), h 2 (lit< tt), h 3 (lit< tt))
 
 -- lines of as many digits have one frame count

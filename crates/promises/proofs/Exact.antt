@@ -74,7 +74,8 @@ module _ (row : Row) (sh : Shared row) (F earlier : ℕ) (a b : List ℕ) (tribu
       }
 
 -- two accepted sends that carried the same: the line of the second is made of its notes and of the first one's tributaries
-module _ (level earlier : ℕ) (row : Row) (e : levelOf level ≡ Of row) (a b : Lent) (ok-a : SendAccepted level earlier a) (ok-b : SendAccepted level earlier b) (same : SendsSame level earlier a b) where
+module _ (level earlier : ℕ) (row : Row) (e : levelOf level ≡ Of row) (a b : Lent) (ok-a : SendAccepted level earlier a)
+    (ok-b : SendAccepted level earlier b) (same : SendsSame level earlier a b) where
   abbrev first : ℕ → List ℕ
   first = tributary level earlier row e a ok-a
 
@@ -117,8 +118,11 @@ module _ (level earlier : ℕ) (row : Row) (e : levelOf level ≡ Of row) (c : L
 
   accepted-on : NationalsSet row (readNotes level earlier c) → SendAccepted level earlier (sentOn level earlier c)
   accepted-on set =
-      send-accepted level earlier row e (sentOn level earlier c) (rw (read-frames level earlier row e c ok, buffer-on) (accepted-size level earlier row e c ok)) (accepted-vote level earlier row e c ok)
-      (λ f hf. rw (read-notes level earlier row e c ok) (note-fits row (digitsOf (c .line)) (digits-binary (c .line)) f (shared level row e) (length (c .notes)) (omega (arith, read-frames level earlier row e c ok))))
+      let frames = read-frames level earlier row e c ok in
+      send-accepted level earlier row e (sentOn level earlier c) (rw (frames, buffer-on) (accepted-size level earlier row e c ok)) (accepted-vote level earlier row e c ok)
+      (λ f hf.
+      let in-line : f < length (c .notes) = omega (arith, frames) in
+      rw (read-notes level earlier row e c ok) (note-fits row (digitsOf (c .line)) (digits-binary (c .line)) f (shared level row e) (length (c .notes)) in-line))
       set
 
   counts-on : NationalsSet row (readNotes level earlier c) → sentCounts level earlier (sentOn level earlier c) ≡ readCounts level earlier c

@@ -40,7 +40,8 @@ use Rattle.promises.specs.Extraction.{ExtractAccepted, extractCounts, ex
 use Rattle.promises.specs.Extraction.{SameBit, ExtractsSame, Extracted, frameBefore, frameAfter, byNotes, Steady}
 use Rattle.promises.proofs.Order.{column-place, places-same, count-same, actions-same, digits-same}
 use Rattle.promises.proofs.RoundTrip.{round-trip}
-use Rattle.promises.proofs.Accepted.{call-level, send-level, shared, count-at, lent-accepted, call-accepted, tributary, found, unrefused, call-sizes, call-places, call-counts, call-count, send-sizes, send-vote, send-places, send-sound, send-line}
+use Rattle.promises.proofs.Accepted.{call-level, send-level, shared, count-at, lent-accepted, call-accepted, tributary, found, unrefused, call-sizes, call-places}
+use Rattle.promises.proofs.Accepted.{call-counts, call-count, send-sizes, send-vote, send-places, send-sound, send-line}
 use Rattle.promises.proofs.Accepted.{send-counts, send-digits, quarter-taken}
 
 -- a place that carries a digit bears one
@@ -70,8 +71,9 @@ module _ (level earlier : ℕ) (row : Row) (e : levelOf level ≡ Of row) where
 
     pub digits-left : extractDigits level earlier c j ≡ takenTo row earlier (c .notes) (digitsOf (c .line)) j (length (c .notes) * columns row)
     digits-left =
+        let room = fits-quarter sh (call-sizes level earlier row e c ok) .room in
         rw (left, call-count level earlier row e c ok j hj)
-        (quarter-taken row sh earlier (c .notes) (c .line) (length (c .notes)) (length (c .buffer) / 4) j hj (call-places level earlier row e c ok) (fits-quarter sh (call-sizes level earlier row e c ok) .room))
+        (quarter-taken row sh earlier (c .notes) (c .line) (length (c .notes)) (length (c .buffer) / 4) j hj (call-places level earlier row e c ok) room)
 
   -- the line of a send, by the notes that are read of it
   back-on : (send c : Lent) (old : List ℕ) → SendAccepted level earlier send → LentFor (row .room) send c → c .line ≡ sentLine level earlier send → length old ≡ length (send .notes)
@@ -93,7 +95,9 @@ module _ (level earlier : ℕ) (row : Row) (e : levelOf level ≡ Of row) where
       ds = ap digitsOf line ∙ send-line level earlier row e send ok
 
       long : length (c .line) ≡ length (send .line)
-      long = omega (arith, digits-length (c .line), ap length ds, tab-length (F * row .digits) 0 (lineDigit row earlier (send .notes) (tributary level earlier row e send ok)), send-places level earlier row e send ok)
+      long =
+          let whole = tab-length (F * row .digits) 0 (lineDigit row earlier (send .notes) (tributary level earlier row e send ok)) in
+          omega (arith, digits-length (c .line), ap length ds, whole, send-places level earlier row e send ok)
 
       sizes : Accepted row (length (c .line)) (length (c .notes)) (length (c .buffer))
       sizes = lent-accepted level row e send c (send-sizes level earlier row e send ok) long lent
@@ -168,13 +172,14 @@ own-only level x y k a b ok-a ok-b hk same = bearing-only level x y k a b ok-a o
     both true kind h = bears-own kind h
     both false kind h = h
 
-    own : (l : Level) → onLevel l (λ (row : Row). SameOwn row k (digitsOf (a .line)) (digitsOf (b .line))) ⊥ → onLevel l (λ (row : Row). SameBearing row k (digitsOf (a .line)) (digitsOf (b .line))) ⊥
+    own : (l : Level) → onLevel l (λ (row : Row). SameOwn row k (digitsOf (a .line)) (digitsOf (b .line))) ⊥
+        → onLevel l (λ (row : Row). SameBearing row k (digitsOf (a .line)) (digitsOf (b .line))) ⊥
     own (Of row) same = λ p h c. same p h (both (eqb (p % 4) k) (kindAt row p) c)
     own NoSuchLevel same = same
 
 -- extraction of a line that was multiplexed, by the notes that were read of it, returns what was sent
-pub extract-back : (level earlier : ℕ) (send c : Lent) (old : List ℕ) → SendAccepted level earlier send → LentAt level send c → c .line ≡ sentLine level earlier send → length old ≡ length (send .notes)
-    → c .notes ≡ notesAfter level (c .line) old → Extracted level earlier send c
+pub extract-back : (level earlier : ℕ) (send c : Lent) (old : List ℕ) → SendAccepted level earlier send → LentAt level send c → c .line ≡ sentLine level earlier send
+    → length old ≡ length (send .notes) → c .notes ≡ notesAfter level (c .line) old → Extracted level earlier send c
 extract-back level earlier send c old ok lent = let on = send-level level earlier send ok in back-on level earlier (on .0) (on .1) send c old ok (rw (on .1) at lent)
 
 -- notes a frame late or early have the same bit where it does not change

@@ -95,5 +95,6 @@ module _ (row : Row) (sh : Shared row) where
         let w : (4 * x + j) % 4 ≡ j = omega arith in
         let q : (4 * x + j) / 4 ≡ x = omega arith in
         let at = posOf row (4 * x + j) in
+        let next = getD (tributary j) (before row (actions row earlier notes j) j x) 0 in
         sent-at (4 * x + j) h
-        ∙ rw (w, q) (digit-carried row (getD notes (at .frame) 0) (actions row earlier notes j (at .frame)) j (at .place) (getD (tributary j) (before row (actions row earlier notes j) j x) 0) (kindAt row (4 * x + j)) c)
+        ∙ rw (w, q) (digit-carried row (getD notes (at .frame) 0) (actions row earlier notes j (at .frame)) j (at .place) next (kindAt row (4 * x + j)) c)

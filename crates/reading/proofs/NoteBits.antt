@@ -47,9 +47,11 @@ module _ (row : Row) (ds : List ℕ) (bin : Binary ds) (f : ℕ) where
   unfolding serviceAt
   service-binary k = cond-by (λ (d : ℕ). d < 2) (ltb k (notedOf row)) (bin (f * row .digits + (row .alarm + k))) (lit< tt)
 
+  decision-binary : (j : ℕ) → decision j < 2
+  decision-binary j = cond-by (λ (d : ℕ). d < 2) (voteAt row ds f j .stuffed) {a = 1} {b = 0} (lit< tt) (lit< tt)
+
   bits-binary : Binary bits
-  bits-binary =
-      binary-append (tab 4 0 decision) (tab 4 0 service) (tab-binary 4 0 decision (λ j. cond-by (λ (d : ℕ). d < 2) (voteAt row ds f j .stuffed) {a = 1} {b = 0} (lit< tt) (lit< tt))) (tab-binary 4 0 service service-binary)
+  bits-binary = binary-append (tab 4 0 decision) (tab 4 0 service) (tab-binary 4 0 decision decision-binary) (tab-binary 4 0 service service-binary)
 
   note-value : noteOf row ds f ≡ valueOf bits
   unfolding noteOf valueOf tab

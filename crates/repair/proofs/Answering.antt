@@ -50,7 +50,8 @@ module _ (row : Row) (earlier : ℕ) (line : List ℕ) where
         let found = line-frames row (length line) good in
         record { shared = sh; frames = omega (arith, div-add-mod' (length line) (row .bytes), found .0); few = found .1 }
 
-  pub refused-all : (national : Bool) (n : ℕ) → (n ≡ 0 → ⊥) → numberOf row earlier (length line) ≡ n → (refusedWith n ≡ repairedOn row earlier national line) × (line ≡ lineOn row earlier national line)
+  pub refused-all : (national : Bool) (n : ℕ) → (n ≡ 0 → ⊥) → numberOf row earlier (length line) ≡ n
+      → (refusedWith n ≡ repairedOn row earlier national line) × (line ≡ lineOn row earlier national line)
   refused-all national n z e = rw (e, ne-eqb n 0 z) (refl, refl)
 
   pub repaired-all : {national : Bool} {new sums : List ℕ} → numberOf row earlier (length line) ≡ 0 → Mended row earlier national line (8 * length line) new sums

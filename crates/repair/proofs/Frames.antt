@@ -119,8 +119,8 @@ frames-digits {row = row} {old = old} wh =
     let F = framesOf row (length old) in
     ap (λ (k : ℕ). F * k) (wh .shared .packed) ∙ mul-left-comm F 8 (row .bytes) ∙ ap (λ (k : ℕ). 8 * k) (sym (wh .frames))
 
-pub framing-all : {row : Row} {earlier : ℕ} {national : Bool} {old : List ℕ} {f preceding : ℕ} {new sums : List ℕ} → Framing row earlier national old f preceding new sums → f ≡ framesOf row (length old)
-    → Mended row earlier national old (8 * length old) new sums
+pub framing-all : {row : Row} {earlier : ℕ} {national : Bool} {old : List ℕ} {f preceding : ℕ} {new sums : List ℕ}
+    → Framing row earlier national old f preceding new sums → f ≡ framesOf row (length old) → Mended row earlier national old (8 * length old) new sums
 framing-all {f = f} so-far e = rw (← frames-digits (so-far .mended .whole), ← e) (so-far .mended)
 
 module _ {row : Row} {earlier : ℕ} {national : Bool} {old : List ℕ} {f preceding : ℕ} {mid sums : List ℕ} (so-far : Framing row earlier national old f preceding mid sums)

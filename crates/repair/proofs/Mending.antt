@@ -116,7 +116,8 @@ module _ {row : Row} {earlier : ℕ} {old : List ℕ} (wh : Whole row old) {f pr
 -- ---- a place of a set's head, by what the calls there ensure
 
 -- it lies in the line, and no number is too large
-pub place-asks : {row : Row} {national : Bool} {preceding note : ℕ} {mid sums : List ℕ} (at : At) → Begun row national (at .frame) preceding note (placeOf row at) mid sums → at .set < row .sets → at .place < row .set
+pub place-asks : {row : Row} {national : Bool} {preceding note : ℕ} {mid sums : List ℕ} (at : At)
+    → Begun row national (at .frame) preceding note (placeOf row at) mid sums → at .set < row .sets → at .place < row .set
     → (placeOf row at < 8 * length mid) × (length mid ≤ 65536)
 place-asks at b hs hr =
     (omega (arith, place-inside (b .mended .whole) (b .acts) (at .set) (at .place) hs hr, b .mended .kept), mended-short (b .mended))

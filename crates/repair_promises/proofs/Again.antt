@@ -38,9 +38,16 @@ module _ (row : Row) (earlier : ℕ) (national : Bool) (line : List ℕ) (wh : W
       let f = posOf row p .frame in
       let inside : p < 8 * length line = omega (arith, repaired-length row earlier national line) in
       let hf : f < F = lt-of-mul-lt-mul-right (row .digits) (omega (arith, frames-digits wh, stands row (wh .shared) p .sum)) in
-      rw (repaired-length row earlier national line, acts-repaired row earlier national line wh (p % 4) (omega arith) f hf, vote-repaired row earlier national line wh f hf (p % 4) (omega arith), repaired-at row earlier national line p inside)
-      (sym
-      (repaired-twice row national (voteAt row (digitsOf line) f (p % 4) .stuffed) (actions row earlier (notesOf row (digitsOf line) F) (p % 4) f) (posOf row p .place) (getD (digitsOf line) p 0) (kindAt row p)))
+      let j = p % 4 in
+      let vote = voteAt row (digitsOf line) f j .stuffed in
+      let act = actions row earlier (notesOf row (digitsOf line) F) j f in
+      rw (
+        repaired-length row earlier national line,
+        acts-repaired row earlier national line wh j (omega arith) f hf,
+        vote-repaired row earlier national line wh f hf j (omega arith),
+        repaired-at row earlier national line p inside,
+      )
+      (sym (repaired-twice row national vote act (posOf row p .place) (getD (digitsOf line) p 0) (kindAt row p)))
 
   none : (k : ℕ) → sumOf row (changes row earlier national left) (8 * length left) k ≡ 0
   none k =

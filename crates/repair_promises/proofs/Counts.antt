@@ -77,9 +77,11 @@ module _ (row : Row) (earlier : ℕ) (national : Bool) (line : List ℕ) where
   idle-sum k idle =
       sum-all n 0 (λ (p : ℕ). cond (changes row earlier national line p && eqb (numberAt row p) k) 1 0)
       (λ p h.
-      rw
-      (idle-place row national (voteAt row (digitsOf line) (posOf row p .frame) (p % 4) .stuffed) (actions row earlier (notesOf row (digitsOf line) (framesOf row (length line))) (p % 4) (posOf row p .frame))
-      (posOf row p .place) (getD (digitsOf line) p 0) (p % 4) k idle (kindAt row p)))
+      let f = posOf row p .frame in
+      let j = p % 4 in
+      let vote = voteAt row (digitsOf line) f j .stuffed in
+      let act = actions row earlier (notesOf row (digitsOf line) (framesOf row (length line))) j f in
+      rw (idle-place row national vote act (posOf row p .place) (getD (digitsOf line) p 0) j k idle (kindAt row p)))
       ∙ omega arith
 
   by-kind : sumsOf row (changes row earlier national line) n ≡ fifteen (changed row earlier national line)
@@ -103,7 +105,8 @@ module _ (row : Row) (earlier : ℕ) (national : Bool) (line : List ℕ) where
       }
 
 -- of an accepted repair
-pub counts-differing : (level earlier : ℕ) (national : Bool) (line : List ℕ) (answer : Repaired) (new : List ℕ) → Repairs level earlier national line answer new → CountsDifferingAt level line new answer
+pub counts-differing : (level earlier : ℕ) (national : Bool) (line : List ℕ) (answer : Repaired) (new : List ℕ)
+    → Repairs level earlier national line answer new → CountsDifferingAt level line new answer
 counts-differing level earlier national line answer new ok = let on = repair-level level earlier national line answer new ok in go (on .0) (on .1)
   where
     go : (row : Row) → levelOf level ≡ Of row → CountsDifferingAt level line new answer

@@ -89,11 +89,11 @@ module _ (row : Row) (earlier : ℕ) (national : Bool) (line : List ℕ) (wh : W
       (digits-same row (actions row earlier before j) j (digitsOf left) (digitsOf line) (F * columns row)
       (λ x h c.
       let p = 4 * x + j in
+      let f = posOf row p .frame in
       let w : p % 4 ≡ j = omega arith in
       repaired-at row earlier national line p (omega (arith, column-place row sh F j hj x h, frames-digits wh))
       ∙ rw w
-      (carried-stays row national (voteAt row (digitsOf line) (posOf row p .frame) j .stuffed) (actions row earlier before j (posOf row p .frame)) (posOf row p .place) (getD (digitsOf line) p 0) (kindAt row p)
-      c)))
+      (carried-stays row national (voteAt row (digitsOf line) f j .stuffed) (actions row earlier before j f) (posOf row p .place) (getD (digitsOf line) p 0) (kindAt row p) c)))
 
   quarter-same : (q j : ℕ) → j < 4 → quarterFrom row earlier after left q j ≡ quarterFrom row earlier before line q j
   unfolding quarterFrom

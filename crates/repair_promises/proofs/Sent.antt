@@ -73,7 +73,8 @@ NationalsSet row notes = (f : ℕ) → f < length notes → getD notes f 0 / 2 ^
 
 -- over the row
 module _ (row : Row) (sh : Shared row) (F earlier : ℕ) (national : Bool) (notes : List ℕ) (many : length notes ≡ F) (tributary : ℕ → List ℕ) (line : List ℕ)
-    (ones : national ≡ true → NationalsSet row notes) (wear : Wear row earlier national notes F (lineDigits row earlier notes tributary F) (digitsOf line)) (frames : framesOf row (length line) ≡ F) where
+    (ones : national ≡ true → NationalsSet row notes) (wear : Wear row earlier national notes F (lineDigits row earlier notes tributary F) (digitsOf line))
+    (frames : framesOf row (length line) ≡ F) where
   abbrev ds : List ℕ
   ds = digitsOf line
 
@@ -92,12 +93,13 @@ module _ (row : Row) (sh : Shared row) (F earlier : ℕ) (national : Bool) (note
       let inside : p < F * row .digits = omega (arith, places) in
       let hf : f < F = lt-of-mul-lt-mul-right (row .digits) (omega (arith, inside, stands row sh p .sum)) in
       let there = sent-at row sh earlier notes tributary F p inside in
+      let next = getD (tributary j) (before row (actions row earlier notes j) j (p / 4)) 0 in
       rw (frames, vote-kept row sh F earlier notes tributary ds (wear .damage) f j hf hj, acts-kept row sh F earlier notes tributary ds (wear .damage) j hj f hf)
-      (as-sent row national (getD notes f 0) (actions row earlier notes j f) j (posOf row p .place) (getD (tributary j) (before row (actions row earlier notes j) j (p / 4)) 0) (getD ds p 0) (kindAt row p)
+      (as-sent row national (getD notes f 0) (actions row earlier notes j f) j (posOf row p .place) next (getD ds p 0) (kindAt row p)
       (λ k. wear .damage .others-kept p inside k ∙ there)
       (λ s k free. wear .service-kept p s inside k free ∙ there)
       (λ on nat.
-      national-sent row sh (getD notes f 0) (actions row earlier notes j f) j (posOf row p .set) (posOf row p .place) (getD (tributary j) (before row (actions row earlier notes j) j (p / 4)) 0) nat
+      national-sent row sh (getD notes f 0) (actions row earlier notes j f) j (posOf row p .set) (posOf row p .place) next nat
       (ones on f (omega (arith, hf)))))
 
   pub line-back : repairedLine row earlier national line ≡ bytesOf (length line) (tab (8 * length line) 0 (lineDigit row earlier notes tributary))
@@ -133,10 +135,12 @@ module _ (level earlier : ℕ) (national : Bool) (row : Row) (e : levelOf level 
       let F = length (send .notes) in
       let given = tributary level earlier row e send ok in
       let repaired : left ≡ repairedLine row earlier national line = met .1 ∙ rw (e, number) in
+      let worn = rw (send-line level earlier row e send ok) at wear in
+      let frames : framesOf row (length line) ≡ F = rw long (sym (send-sizes level earlier row e send ok .framed .noted)) in
       let sent : bytesOf (length line) (tab (8 * length line) 0 (lineDigit row earlier (send .notes) given)) ≡ sentLine level earlier send = rw long (sym (send-bytes level earlier row e send ok)) in (
         ap (λ (r : Repaired). r .refusal) (met .0) ∙ rw (e, number),
         repaired
-            ∙ line-back row (shared level row e) F earlier national (send .notes) refl given line (λ on. ones) (rw (send-line level earlier row e send ok) at wear) (rw long (sym (send-sizes level earlier row e send ok .framed .noted)))
+            ∙ line-back row (shared level row e) F earlier national (send .notes) refl given line (λ on. ones) worn frames
             ∙ sent,
       )
 

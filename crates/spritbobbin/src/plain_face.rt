@@ -40,7 +40,9 @@ pub extern "C" fn spritbobbin_plain_multiplex(
     buffer: &[u8],
     answer: &mut [u64; 5],
 ) -> u64
-    ensures { λ r. ⌜ PlainMultiplexMet level earlier (now (line .entry)) (now (notes .entry)) (now (buffer .entry)) r (now (line .exit)) (now (answer .exit)) ⌝ }
+    ensures { λ r. ⌜
+        PlainMultiplexMet level earlier (now (line .entry)) (now (notes .entry)) (now (buffer .entry)) r (now (line .exit)) (now (answer .exit))
+        ⌝ }
 {
     let sent = plain::multiplex(level, earlier, line, notes, buffer);
     *answer = answered_numbers(sent);
@@ -72,7 +74,9 @@ pub extern "C" fn spritbobbin_plain_extract(
     buffer: &mut [u8],
     answer: &mut [u64; 5],
 ) -> u64
-    ensures { λ r. ⌜ PlainExtractMet level earlier (now (line .entry)) (now (notes .entry)) (now (buffer .entry)) r (now (buffer .exit)) (now (answer .exit)) ⌝ }
+    ensures { λ r. ⌜
+        PlainExtractMet level earlier (now (line .entry)) (now (notes .entry)) (now (buffer .entry)) r (now (buffer .exit)) (now (answer .exit))
+        ⌝ }
 {
     let taken = plain::extract(level, earlier, line, notes, buffer);
     *answer = answered_numbers(taken);

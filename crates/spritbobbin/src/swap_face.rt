@@ -20,7 +20,9 @@ pub extern "C" fn spritbobbin_swap(
     buffer: &[u8],
     answer: &mut [u64; 1],
 ) -> u64
-    ensures { λ r. ⌜ SwapFaceMet level earlier tributary (now (line .entry)) (now (notes .entry)) (now (buffer .entry)) r (now (line .exit)) (now (answer .exit)) ⌝ }
+    ensures { λ r. ⌜
+        SwapFaceMet level earlier tributary (now (line .entry)) (now (notes .entry)) (now (buffer .entry)) r (now (line .exit)) (now (answer .exit))
+        ⌝ }
 {
     let done = swap::swap(level, earlier, tributary, line, notes, buffer);
     *answer = swapped_numbers(done);

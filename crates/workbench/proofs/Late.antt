@@ -63,7 +63,9 @@ module _ (earlier : ℕ) (line said notes late buffer : List ℕ) where
   Ends l end =
       end
       ≡ onLevel l
-      (λ (row : Row). cond (eqb (sendFaultOf row earlier (length line) late (length buffer) .refusal) 0) (mixedLine row (lineOn row earlier said notes buffer) (lineOn row earlier line late buffer)) line)
+      (λ (row : Row).
+      cond (eqb (sendFaultOf row earlier (length line) late (length buffer) .refusal) 0)
+      (mixedLine row (lineOn row earlier said notes buffer) (lineOn row earlier line late buffer)) line)
       line
 
   refused-ends : (l : Level) → (number l ≡ 0 → ⊥) → Ends l (after l line late)

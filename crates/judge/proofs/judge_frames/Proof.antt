@@ -19,10 +19,16 @@ part-room-end c = omega (arith, c .before .room-of .ensures .0, c .empty-room .e
 
 judge-by-requires : tie.Need-judge-by-requires
 judge-by-requires c κs =
-    let size = c .before .before .room-of .result in
-    let e = c .before .before .room-of .ensures in
+    let sized = c .before .before in
+    let voted = sized .before .before in
+    let p = voted .before .before .before .pre in
+    let size = sized .room-of .result in
+    let e = sized .room-of .ensures in
     let lent = lent-length 0 size (c .before .empty-room .result) (omega (arith, e .0, c .before .empty-room .ensures)) in
-    (accepting (c .before .before .before .before .before .before .before .pre) size _ (omega (arith, lent)) (e .1) (e .2), c .before .before .before .before .read-votes .ensures, c .before .before .before .before .before .before .before .pre .earlier-fits)
+    (accepting p size _ (omega (arith, lent)) (e .1) (e .2), voted .read-votes .ensures, p .earlier-fits)
 
 pub judge-frames-spec : {M : Type 1} → statement M
-judge-frames-spec = tie.close (tie.spec read-votes-requires (λ c. search needs) room-of-requires (λ c κs. search needs) (λ c. search needs) (λ c. search needs) part-room-end judge-by-requires (λ c. search needs))
+judge-frames-spec =
+    tie.close
+    (tie.spec read-votes-requires (λ c. search needs) room-of-requires (λ c κs. search needs) (λ c. search needs) (λ c. search needs) part-room-end
+    judge-by-requires (λ c. search needs))

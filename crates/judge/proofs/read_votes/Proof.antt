@@ -23,8 +23,9 @@ read-frames-requires c κs =
 
 returns : tie.Need-returns
 returns c =
-    let a = c .before .before .before .before .before .before .args in
-    votes-read (a .row) (a .line .now) (c .before .before .before .no-votes .result) (c .before .read-frames .last .1 .1 .0) (c .before .before .before .no-votes .ensures) (c .before .before .before .before .before .before .pre .1 .few) (c .before .read-frames .ensures .1)
+    let made = c .before .before .before .no-votes in
+    let s = c .before .before .before .before .before .before in
+    votes-read (s .args .row) (s .args .line .now) (made .result) (c .before .read-frames .last .1 .1 .0) (made .ensures) (s .pre .1 .few) (c .before .read-frames .ensures .1)
 
 pub read-votes-spec : {M : Type 1} → statement M
 read-votes-spec = tie.close (tie.spec (λ c. search needs) (λ c. search needs) (λ c κs. search needs) (λ c. search needs) (λ c. search needs) part-votes-end read-frames-requires returns)

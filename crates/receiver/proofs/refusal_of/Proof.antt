@@ -1,9 +1,12 @@
--- `refusal_of` is `refusalOf`: each `return` rewrites with the tests that led there. The code subtracts, so that no sum wraps.
+-- `refusal_of` is `refusalOf`: each `return` rewrites with the tests that led there. The code subtracts, so that no sum wraps. What a test that is passed
+-- says is said once, for the returns behind it.
 use borrow.Author.Needs.{needs}
-use mathlib.Core.Path.{sym, _∙_}
+use mathlib.Core.Path.{_≡_, sym, _∙_}
+use mathlib.Core.Bool.{false}
 use borrow.Author.Tests.{lt-ltb, le-ltb}
 use native.Mathlib.Omega.{arith}
-use Rattle.receiver.specs.Feed.{refusalOf}
+use Rattle.receiver.specs.Alarm.{uncounted}
+use Rattle.receiver.specs.Feed.{invalid, refusalOf}
 use Prim.Native.Nat.{_+_, _*_}
 use Rattle.receiver.proofs.refusal_of.Statement.{statement}
 use Rattle.receiver.proofs.refusal_of.Tie as tie
@@ -12,42 +15,43 @@ returns : tie.Need-returns
 unfolding refusalOf
 returns c = rw (sym (c .before .is-invalid .ensures) ∙ c .if1 .taken)
 
+valid-passed : (c : tie.Else1) → invalid (c .before .before .args .row) (c .before .before .args .c) ≡ false
+valid-passed c = sym (c .before .is-invalid .ensures) ∙ c .if1 .left
+
+counted-passed : (c : tie.Else2) → uncounted (c .before .before .before .before .args .row) (c .before .before .before .before .args .st) ≡ false
+counted-passed c = sym (c .before .is-uncounted .ensures) ∙ c .if2 .left
+
 returns-2 : tie.Need-returns-2
 unfolding refusalOf
-returns-2 c =
-    let c3 = c .before .before .before in
-    rw (sym (c3 .is-invalid .ensures) ∙ c .before .before .if1 .left, sym (c .before .is-uncounted .ensures) ∙ c .if2 .taken)
+returns-2 c = rw (valid-passed (c .before .before), sym (c .before .is-uncounted .ensures) ∙ c .if2 .taken)
 
 returns-3 : tie.Need-returns-3
 unfolding refusalOf
-returns-3 c =
-    let c2 = c .before .before in
-    let c3 = c2 .before in
-    rw (sym (c3 .before .is-invalid .ensures) ∙ c3 .if1 .left, sym (c2 .is-uncounted .ensures) ∙ c .before .if2 .left, lt-ltb _ _ (c .if3 .taken))
+returns-3 c = rw (valid-passed (c .before .before .before), counted-passed (c .before), lt-ltb _ _ (c .if3 .taken))
 
 returns-4 : tie.Need-returns-4
 unfolding refusalOf
 returns-4 c =
-    let c3 = c .before .before .before in
-    let c4 = c3 .before in
-    let b = c4 .before .before in
-    rw (sym (c4 .before .is-invalid .ensures) ∙ c4 .if1 .left, sym (c3 .is-uncounted .ensures) ∙ c .before .before .if2 .left, le-ltb _ _ (c .before .if3 .left), lt-ltb (8 * b .args .bytes) (b .args .first + b .args .count) (omega arith))
+    let two = c .before .before in
+    let a = two .before .before .before .before .args in
+    let over = lt-ltb (8 * a .bytes) (a .first + a .count) (omega arith) in
+    rw (valid-passed (two .before .before), counted-passed two, le-ltb _ _ (c .before .if3 .left), over)
 
 returns-5 : tie.Need-returns-5
 unfolding refusalOf
 returns-5 c =
-    let c4 = c .before .before .before .before in
-    let c5 = c4 .before in
-    let b = c5 .before .before in
-    rw (sym (c5 .before .is-invalid .ensures) ∙ c5 .if1 .left, sym (c4 .is-uncounted .ensures) ∙ c .before .before .before .if2 .left, le-ltb _ _ (c .before .before .if3 .left), lt-ltb (8 * b .args .bytes) (b .args .first + b .args .count) (omega arith))
+    let two = c .before .before .before in
+    let a = two .before .before .before .before .args in
+    let over = lt-ltb (8 * a .bytes) (a .first + a .count) (omega arith) in
+    rw (valid-passed (two .before .before), counted-passed two, le-ltb _ _ (c .before .before .if3 .left), over)
 
 returns-6 : tie.Need-returns-6
 unfolding refusalOf
 returns-6 c =
-    let c4 = c .before .before .before .before in
-    let c5 = c4 .before in
-    let b = c5 .before .before in
-    rw (sym (c5 .before .is-invalid .ensures) ∙ c5 .if1 .left, sym (c4 .is-uncounted .ensures) ∙ c .before .before .before .if2 .left, le-ltb _ _ (c .before .before .if3 .left), le-ltb (8 * b .args .bytes) (b .args .first + b .args .count) (omega arith))
+    let two = c .before .before .before in
+    let a = two .before .before .before .before .args in
+    let fits = le-ltb (8 * a .bytes) (a .first + a .count) (omega arith) in
+    rw (valid-passed (two .before .before), counted-passed two, le-ltb _ _ (c .before .before .if3 .left), fits)
 
 pub refusal-of-spec : {M : Type 1} → statement M
 refusal-of-spec =

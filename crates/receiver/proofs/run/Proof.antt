@@ -71,7 +71,9 @@ keep-requires c κs =
     let c4 = c3 .before in
     let c6 = c4 .before .before in
     let b = c6 .before .before .before .before .before .before .before .before .before in
-    (b .pre .0, omega (arith, b .pre .0 .word-short), rw (c3 .step .ensures .0) (step-valid (b .args .row) (b .pre .0) _ (c6 .hunt-on .ensures .valid) (c4 .digit-at .result)), c4 .digit-at .ensures .1)
+    let d = c4 .digit-at in
+    let valid = step-valid (b .args .row) (b .pre .0) _ (c6 .hunt-on .ensures .valid) (d .result) in
+    (b .pre .0, omega (arith, b .pre .0 .word-short), rw (c3 .step .ensures .0) valid, d .ensures .1)
 
 add-p : tie.Need-add-p Inv-loop μ-loop
 add-p c =
@@ -111,7 +113,8 @@ returns c =
     let h = c11 .hunt-on .ensures in
     let g = going-on _ _ _ _ _ _ _ _ _ _ _ _ _ _ _ _ (c13 .loop .inv) h in
     let ready = sym (c3 .is-ready .ensures) ∙ c2 .if1 .taken in
-    let whole = run-ready _ _ _ _ _ _ _ _ _ _ _ _ _ g (h .before) _ _ _ _ (c9 .digit-at .ensures .0) (c8 .step .ensures .0) (c8 .step .ensures .1) (c4 .keep .ensures) _ (c .before .count .ensures) ready in
+    let s = c8 .step .ensures in
+    let whole = run-ready _ _ _ _ _ _ _ _ _ _ _ _ _ g (h .before) _ _ _ _ (c9 .digit-at .ensures .0) (s .0) (s .1) (c4 .keep .ensures) _ (c .before .count .ensures) ready in
     c .accept .ensures ∙ (rw (c16 .core-of .ensures) at whole)
 
 loop-less : tie.Need-loop-less Inv-loop μ-loop

@@ -40,7 +40,9 @@ cast-preceding : tie.Need-cast-preceding Inv-loop μ-loop
 cast-preceding c = omega arith
 
 add-f : tie.Need-add-f Inv-loop μ-loop
-add-f c = omega (arith, c .before .before .before .before .before .before .before .before .before .loop .inv .1, c .before .before .before .before .before .before .before .before .before .before .before .before .pre .0 .few)
+add-f c =
+    let l = c .before .before .before .before .before .before .before .before .before in
+    omega (arith, l .loop .inv .1, l .before .before .before .pre .0 .few)
 
 loop-less : tie.Need-loop-less Inv-loop μ-loop
 loop-less c = omega arith

@@ -30,120 +30,90 @@ loop-holds c =
     let bytes : Bytes (b .args .line .now) = λ i. omega (arith, c .before .before .before .slice-known .given i) in
     (omega arith, refl, c .spread-table .ensures, filling-start _ _ _ _ _ _ _ bytes (b .pre .0) (b .pre .1))
 
+-- the loop's test says that the column lies in the line
+inside : (c : tie.In-loop Inv-loop μ-loop) → c .before .loop .x < 2 * length (c .before .before .before .before .before .before .args .line .now)
+inside c = omega (arith, c .before .loop .inv .1, c .loop-test .taken)
+
 ahead-requires : tie.Need-ahead-requires Inv-loop μ-loop
-ahead-requires c κs =
-    let l = c .before .loop in
-    let asks = next-asks (l .inv .3) (omega (arith, l .inv .1, c .loop-test .taken)) in
-    (asks .0, asks .3)
+ahead-requires c κs = let asks = next-asks (c .before .loop .inv .3) (inside c) in (asks .0, asks .3)
 
 put-columns-requires : tie.Need-put-columns-requires Inv-loop μ-loop
 put-columns-requires c κs =
-    let l = c .before .before .before .before .loop in
-    let ahead = c .before .before .ahead in
-    let asks = run-asks (l .inv .3) (omega (arith, l .inv .1, c .before .before .before .loop-test .taken)) (ahead .result) (ahead .ensures) in
-    (l .inv .2, asks .0, asks .1, asks .2, asks .3, asks .4)
+    let a = c .before .before in
+    let inv = a .before .before .loop .inv in
+    let asks = run-asks (inv .3) (inside (a .before)) (a .ahead .result) (a .ahead .ensures) in
+    (inv .2, asks .0, asks .1, asks .2, asks .3, asks .4)
 
 add-t24 : tie.Need-add-t24 Inv-loop μ-loop
 add-t24 c =
-    let l = c .before .before .before .before .before .before .before .before .loop in
-    let ahead = c .before .before .before .before .before .before .ahead in
-    let asks = run-asks (l .inv .3) (omega (arith, l .inv .1, c .before .before .before .before .before .before .before .loop-test .taken)) (ahead .result) (ahead .ensures) in
-    omega (arith, asks .3)
+    let a = c .before .before .before .before .before .before in
+    omega (arith, run-asks (a .before .before .loop .inv .3) (inside (a .before)) (a .ahead .result) (a .ahead .ensures) .3)
 
 columns-on-requires : tie.Need-columns-on-requires Inv-loop μ-loop
 columns-on-requires c κs =
-    let l = c .before .before .before .before .before .before .before .before .loop in
-    let ahead = c .before .before .before .before .before .before .ahead in
-    on-asks (l .inv .3) (omega (arith, l .inv .1, c .before .before .before .before .before .before .before .loop-test .taken)) (ahead .result) (ahead .ensures)
+    let a = c .before .before .before .before .before .before in
+    on-asks (a .before .before .loop .inv .3) (inside (a .before)) (a .ahead .result) (a .ahead .ensures)
+
+-- where the walk stands behind the columns that went by whole bytes
+ran : (c : tie.After-columns-on Inv-loop μ-loop) →
+    let a = c .before .before .before .before .before .before .before in
+    let l = a .before .before .loop in
+    let s = a .before .before .before .before .before .before .before .args in
+    (l .x + a .ahead .result < 2 * length (s .line .now))
+    × Filling (s .row) (s .earlier) (s .notes .now) (digitsOf (s .buffer .now)) (s .line .now) (s .j) (length (s .buffer .now)) (l .x + a .ahead .result)
+    (l .i .0 + a .ahead .result) (c .columns-on .result) (c .before .before .before .before .put-columns .last .1 .0)
+ran c =
+    let a = c .before .before .before .before .before .before .before in
+    let so-far = a .before .before .loop .inv .3 in
+    let k = a .ahead .result in (
+      run-past so-far (inside (a .before)) k (a .ahead .ensures),
+      filling-run so-far (inside (a .before)) k (a .ahead .ensures) _ (c .before .before .before .before .put-columns .ensures) _ (c .columns-on .ensures),
+    )
 
 add-x : tie.Need-add-x Inv-loop μ-loop
-add-x c =
-    let l = c .before .before .before .before .before .before .before .before .before .loop in
-    let ahead = c .before .before .before .before .before .before .before .ahead in
-    omega (arith, l .inv .1, run-past (l .inv .3) (omega (arith, l .inv .1, c .before .before .before .before .before .before .before .before .loop-test .taken)) (ahead .result) (ahead .ensures))
+add-x c = omega (arith, ran c .0, c .before .before .before .before .before .before .before .before .before .loop .inv .1)
 
 mul-t24 : tie.Need-mul-t24 Inv-loop μ-loop
-mul-t24 c =
-    let l = c .before .before .before .before .before .before .before .before .before .loop in
-    let ahead = c .before .before .before .before .before .before .before .ahead in
-    let inside : l .x < 2 * length (c .before .before .before .before .before .before .before .before .before .before .before .before .before .before .args .line .now) = omega (arith, l .inv .1, c .before .before .before .before .before .before .before .before .loop-test .taken) in
-    let past = run-past (l .inv .3) inside (ahead .result) (ahead .ensures) in
-    let run = filling-run (l .inv .3) inside (ahead .result) (ahead .ensures) _ (c .before .before .before .before .put-columns .ensures) _ (c .columns-on .ensures) in
-    omega (arith, here-is run past .line-short, past)
+mul-t24 c = omega (arith, here-is (ran c .1) (ran c .0) .line-short, ran c .0)
 
 add-t25 : tie.Need-add-t25 Inv-loop μ-loop
-add-t25 c =
-    let l = c .before .before .before .before .before .before .before .before .before .loop in
-    let ahead = c .before .before .before .before .before .before .before .ahead in
-    let inside : l .x < 2 * length (c .before .before .before .before .before .before .before .before .before .before .before .before .before .before .args .line .now) = omega (arith, l .inv .1, c .before .before .before .before .before .before .before .before .loop-test .taken) in
-    let past = run-past (l .inv .3) inside (ahead .result) (ahead .ensures) in
-    let run = filling-run (l .inv .3) inside (ahead .result) (ahead .ensures) _ (c .before .before .before .before .put-columns .ensures) _ (c .columns-on .ensures) in
-    omega (arith, here-is run past .line-short, past)
+add-t25 c = omega (arith, here-is (ran c .1) (ran c .0) .line-short, ran c .0)
 
 preceding-of-requires : tie.Need-preceding-of-requires Inv-loop μ-loop
-preceding-of-requires c κs =
-    let l = c .before .before .before .before .before .before .before .before .before .loop in
-    let ahead = c .before .before .before .before .before .before .before .ahead in
-    let inside : l .x < 2 * length (c .before .before .before .before .before .before .before .before .before .before .before .before .before .before .args .line .now) = omega (arith, l .inv .1, c .before .before .before .before .before .before .before .before .loop-test .taken) in
-    let past = run-past (l .inv .3) inside (ahead .result) (ahead .ensures) in
-    let run = filling-run (l .inv .3) inside (ahead .result) (ahead .ensures) _ (c .before .before .before .before .put-columns .ensures) _ (c .columns-on .ensures) in
-    here-is run past .frame-noted
+preceding-of-requires c κs = here-is (ran c .1) (ran c .0) .frame-noted
 
 note-of-requires : tie.Need-note-of-requires Inv-loop μ-loop
-note-of-requires c κs =
-    let l = c .before .before .before .before .before .before .before .before .before .before .loop in
-    let ahead = c .before .before .before .before .before .before .before .before .ahead in
-    let inside : l .x < 2 * length (c .before .before .before .before .before .before .before .before .before .before .before .before .before .before .before .args .line .now) = omega (arith, l .inv .1, c .before .before .before .before .before .before .before .before .before .loop-test .taken) in
-    let past = run-past (l .inv .3) inside (ahead .result) (ahead .ensures) in
-    let run = filling-run (l .inv .3) inside (ahead .result) (ahead .ensures) _ (c .before .before .before .before .before .put-columns .ensures) _ (c .before .columns-on .ensures) in
-    here-is run past .frame-noted
+note-of-requires c κs = here-is (ran (c .before) .1) (ran (c .before) .0) .frame-noted
 
 put-one-requires : tie.Need-put-one-requires Inv-loop μ-loop
 put-one-requires c κs =
-    let l = c .before .before .before .before .before .before .before .before .before .before .before .before .loop in
-    let ahead = c .before .before .before .before .before .before .before .before .before .before .ahead in
-    let inside : l .x < 2 * length (c .before .before .before .before .before .before .before .before .before .before .before .before .before .before .before .before .before .args .line .now) = omega (arith, l .inv .1, c .before .before .before .before .before .before .before .before .before .before .before .loop-test .taken) in
-    let past = run-past (l .inv .3) inside (ahead .result) (ahead .ensures) in
-    let run = filling-run (l .inv .3) inside (ahead .result) (ahead .ensures) _ (c .before .before .before .before .before .before .before .put-columns .ensures) _ (c .before .before .before .columns-on .ensures) in
-    put-asks run past (c .before .before .preceding-of .result) (c .before .note-of .result) (c .before .before .preceding-of .ensures) (c .before .note-of .ensures)
+    let r = ran (c .before .before .before) in
+    let first = c .before .before .preceding-of in
+    let note = c .before .note-of in
+    put-asks (r .1) (r .0) (first .result) (note .result) (first .ensures) (note .ensures)
 
 next-column-requires : tie.Need-next-column-requires Inv-loop μ-loop
-next-column-requires c κs =
-    let l = c .before .before .before .before .before .before .before .before .before .before .before .before .before .before .before .loop in
-    let ahead = c .before .before .before .before .before .before .before .before .before .before .before .before .before .ahead in
-    let inside : l .x < 2 * length (c .before .before .before .before .before .before .before .before .before .before .before .before .before .before .before .before .before .before .before .before .args .line .now) = omega (arith, l .inv .1, c .before .before .before .before .before .before .before .before .before .before .before .before .before .before .loop-test .taken) in
-    let past = run-past (l .inv .3) inside (ahead .result) (ahead .ensures) in
-    let run = filling-run (l .inv .3) inside (ahead .result) (ahead .ensures) _ (c .before .before .before .before .before .before .before .before .before .before .put-columns .ensures) _ (c .before .before .before .before .before .before .columns-on .ensures) in
-    next-asks run past
+next-column-requires c κs = let r = ran (c .before .before .before .before .before .before) in next-asks (r .1) (r .0)
 
 add-x-2 : tie.Need-add-x-2 Inv-loop μ-loop
-add-x-2 c =
-    let l = c .before .before .before .before .before .before .before .before .before .before .before .before .before .before .before .before .loop in
-    let ahead = c .before .before .before .before .before .before .before .before .before .before .before .before .before .before .ahead in
-    let inside : l .x < 2 * length (c .before .before .before .before .before .before .before .before .before .before .before .before .before .before .before .before .before .before .before .before .before .args .line .now) = omega (arith, l .inv .1, c .before .before .before .before .before .before .before .before .before .before .before .before .before .before .before .loop-test .taken) in
-    let past = run-past (l .inv .3) inside (ahead .result) (ahead .ensures) in
-    omega (arith, past, here-is (l .inv .3) inside .line-short)
+add-x-2 c = let r = ran (c .before .before .before .before .before .before .before) in omega (arith, r .0, here-is (r .1) (r .0) .line-short)
 
 loop-less : tie.Need-loop-less Inv-loop μ-loop
 loop-less c =
-    let l = c .before .before .before .before .before .before .before .before .before .before .before .before .before .before .before .before .loop in
-    let ahead = c .before .before .before .before .before .before .before .before .before .before .before .before .before .before .ahead in
-    let inside : l .x < 2 * length (c .before .before .before .before .before .before .before .before .before .before .before .before .before .before .before .before .before .before .before .before .before .args .line .now) = omega (arith, l .inv .1, c .before .before .before .before .before .before .before .before .before .before .before .before .before .before .before .loop-test .taken) in
-    let past = run-past (l .inv .3) inside (ahead .result) (ahead .ensures) in
-    omega (arith, past, l .inv .1)
+    let on = c .before .before .before .before .before .before .before in
+    omega (arith, ran on .0, on .before .before .before .before .before .before .before .before .before .loop .inv .1)
 
 loop-again : tie.Need-loop-again Inv-loop μ-loop
 loop-again c =
-    let l = c .before .before .before .before .before .before .before .before .before .before .before .before .before .before .before .before .loop in
-    let ahead = c .before .before .before .before .before .before .before .before .before .before .before .before .before .before .ahead in
-    let inside : l .x < 2 * length (c .before .before .before .before .before .before .before .before .before .before .before .before .before .before .before .before .before .before .before .before .before .args .line .now) = omega (arith, l .inv .1, c .before .before .before .before .before .before .before .before .before .before .before .before .before .before .before .loop-test .taken) in
-    let past = run-past (l .inv .3) inside (ahead .result) (ahead .ensures) in
-    let run = filling-run (l .inv .3) inside (ahead .result) (ahead .ensures) _ (c .before .before .before .before .before .before .before .before .before .before .before .put-columns .ensures) _ (c .before .before .before .before .before .before .before .columns-on .ensures) in
+    let put = c .before .before .before .put-one in
     let note = c .before .before .before .before .before .note-of in
     let first = c .before .before .before .before .before .before .preceding-of in
-    let put = c .before .before .before .put-one in
-    let more = filling-more run past (first .result) (note .result) (first .ensures) (note .ensures) (put .result .0) _ (put .ensures) (put .kept .1 .1 .0) _ (c .next-column .ensures) in
-    (omega (arith, past, l .inv .1), l .inv .1, l .inv .2, more)
+    let on = c .before .before .before .before .before .before .before in
+    let r = ran on in
+    let inv = on .before .before .before .before .before .before .before .before .before .loop .inv in
+    let more = filling-more (r .1) (r .0) (first .result) (note .result) (first .ensures) (note .ensures) (put .result .0) _ (put .ensures)
+    (put .kept .1 .1 .0) _ (c .next-column .ensures) in
+    (omega (arith, r .0, inv .1), inv .1, inv .2, more)
 
 same-length : tie.Need-same-length Inv-loop μ-loop
 same-length c = c .before .loop .inv .3 .kept

@@ -29,12 +29,14 @@ returns-2 : tie.Need-returns-2
 returns-2 c =
     let c3 = c .before .before .before in
     let c5 = c3 .before .before in
-    let a = c5 .before .before .before .before .args in
+    let s = c5 .before .before .before .before in
+    let a = s .args in
     let no = c5 .number-of in
     let z = sym (no .ensures) ∙ c3 .before .if1 .left in
     let four = one-of-four _ _ _ _ _ _ z in
     let filled = c .before .before .fill .ensures in
-    let taken = digits-taken (a .row) (a .earlier) (a .notes .now) (a .buffer .now) _ _ (a .line .now) _ filled (omega (arith, four .0, four .1)) (fits _ _ _ _ _ _ z (c5 .before .before .before .before .pre)) in
+    let fit = fits _ _ _ _ _ _ z (s .pre) in
+    let taken = digits-taken (a .row) (a .earlier) (a .notes .now) (a .buffer .now) _ _ (a .line .now) _ filled (omega (arith, four .0, four .1)) fit in
     rw z (ap (λ (n : ℕ). record { refusal = 0; digits = n }) taken, line-left (a .row) (a .earlier) (a .notes .now) (a .buffer .now) _ _ (a .line .now) _ filled)
 
 pub swap-on-spec : {M : Type 1} → statement M

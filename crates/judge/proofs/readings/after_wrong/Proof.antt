@@ -1,5 +1,6 @@
 -- `after_wrong`: of the two readings the fewer wrong digits.
 use mathlib.Core.Path.{_≡_, _∙_}
+use Prim.Native.Nat.{ℕ}
 use Rattle.judge.specs.Readings.{majorities, noneStuffed, allStuffed, afterVotes}
 use Rattle.judge.specs.Verdict.{wrongBy, afterWrong}
 use Rattle.judge.proofs.Quartered.{fewer-both}
@@ -17,9 +18,9 @@ unfolding afterWrong
 returns c =
     let a = c .before .before .before .before .before .before .before .before .before .before .before .before .args in
     let line = a .line .now in
+    let by : ℕ → ℕ → ℕ = λ (u : ℕ). wrongBy (a .row) line (a .pattern) (a .buffer .now) (afterVotes (majorities (a .row) line) u) in
     c .fewer-four .ensures
-    ∙ fewer-both _ _ (wrongBy (a .row) line (a .pattern) (a .buffer .now) (afterVotes (majorities (a .row) line) noneStuffed))
-    (wrongBy (a .row) line (a .pattern) (a .buffer .now) (afterVotes (majorities (a .row) line) allStuffed)) (c .before .before .before .before .before .before .before .after-by .ensures) (c .before .before .before .after-by2 .ensures)
+    ∙ fewer-both (by noneStuffed) (by allStuffed) (c .before .before .before .before .before .before .before .after-by .ensures) (c .before .before .before .after-by2 .ensures)
 
 pub after-wrong-spec : {M : Type 1} → statement M
 after-wrong-spec = tie.close (tie.spec (λ c κs. search needs) after-by-requires-2 (λ c κs. search needs) (λ c. search needs) returns)

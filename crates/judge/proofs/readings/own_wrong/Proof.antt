@@ -13,12 +13,13 @@ use Rattle.judge.proofs.readings.own_wrong.Tie as tie
 returns : tie.Need-returns
 unfolding ownWrong
 returns c =
-    let a = c .before .before .before .before .before .before .before .before .before .before .args in
+    let s = c .before .before .before .before .before .before .before .before .before .before in
+    let a = s .args in
     let line = a .line .now in
     let F = length line / a .row .bytes in
     let e : F + 1 - 1 ≡ F = omega arith in
     c .before .before .wrong-by .ensures
-    ∙ by-votes (a .row) line (a .pattern) (a .buffer .now) (ownVotes (a .earlier) (majorities (a .row) line)) (a .earlier) _ refl (rw e (c .before .before .before .before .before .before .before .before .before .before .pre .1 .read))
+    ∙ by-votes (a .row) line (a .pattern) (a .buffer .now) (ownVotes (a .earlier) (majorities (a .row) line)) refl (rw e (s .pre .1 .read))
 
 pub own-wrong-spec : {M : Type 1} → statement M
 own-wrong-spec = tie.close (tie.spec (λ c. search needs) (λ c. search needs) (λ c. search needs) (λ c. search needs) (λ c. search needs) (λ c κs. search needs) (λ c. search needs) returns)

@@ -38,4 +38,7 @@ returns c =
     rw (quarter-part (a .buffer .now) (a .j), quarter-part (a .read .now) (a .j)) at (c .wrong-in .ensures)
 
 pub wrong-of-spec : {M : Type 1} → statement M
-wrong-of-spec = tie.close (tie.spec mul-a add-e mul-b add-f (λ c. search needs) (λ c. search needs) part-wrong-in-end (λ c. search needs) (λ c. search needs) part-wrong-in-end-2 wrong-in-requires returns)
+wrong-of-spec =
+    tie.close
+    (tie.spec mul-a add-e mul-b add-f (λ c. search needs) (λ c. search needs) part-wrong-in-end (λ c. search needs) (λ c. search needs)
+    part-wrong-in-end-2 wrong-in-requires returns)

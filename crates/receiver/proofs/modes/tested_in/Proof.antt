@@ -6,13 +6,14 @@ use native.Mathlib.Omega.{arith}
 use Rattle.receiver.proofs.modes.tested_in.Statement.{statement}
 use Rattle.receiver.proofs.modes.tested_in.Tie as tie
 
-from-the-word : (x l : ℕ) → 2 ≤ l → x - (l - 1) ≡ x + 1 - l
-from-the-word x l some = omega arith
+from-the-word : (l : ℕ) → 2 ≤ l → (x : ℕ) → x - (l - 1) ≡ x + 1 - l
+from-the-word l some x = omega arith
 
 returns : tie.Need-returns
 returns c =
     let b = c .before .before .before in
-    rw (c .before .after .ensures, c .after2 .ensures, from-the-word (b .args .came) (b .args .row .len) (b .pre .0 .word-some), from-the-word (b .args .seen) (b .args .row .len) (b .pre .0 .word-some))
+    let from = from-the-word (b .args .row .len) (b .pre .0 .word-some) in
+    rw (c .before .after .ensures, c .after2 .ensures, from (b .args .came), from (b .args .seen))
 
 pub tested-in-spec : {M : Type 1} → statement M
 tested-in-spec = tie.close (tie.spec (λ c. search needs) (λ c κs. search needs) (λ c κs. search needs) (λ c. search needs) returns)

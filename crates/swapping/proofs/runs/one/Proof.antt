@@ -20,5 +20,5 @@ one-run-requires c κs = (c .before .before .before .before .before .before .bef
 pub one-spec : {M : Type 1} → statement M
 one-spec =
     tie.close
-    (tie.spec (λ c κs. search needs) (λ c κs. search needs) (λ c κs. search needs) (λ c. search needs) (λ c κs. search needs) (λ c. search needs) slice-aggregate-one-run (λ c. search needs) slice-aggregate-one-run-2
-    (λ c. search needs) slice-aggregate-one-run-3 one-run-requires (λ c. search needs))
+    (tie.spec (λ c κs. search needs) (λ c κs. search needs) (λ c κs. search needs) (λ c. search needs) (λ c κs. search needs) (λ c. search needs)
+    slice-aggregate-one-run (λ c. search needs) slice-aggregate-one-run-2 (λ c. search needs) slice-aggregate-one-run-3 one-run-requires (λ c. search needs))
