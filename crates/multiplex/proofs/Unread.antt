@@ -79,14 +79,16 @@ same-fault row earlier line notes b b′ e = rw e
 pub not-looked-at : (level earlier : ℕ) (line notes b b′ : List ℕ)
     → ((row : Row) → levelOf level ≡ Of row → badBuffer row (length line) (length b) ≡ badBuffer row (length line) (length b′))
     → ((row : Row) → levelOf level ≡ Of row → Agree row earlier notes (λ (j : ℕ). digitsOf (quarterOf b j)) (λ (j : ℕ). digitsOf (quarterOf b′ j)))
-    → (sendAnswered level earlier (length line) notes (length b) ≡ sendAnswered level earlier (length line) notes (length b′)) × (lineAfter level earlier line notes b ≡ lineAfter level earlier line notes b′)
+    → (sendAnswered level earlier (length line) notes (length b) ≡ sendAnswered level earlier (length line) notes (length b′))
+    × (lineAfter level earlier line notes b ≡ lineAfter level earlier line notes b′)
 not-looked-at level earlier line notes b b′ room same = go (levelOf level) refl
   where
     on-row : (row : Row) → levelOf level ≡ Of row → (r : Bool) → eqb (sendFaultOf row earlier (length line) notes (length b′) .refusal) 0 ≡ r
         → lineOn row earlier line notes b ≡ lineOn row earlier line notes b′
     on-row row e true er =
         let er′ : eqb (sendFaultOf row earlier (length line) notes (length b) .refusal) 0 ≡ true = rw (same-fault row earlier (length line) notes (length b) (length b′) (room row e)) er in
-        let ok = faultless row earlier (length line) notes (length b′) (send-faultless row earlier (length line) notes (length b′) (eqb-true (sendFaultOf row earlier (length line) notes (length b′) .refusal) 0 er) .0) .0 .framed in
+        let none = eqb-true (sendFaultOf row earlier (length line) notes (length b′) .refusal) 0 er in
+        let ok = faultless row earlier (length line) notes (length b′) (send-faultless row earlier (length line) notes (length b′) none .0) .0 .framed in
         rw (er′, er)
         (same-line row (shared-row level row e) earlier notes _ _ (same row e) (length line) (ok .frames ∙ ap (λ (F : ℕ). F * row .bytes) (sym (ok .noted))))
     on-row row e false er =

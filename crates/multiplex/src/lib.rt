@@ -155,7 +155,10 @@ fn later_column(
         × (r < 65536)
         × Rely row (λ (j : ℕ). actionOf row (stuffed preceding j) (stuffed note j)) set r (length (now buffer) / 4) (now next)
         ⌝ }
-    ensures { λ w. ⌜ PlacedTo row note (λ (j : ℕ). actionOf row (stuffed preceding j) (stuffed note j)) set r (now (buffer .entry)) (now (next .entry)) 4 w (now (next .exit)) ⌝ }
+    ensures { λ w. ⌜
+        PlacedTo row note (λ (j : ℕ). actionOf row (stuffed preceding j) (stuffed note j)) set r (now (buffer .entry)) (now (next .entry)) 4 w
+        (now (next .exit))
+        ⌝ }
 {
     let kind = places::kind_of(
         row,
@@ -192,7 +195,10 @@ fn head_column(
         × (r < headEnd row set)
         × Rely row (λ (j : ℕ). actionOf row (stuffed preceding j) (stuffed note j)) set r (length (now buffer) / 4) (now next)
         ⌝ }
-    ensures { λ w. ⌜ PlacedTo row note (λ (j : ℕ). actionOf row (stuffed preceding j) (stuffed note j)) set r (now (buffer .entry)) (now (next .entry)) 4 w (now (next .exit)) ⌝ }
+    ensures { λ w. ⌜
+        PlacedTo row note (λ (j : ℕ). actionOf row (stuffed preceding j) (stuffed note j)) set r (now (buffer .entry)) (now (next .entry)) 4 w
+        (now (next .exit))
+        ⌝ }
 {
     if set == 0 {
         return first_column(row, note, r);

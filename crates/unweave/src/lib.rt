@@ -85,7 +85,10 @@ fn few_columns(table: &[u64; 256], line: &[u8], p: usize, n: usize) -> Columns
 // Eight columns more, from place p of the line on.
 fn eight_more(table: &[u64; 256], line: &[u8], p: usize, x: Columns) -> Columns
     requires { ⌜ (now table ≡ tab 256 0 (lanesOf 2)) × (p + 32 ≤ 8 * length (now line)) × Below 24 x ⌝ }
-    ensures { λ r. ⌜ ((start k : ℕ) → p ≡ start + 4 * k → Numbered (digitsOf (now (line .entry))) start k x → Numbered (digitsOf (now (line .entry))) start (k + 8) r) ⌝ }
+    ensures { λ r. ⌜
+        ((start k : ℕ) → p ≡ start + 4 * k → Numbered (digitsOf (now (line .entry))) start k x
+        → Numbered (digitsOf (now (line .entry))) start (k + 8) r)
+        ⌝ }
 {
     let g = sorting::gather(table, words::read_digits(line, p, 32));
     let a = x.a * 256 + sorting::lane(g, 0);

@@ -14,4 +14,5 @@ abbrev μ-loop : tie.MeasureT-loop
 pub line-end-spec : {M : Type 1} → statement M
 line-end-spec =
     tie.close
-    (tie.spec Inv-loop μ-loop (λ c. (omega arith, omega arith)) (λ c. omega arith) (λ c. (omega arith, omega arith)) (λ c. omega arith) (λ c. omega arith) (λ c. (omega arith, omega arith)) (λ c. (omega arith, omega arith)))
+    (tie.spec Inv-loop μ-loop (λ c. (omega arith, omega arith)) (λ c. omega arith) (λ c. (omega arith, omega arith)) (λ c. omega arith)
+    (λ c. omega arith) (λ c. (omega arith, omega arith)) (λ c. (omega arith, omega arith)))

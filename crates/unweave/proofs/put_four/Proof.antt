@@ -32,8 +32,13 @@ put-quarter-requires-4 c κs =
     let c3 = c .before .before .before in
     let c7 = c3 .before .before .before .before in
     let c11 = c7 .before .before .before .before in
-    let c18 = c11 .before .before .before .before .before .before .before in
-    (omega (arith, c18 .pre .0, c11 .put-quarter .kept .0, c7 .put-quarter2 .kept .0, c3 .put-quarter3 .kept .0), omega arith, omega (arith, c18 .pre .1), c18 .pre .2 3 (omega arith), c18 .pre .3 3 (omega arith))
+    let c18 = c11 .before .before .before .before .before .before .before in (
+      omega (arith, c18 .pre .0, c11 .put-quarter .kept .0, c7 .put-quarter2 .kept .0, c3 .put-quarter3 .kept .0),
+      omega arith,
+      omega (arith, c18 .pre .1),
+      c18 .pre .2 3 (omega arith),
+      c18 .pre .3 3 (omega arith),
+    )
 
 same-length : tie.Need-same-length
 same-length c =

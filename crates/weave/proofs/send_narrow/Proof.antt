@@ -32,7 +32,8 @@ send-first-requires c κs =
     let b = args .args in
     let pre = args .pre in
     let few =
-    first-few (digitsOf (b .a .now)) (digitsOf (b .b .now)) (digitsOf (b .c .now)) (digitsOf (b .d .now)) (digits-binary (b .a .now)) (digits-binary (b .b .now)) (digits-binary (b .c .now)) (digits-binary (b .d .now)) (b .i) (b .columns) _ _ _ _
+    first-few (digitsOf (b .a .now)) (digitsOf (b .b .now)) (digitsOf (b .c .now)) (digitsOf (b .d .now))
+    (digits-binary (b .a .now)) (digits-binary (b .b .now)) (digits-binary (b .c .now)) (digits-binary (b .d .now)) (b .i) (b .columns) _ _ _ _
     (r1 .read-digits .ensures .0) (r2 .read-digits2 .ensures .0) (r3 .read-digits3 .ensures .0) (r4 .read-digits4 .ensures .0) (b .columns % 8) (b .columns - b .columns % 8) (omega arith) in
     (pre .0, pre .1, omega (arith, pre .2), omega (arith, pre .3), omega arith, few .0, few .1, few .2, few .3)
 
@@ -93,7 +94,8 @@ returns-2 c =
     let back : b .columns - rest ≡ first = omega arith in
     let eights = eights-all _ _ _ _ _ _ _ _ _ _ _ _ _ _ _ (c1 .loop .inv) (omega (arith, c .loop-test .left)) (b .i)
     (r1 .read-digits .ensures .0) (r2 .read-digits2 .ensures .0) (r3 .read-digits3 .ensures .0) (r4 .read-digits4 .ensures .0) in
-    let few = first-woven (digitsOf (b .a .now)) (digitsOf (b .b .now)) (digitsOf (b .c .now)) (digitsOf (b .d .now)) (digits-binary (b .a .now)) (digits-binary (b .b .now)) (digits-binary (b .c .now)) (digits-binary (b .d .now)) (b .i) (b .columns) _ _ _ _
+    let few = first-woven (digitsOf (b .a .now)) (digitsOf (b .b .now)) (digitsOf (b .c .now)) (digitsOf (b .d .now))
+    (digits-binary (b .a .now)) (digits-binary (b .b .now)) (digits-binary (b .c .now)) (digits-binary (b .d .now)) (b .i) (b .columns) _ _ _ _
     (r1 .read-digits .ensures .0) (r2 .read-digits2 .ensures .0) (r3 .read-digits3 .ensures .0) (r4 .read-digits4 .ensures .0) first rest (omega arith) (omega arith) in
     woven-more (digitsOf (b .a .now)) (digitsOf (b .b .now)) (digitsOf (b .c .now)) (digitsOf (b .d .now)) (b .i) _ first rest (b .columns) _ _ _ _ _ _
     (rw few at (c4 .send-first .ensures)) refl (rw back at eights) (omega arith)
