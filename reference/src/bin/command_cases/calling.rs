@@ -28,7 +28,7 @@ const COMMANDS: [&str; 22] = [
 ];
 
 /// Wrong calls. The files that they name are there.
-const WRONG: [&str; 78] = [
+const WRONG: [&str; 85] = [
     "",
     "bogus",
     "sen 2 notes tributaries out",
@@ -72,6 +72,13 @@ const WRONG: [&str; 78] = [
     "repair 12:5 line",
     "repair :5 line",
     "repair 2 line out more",
+    "judge",
+    "judge line",
+    "judge 2 line",
+    "judge 12:5 line",
+    "judge :5 line",
+    "judge 2 line tributaries out",
+    "judge 2 line tributaries out more.html",
     "take :5 line out",
     "take 12:5 line out",
     "take :5 line out out",
