@@ -118,7 +118,10 @@ const WRONG: [&str; 85] = [
 
 pub fn cases() -> Vec<Case> {
     let form = |command: &&str| format!("spritbobbin {command}( |$)");
-    let forms: Vec<String> = COMMANDS.iter().map(form).collect();
+    let mut forms: Vec<String> = COMMANDS.iter().map(form).collect();
+    // A page is asked for by the same word in both forms of judge.
+    forms.push(r"judge LEVEL LINE SENT \[PAGE\.html\] ".into());
+    forms.push(r"judge CAPTURE SENT \[PAGE\.html\] ".into());
     // Of the last line no more is asked than that it is no refusal and no failure.
     let mut cases = vec![Case::new("help").like(words("help"), 0, &forms, "^[^rf]")];
     cases.extend(WRONG.iter().map(|command| wrong(command)));
