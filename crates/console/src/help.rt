@@ -18,8 +18,9 @@ pub fn forms() {
                                                      the file NEW is LINE with this tributary written anew
   ./spritbobbin repair LEVEL LINE NEW                the file NEW is LINE with worn digits set right
   ./spritbobbin repair-national LEVEL LINE NEW       as repair, and national digits are set to 1
-  ./spritbobbin judge LEVEL LINE SENT                did the clock move, or the frame index; SENT: TRIBUTARIES as sent,
-                                                     or pattern-15, pattern-23; CAPTURE for LEVEL LINE
+  ./spritbobbin judge LEVEL LINE SENT [PAGE.html]    did the clock move, or the frame index; SENT: TRIBUTARIES as sent,
+                                                     or pattern-15, pattern-23; PAGE.html: writes a page to be shown
+  ./spritbobbin judge CAPTURE SENT [PAGE.html]       the same of the line of a capture
   ./spritbobbin find LEVEL STREAM [PREFIX]           finds the frames in a recording; PREFIX: takes them apart
   ./spritbobbin watch LEVEL STREAM [..]              up to 64 recordings side by side, LEVEL and STREAM of each
   ./spritbobbin keep LEVEL LINE CAPTURE [LABEL]      makes a capture of up to 64 frames, with a site label
@@ -33,7 +34,7 @@ pub fn forms() {
   ./spritbobbin hunt RECORDING                       finds the frames of 2048 kbit/s in a recording
   ./spritbobbin help                                 these forms
 LEVEL is 2, 3, 4, 12 or 14; 12:5 is level 12 where the frame before the first has the votes 5.
-On a capture take, swap, repair and repair-national have CAPTURE for LINE, and no LEVEL, or :5 in its place for those votes.
+On a capture take, swap, repair, repair-national and judge have CAPTURE for LINE, and no LEVEL, or :5 in its place for those votes.
 ",
     );
 }

@@ -1,5 +1,6 @@
 // The demo: eight frames at level 2 from a right multiplexer and from one that acts on its decisions a frame late, taken apart and compared
-// with what was sent. Tributary 1 is stuffed in every frame, the others alternate.
+// with what was sent; then the verdict on the late one. Tributary 1 is stuffed in every frame, the others alternate.
+use crate::verdict;
 use console::say;
 use recordings::sizes;
 use workbench::Compared;
@@ -38,6 +39,7 @@ pub fn run() {
     let counts = slow.counts;
     show(&late_line, &sent, counts);
     shown();
+    verdict::all(&late_line, &sent);
 }
 
 fn shown() {
@@ -130,10 +132,10 @@ fn row(sent: &[u8; 824], back: &[u8; 824], j: usize, count: usize, came: usize) 
     say::column(b"     ", j % 4 + 1);
     say::column(b"        ", count);
     say::column(b"      ", came);
-    verdict(r);
+    wrong_digits(r);
 }
 
-fn verdict(r: Compared) {
+fn wrong_digits(r: Compared) {
     if r.wrong == 0 {
         say::text(b"                none");
     } else {

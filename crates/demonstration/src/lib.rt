@@ -1,2 +1,3 @@
 // The command demo.
 pub mod demo;
+mod verdict;

@@ -1,5 +1,5 @@
-// judge LEVEL LINE SENT [PAGE.html], and judge CAPTURE SENT [PAGE.html]: SENT is the file of the digits that went into the tributaries, as send takes
-// them, or one of the words pattern-15 and pattern-23.
+// judge LEVEL LINE SENT [PAGE.html], and judge CAPTURE SENT [PAGE.html] or judge :VOTE CAPTURE SENT [PAGE.html]: SENT is the file of the digits that went
+// into the tributaries, as send takes them, or one of the words pattern-15 and pattern-23.
 use crate::said;
 use crate::source;
 use crate::source::Asked;
@@ -8,6 +8,7 @@ use console::help;
 use console::words;
 use holding::held::Line;
 use holding::held::Sent;
+use keeping::called;
 use keeping::capture;
 use keeping::capture::Opened;
 use keeping::refusals;
@@ -19,40 +20,41 @@ ghost use Prim.Native.Nat.{_≤_};
 ghost use Rattle.levels.specs.Table.{Shared};
 ghost use Rattle.recordings.specs.Sizes.{longest};
 
-// The words of the call by number: the level or the capture, then the others.
+// The words of the call by number: the level or the vote before a capture, and, where no page is asked for, the last.
 const FIRST: usize = 2;
 
-const LINE: usize = 3;
+const SENT: usize = 4;
 
-// The last word of a call with a level, of one with a capture, and of the longest one.
-const OF_LINE: usize = 4;
-
-const OF_CAPTURE: usize = 3;
-
-const MOST: usize = 5;
-
-// Whether the command may have a last word of this number.
+// Whether the command may have a last word of this number: a call with a capture has one less than one with a level, one with a page one more.
 pub fn fits(last: usize) -> bool {
-    OF_CAPTURE <= last && last <= MOST
+    called::fits(last, SENT) || called::fits(sizes::minus(last, 1), SENT)
 }
 
 pub fn run(last: usize) {
     let paged = source::is_page(last);
     let words = sizes::minus(last, paged);
-    if words == OF_LINE {
-        by_level(source::words_of(LINE, OF_LINE, paged));
+    let by = called::by(words, SENT);
+    if by.short || !called::fits(words, SENT) {
+        wrong_words();
         return;
     }
-    if words == OF_CAPTURE && !source::is_level(FIRST) {
-        by_capture(source::words_of(FIRST, OF_CAPTURE, paged));
+    let asked = source::words_of(by.first, paged);
+    if source::share_a_name(asked) {
+        help::wrong_call(
+            b"PAGE.html is a file of its own: give it no name of a file that is read.",
+        );
         return;
     }
-    wrong_words();
+    if by.captured {
+        by_capture(asked, by.earlier);
+        return;
+    }
+    by_level(asked);
 }
 
 pub fn wrong_words() {
     help::wrong_call(
-        b"judge takes a level and two files, or a capture and a file, and a file that ends in .html where a page is wanted.",
+        b"judge takes a level and two files, or without the level a capture and one, and a file that ends in .html where a page is wanted.",
     );
 }
 
@@ -94,7 +96,7 @@ fn voted(row: Row, level: u64, earlier: u64, asked: Asked)
     sent_on(row, level, earlier, whole, asked);
 }
 
-fn by_capture(asked: Asked) {
+fn by_capture(asked: Asked, earlier: u64) {
     if source::refused(asked) {
         return;
     }
@@ -103,14 +105,17 @@ fn by_capture(asked: Asked) {
     let r = c.reading;
     let found = table::level_of(r.level);
     match found {
-        Level::Of(row) => captured(row, c, asked),
+        Level::Of(row) => captured(row, c, asked, earlier),
         Level::NoSuchLevel => refusals::say(asked.line, c, &room),
     }
 }
 
-fn captured(row: Row, c: Opened, asked: Asked)
+fn captured(row: Row, c: Opened, asked: Asked, earlier: u64)
     requires { ⌜ Shared row ⌝ }
 {
+    if called::refused(row, earlier) {
+        return;
+    }
     let r = c.reading;
     let line = r.line;
     let whole = Line {
@@ -118,7 +123,7 @@ fn captured(row: Row, c: Opened, asked: Asked)
         first: line.start,
         frames: frames_of(row, sizes::least(line.bytes, capture::MOST)),
     };
-    sent_on(row, r.level, 0, whole, asked);
+    sent_on(row, r.level, earlier, whole, asked);
 }
 
 // What was sent: a pattern, or a file with four equal quarters that have room for the frames.

@@ -89,8 +89,8 @@ fn all(row: Row, level: u64, h: Held, parts: Parts, t: Timed, stages: usize, ask
 fn head(level: u64, frames: usize, stages: usize, asked: Asked) {
     say::rated(level);
     say::text(b": ");
-    numbers::grouped(numbers::screen(), frames);
-    say::text(b" frames, held against ");
+    numbers::frames(numbers::screen(), frames);
+    say::text(b", held against ");
     if stages == 0 {
         files::say_word(asked.sent);
     } else {

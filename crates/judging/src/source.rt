@@ -3,7 +3,7 @@ use console::files;
 use console::help;
 use console::say;
 use console::words;
-use table::Level;
+use recordings::sizes;
 
 // The words by number, the stages of the pattern that was sent or 0 where a file is named, WRONG where it is no pattern; and the word that names the
 // page, or 0.
@@ -16,8 +16,9 @@ pub struct Asked {
 
 const WRONG: usize = 1;
 
-// The word of this number, with what it says of a pattern. `paged` is 1 where a page is asked for, by the word after it.
-pub fn words_of(line: usize, sent: usize, paged: usize) -> Asked {
+// The words from the one on that names the line. `paged` is 1 where a page is asked for, by the word after what was sent.
+pub fn words_of(line: usize, paged: usize) -> Asked {
+    let sent = sizes::plus(line, 1);
     Asked {
         line,
         sent,
@@ -30,10 +31,18 @@ fn page_of(sent: usize, paged: usize) -> usize {
     if paged == 0 {
         return 0;
     }
-    match sent {
-        3 => 4,
-        _ => 5,
+    sizes::plus(sent, 1)
+}
+
+// Whether the page would be written over a file that is read.
+pub fn share_a_name(asked: Asked) -> bool {
+    if asked.page == 0 {
+        return false;
     }
+    if words::one_name(asked.page, asked.line) {
+        return true;
+    }
+    words::one_name(asked.page, asked.sent)
 }
 
 // 1 where the word of this number names a page: it ends in .html.
@@ -53,18 +62,6 @@ fn is_html(word: &[u8]) -> bool {
     }
     let first = n - 5;
     check::same(&word[first..n], b".html")
-}
-
-// Whether the word of this number is a level.
-pub fn is_level(k: usize) -> bool {
-    let mut word = io::buffer();
-    let n = os::arg(k, &mut word);
-    let asked = words::asked(&word[..n]);
-    let found = table::level_of(asked.level);
-    match found {
-        Level::Of(_) => true,
-        Level::NoSuchLevel => false,
-    }
 }
 
 // A pattern is said by its stages: pattern-15, pattern-23. Every other word names a file, but for one that begins so.

@@ -1,43 +1,101 @@
-// The drawings of one tributary: its rate over the recording with the band of its tolerance, and the strip of its decisions with the frames
-// marked at which each reading goes wrong. Both are 7200 units wide.
+// The drawings of one tributary: its rate over the recording with the band of its tolerance, and the strip of its decisions with a bar for each
+// reading, which turns red at the frame where it goes wrong. Both are 7200 units wide, of which the first 900 are for names.
 use crate::strip;
 use crate::strip::Strip;
 use console::page::Page;
-use evidence::rates::Off;
 use holding::held;
 use holding::held::Held;
 use holding::tracks::Track;
+use levels::order;
 use recordings::sizes;
 use table::Row;
-use timing::rates;
-use timing::timed::Parts;
-use timing::timed::Timed;
 use wording::numbers;
 ghost use Prim.Native.Nat.{_<_, _≤_};
 
-const WIDTH: usize = 7200;
+pub const LEFT: usize = 900;
 
-// Half the height of the rates, and the line of the nominal rate.
-const HALF: usize = 500;
+const WIDTH: usize = 6300;
 
-const NOMINAL: usize = 600;
+// A text that begins past this place stands before it, so that it ends inside the drawing.
+const LATE: usize = 4500;
 
-// The decisions of tributary j (from 0).
-pub fn decisions(p: Page, h: Held, s: Strip, j: usize) -> Page
+// The decisions of tributary j (from 0), and its readings above them.
+pub fn decisions(p: Page, row: Row, h: Held, s: Strip, j: usize) -> Page
     requires { ⌜ j < 4 ⌝ }
 {
+    if h.frames == 0 {
+        return p;
+    }
     let q = p.put(
-        b"<figure><svg viewBox=\"0 0 7200 700\" role=\"img\" aria-label=\"its decisions over the recording\">",
+        b"<figure><svg viewBox=\"0 0 7200 960\" role=\"img\" aria-label=\"its decisions over the recording\">",
     );
     let r = cells(q, s, j);
-    let u = mark(r, s, held::own(h, j), 110, b"own");
-    let v = mark(u, s, held::before(h, j), 220, b"before");
-    let w = mark(v, s, held::after(h, j), 330, b"after");
-    let x = w.put(b"</svg><figcaption>Its decisions from the first frame to the last, ");
-    let y = numbers::grouped(x, s.each);
-    y.put(
-        b" frames a cell: light carries a digit, dark is stuffed, between: both. A mark stands where a reading goes wrong for the first time.</figcaption></figure>\n",
-    )
+    let u = reading(r, s, held::own(h, j), 150, b"own frame");
+    let v = reading(u, s, held::before(h, j), 320, b"frame before");
+    let w = reading(v, s, held::after(h, j), 490, b"frame after");
+    let x = w.put(b"<text x=\"0\" y=\"730\">decisions</text>");
+    let y = ends(x, h.frames, 930);
+    caption(y, row, s)
+}
+
+// One reading: what it says, over a bar that is red from its first wrong digit on.
+fn reading(p: Page, s: Strip, t: Track, y: usize, name: &[u8]) -> Page {
+    let q = p.put(b"<text x=\"0\" y=\"");
+    let r = q.number(y);
+    let u = r.put(b"\">");
+    let v = u.put(name);
+    let w = v.put(b"</text>");
+    let x = bar(w, b"fits", LEFT, y);
+    if t.wrong == 0 {
+        return label(x, b"ok", LEFT, y, b"no wrong digit");
+    }
+    let at = across(strip::cell_of(t.frame, s.each), s.count);
+    let z = bar(x, b"miss", at, y);
+    first_wrong(z, at, y, t)
+}
+
+// From this place to the end, below the text at this height.
+fn bar(p: Page, class: &[u8], x: usize, y: usize) -> Page {
+    let q = p.put(b"<rect class=\"");
+    let r = q.put(class);
+    let s = r.put(b"\" x=\"");
+    let t = s.number(x);
+    let u = t.put(b"\" y=\"");
+    let v = u.number(sizes::plus(y, 20));
+    let w = v.put(b"\" height=\"40\" width=\"");
+    let z = w.number(sizes::minus(7200, x));
+    z.put(b"\"/>")
+}
+
+fn first_wrong(p: Page, x: usize, y: usize, t: Track) -> Page {
+    let q = label_open(p, b"at", x, y);
+    let r = q.put(b"first wrong digit in frame ");
+    let s = numbers::grouped(r, t.frame);
+    s.put(b"</text>")
+}
+
+fn label(p: Page, class: &[u8], x: usize, y: usize, text: &[u8]) -> Page {
+    let q = label_open(p, class, x, y);
+    let r = q.put(text);
+    r.put(b"</text>")
+}
+
+// A text that begins at this place or, where it would run out of the drawing, ends there.
+pub fn label_open(p: Page, class: &[u8], x: usize, y: usize) -> Page {
+    let q = p.put(b"<text class=\"");
+    let r = q.put(class);
+    let s = anchor(r, x);
+    let t = s.number(x);
+    let u = t.put(b"\" y=\"");
+    let v = u.number(y);
+    v.put(b"\">")
+}
+
+fn anchor(p: Page, x: usize) -> Page {
+    if LATE < x {
+        return p.put(b"\" text-anchor=\"end\" x=\"");
+    }
+    p.put(b"\" x=\"")
 }
 
 fn cells(p: Page, s: Strip, j: usize) -> Page
@@ -62,171 +120,49 @@ fn one_cell(p: Page, kind: u8, i: usize, count: usize) -> Page
     let r = q.number(kind as usize);
     let s = r.put(b"\" x=\"");
     let t = s.number(x);
-    let u = t.put(b"\" y=\"400\" width=\"");
+    let u = t.put(b"\" y=\"570\" width=\"");
     let v = u.number(sizes::minus(across(i + 1, count), x));
-    v.put(b"\" height=\"280\"/>")
+    v.put(b"\" height=\"240\"/>")
 }
 
-// Where cell i of so many begins.
-fn across(i: usize, count: usize) -> usize
+// Where part or cell i of so many begins.
+pub fn across(i: usize, count: usize) -> usize
     requires { ⌜ i ≤ 240 ⌝ }
 {
     if count == 0 {
-        return 0;
+        return LEFT;
     }
-    i * WIDTH / count
+    sizes::plus(LEFT, i * WIDTH / count)
 }
 
-// Where a reading goes wrong for the first time, in its own line above the strip.
-fn mark(p: Page, s: Strip, t: Track, y: usize, name: &[u8]) -> Page {
-    if t.wrong == 0 {
-        return p;
+// The first frame and the last, below a drawing.
+pub fn ends(p: Page, frames: usize, y: usize) -> Page {
+    let q = label(p, b"end", LEFT, y, b"frame 0");
+    if frames < 2 {
+        return q;
     }
-    let x = across(strip::cell_of(t.frame, s.each), s.count);
-    let q = p.put(b"<line class=\"mark\" x1=\"");
-    let r = q.number(x);
-    let u = r.put(b"\" x2=\"");
-    let v = u.number(x);
-    let w = v.put(b"\" y1=\"");
-    let a = w.number(sizes::minus(y, 90));
-    let b = a.put(b"\" y2=\"690\"/>");
-    label(b, x, y, name, t.frame)
+    let r = label_open(q, b"end", 7200, y);
+    let s = r.put(b"frame ");
+    let t = numbers::grouped(s, sizes::minus(frames, 1));
+    t.put(b"</text>")
 }
 
-fn label(p: Page, x: usize, y: usize, name: &[u8], frame: usize) -> Page {
-    let q = p.put(b"<text class=\"at\" x=\"");
-    let r = q.number(sizes::least(sizes::plus(x, 40), 5600));
-    let s = r.put(b"\" y=\"");
-    let t = s.number(y);
-    let u = t.put(b"\">");
-    let v = u.put(name);
-    let w = v.put(b": frame ");
-    let z = numbers::grouped(w, frame);
-    z.put(b"</text>")
-}
-
-// The rate of tributary j (from 0), part by part.
-pub fn rate(p: Page, row: Row, level: u64, parts: Parts, t: Timed, j: usize) -> Page
-    requires { ⌜ j < 4 ⌝ }
-{
-    if parts.count == 0 {
-        return p;
-    }
-    let most = largest(row, level, parts, t, j);
-    let q = p.put(
-        b"<figure><svg viewBox=\"0 0 7200 1200\" role=\"img\" aria-label=\"its rate over the recording\">",
-    );
-    let r = band(q, level, most);
-    let s = line_of(r, row, level, parts, t, j, most);
-    let u = s.put(
-        b"</svg><figcaption>Its rate over the recording in parts per million from nominal, a point for each part; the band is the tolerance of ",
-    );
-    let v = u.number(rates::tolerance(level));
-    v.put(b" ppm.</figcaption></figure>\n")
-}
-
-// The largest of the rates and of twice the tolerance, in tenths.
-fn largest(row: Row, level: u64, parts: Parts, t: Timed, j: usize) -> usize
-    requires { ⌜ j < 4 ⌝ }
-{
-    let mut most = 20 * rates::tolerance(level);
-    let mut i: usize = 0;
-    while i < 64 {
-        if i < parts.count {
-            most = larger(most, rates::in_part(row, level, parts, t, j, i));
-        }
-        i += 1;
-    }
-    most
-}
-
-fn larger(most: usize, off: Off) -> usize {
-    if most < off.tenths {
-        return off.tenths;
-    }
-    most
-}
-
-// How high a rate stands above the nominal one, of half the height.
-fn height(tenths: usize, most: usize) -> usize {
-    if most == 0 {
-        return 0;
-    }
-    sizes::least(sizes::least(tenths, 10000000) * HALF / most, HALF)
-}
-
-fn band(p: Page, level: u64, most: usize) -> Page {
-    let tenths = 10 * rates::tolerance(level);
-    let up = height(tenths, most);
-    let q = p.put(b"<rect class=\"band\" x=\"0\" width=\"7200\" y=\"");
-    let r = q.number(sizes::minus(NOMINAL, up));
-    let s = r.put(b"\" height=\"");
-    let t = s.number(sizes::plus(up, up));
-    let u = t.put(
-        b"\"/><line class=\"axis\" x1=\"0\" x2=\"7200\" y1=\"600\" y2=\"600\"/><text x=\"0\" y=\"",
-    );
-    let v = u.number(sizes::minus(sizes::minus(NOMINAL, up), 20));
-    let w = v.put(b"\">+");
-    let x = w.number(rates::tolerance(level));
-    let y = x.put(b" ppm</text>");
-    y.put(b"<text x=\"0\" y=\"590\">nominal</text>")
-}
-
-fn line_of(p: Page, row: Row, level: u64, parts: Parts, t: Timed, j: usize, most: usize) -> Page
-    requires { ⌜ j < 4 ⌝ }
-{
-    let q = p.put(b"<polyline class=\"rate\" points=\"");
-    let r = points(q, row, level, parts, t, j, most);
-    r.put(b"\"/>")
-}
-
-fn points(p: Page, row: Row, level: u64, parts: Parts, t: Timed, j: usize, most: usize) -> Page
-    requires { ⌜ j < 4 ⌝ }
-{
-    let mut q = p;
-    let mut i: usize = 0;
-    while i < 64 {
-        if i < parts.count {
-            q = point(
-                q,
-                rates::in_part(row, level, parts, t, j, i),
-                i,
-                parts.count,
-                most,
-            );
-        }
-        i += 1;
-    }
-    q
-}
-
-// At the middle of part i; where there is one part only, a line across.
-fn point(p: Page, off: Off, i: usize, count: usize, most: usize) -> Page
-    requires { ⌜ i < 64 ⌝ }
-{
-    if count == 1 {
-        let q = one_point(p, 0, off, most);
-        return one_point(q, WIDTH, off, most);
-    }
-    one_point(
-        p,
-        sizes::plus(across(i, count), across(1, count) / 2),
-        off,
-        most,
+// What the colours mean, which at a level with negative places is not what a frame does.
+fn caption(p: Page, row: Row, s: Strip) -> Page {
+    let q = p.put(b"</svg><figcaption>Its decisions, ");
+    let r = numbers::frames(q, s.each);
+    let t = r.put(b" a cell: <span class=\"k k1\"></span> ");
+    let u = meaning(t, row);
+    u.put(
+        b", <span class=\"k k3\"></span> both. Above them the three readings: each bar turns red at the frame of its first wrong digit.</figcaption></figure>\n",
     )
 }
 
-fn one_point(p: Page, x: usize, off: Off, most: usize) -> Page {
-    let q = p.number(x);
-    let r = q.put(b",");
-    let up = height(off.tenths, most);
-    let s = r.number(at_height(off.fast, up));
-    s.put(b" ")
-}
-
-fn at_height(fast: bool, up: usize) -> usize {
-    if fast {
-        return sizes::minus(NOMINAL, up);
+fn meaning(p: Page, row: Row) -> Page {
+    if order::has_negative(row) {
+        return p.put(
+            b"0, <span class=\"k k2\"></span> 1 (two in a row: 0 carries a digit more, 1 is stuffed)",
+        );
     }
-    sizes::plus(NOMINAL, up)
+    p.put(b"carries a digit, <span class=\"k k2\"></span> stuffed")
 }

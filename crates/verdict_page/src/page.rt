@@ -1,7 +1,9 @@
 // The page from its head to its end.
 use crate::drawn;
+use crate::plotted;
 use crate::strip::Strip;
 use crate::style;
+use crate::summary;
 use crate::tables;
 use console::page::Page;
 use console::words;
@@ -32,7 +34,8 @@ pub fn all(
     named: Named,
 ) -> Page {
     let q = style::head(p);
-    let r = opening(q, level, h.frames, named);
+    let a = summary::all(q, row, level, h, parts, t);
+    let r = opening(a, level, h.frames, named);
     let u = tables::all(r, row, level, h, parts, t);
     let v = one(u, row, level, h, parts, t, s, 0, named.stages);
     let w = one(v, row, level, h, parts, t, s, 1, named.stages);
@@ -42,13 +45,13 @@ pub fn all(
 }
 
 fn opening(p: Page, level: u64, frames: usize, named: Named) -> Page {
-    let q = p.put(b"<h1>Did the clock move, or the frame index?</h1>\n<p>Level ");
+    let q = p.put(b"<p>Level ");
     let r = q.number(level as usize);
     let s = r.put(b", ");
     let t = s.number(words::rate(level) as usize);
     let u = t.put(b" kbit/s: ");
-    let v = numbers::grouped(u, frames);
-    let w = v.put(b" frames of <b>");
+    let v = numbers::frames(u, frames);
+    let w = v.put(b" of <b>");
     let x = name(w, named.line);
     let y = x.put(
         b"</b>, each tributary read by the decision of its own frame, of the frame before and of the frame after, and held against ",
@@ -123,8 +126,8 @@ fn one(
     let u = r.put(b"</p>\n<p>Its clock: ");
     let v = clocks::clock(u, row, level, parts, t, j);
     let w = v.put(b"</p>\n");
-    let x = drawn::rate(w, row, level, parts, t, j);
-    let y = drawn::decisions(x, h, s, j);
+    let x = drawn::decisions(w, row, h, s, j);
+    let y = plotted::rate(x, row, level, parts, t, j);
     y.put(b"</section>\n")
 }
 

@@ -34,12 +34,12 @@ fn ends(p: Page, row: Row, level: u64, parts: Parts, t: Timed, j: usize) -> Page
     let q = p.put(b", ");
     let r = numbers::ppm(q, rates::in_part(row, level, parts, t, j, 0));
     let s = r.put(b" in the first ");
-    let u = numbers::grouped(s, timed::frames_of(parts, 0));
-    let v = u.put(b" frames, ");
+    let u = numbers::frames(s, timed::frames_of(parts, 0));
+    let v = u.put(b", ");
     let w = numbers::ppm(v, rates::in_part(row, level, parts, t, j, last));
     let x = w.put(b" in the last ");
-    let y = numbers::grouped(x, timed::frames_of(parts, last));
-    y.put(b" frames; ")
+    let y = numbers::frames(x, timed::frames_of(parts, last));
+    y.put(b"; ")
 }
 
 fn tolerance(p: Page, level: u64, parts: Parts, left: Left) -> Page {
@@ -75,8 +75,8 @@ fn too_short(p: Page, row: Row, level: u64, parts: Parts) -> Page {
         return p.put(b"cannot be told, because there are no frames.");
     }
     let q = p.put(b"cannot be told from ");
-    let r = q.number(parts.frames);
-    let s = r.put(b" frames, in which one digit is ");
+    let r = numbers::frames(q, parts.frames);
+    let s = r.put(b", in which one digit is ");
     let t = numbers::tenths(s, rates::one_digit(row, level, parts.frames));
     t.put(b" ppm; it takes 512.")
 }

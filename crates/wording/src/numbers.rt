@@ -44,6 +44,15 @@ fn three(p: Page, n: usize) -> Page {
     s.number(n % 10)
 }
 
+// So many frames.
+pub fn frames(p: Page, n: usize) -> Page {
+    let q = grouped(p, n);
+    if n == 1 {
+        return q.put(b" frame");
+    }
+    q.put(b" frames")
+}
+
 // Tenths of a part per million.
 pub fn tenths(p: Page, n: usize) -> Page {
     let q = grouped(p, n / 10);

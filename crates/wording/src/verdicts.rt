@@ -43,7 +43,7 @@ pub fn verdict(h: Held, j: usize) -> u8
 }
 
 // By which readings fit, and whether the decision never changes.
-fn by_fits(own: bool, before: bool, after: bool, still: bool) -> u8 {
+pub fn by_fits(own: bool, before: bool, after: bool, still: bool) -> u8 {
     if own {
         return own_fits(before, after, still);
     }

@@ -28,7 +28,7 @@ const COMMANDS: [&str; 22] = [
 ];
 
 /// Wrong calls. The files that they name are there.
-const WRONG: [&str; 78] = [
+const WRONG: [&str; 85] = [
     "",
     "bogus",
     "sen 2 notes tributaries out",
@@ -72,6 +72,13 @@ const WRONG: [&str; 78] = [
     "repair 12:5 line",
     "repair :5 line",
     "repair 2 line out more",
+    "judge",
+    "judge line",
+    "judge 2 line",
+    "judge 12:5 line",
+    "judge :5 line",
+    "judge 2 line tributaries out",
+    "judge 2 line tributaries out more.html",
     "take :5 line out",
     "take 12:5 line out",
     "take :5 line out out",
@@ -111,7 +118,10 @@ const WRONG: [&str; 78] = [
 
 pub fn cases() -> Vec<Case> {
     let form = |command: &&str| format!("spritbobbin {command}( |$)");
-    let forms: Vec<String> = COMMANDS.iter().map(form).collect();
+    let mut forms: Vec<String> = COMMANDS.iter().map(form).collect();
+    // A page is asked for by the same word in both forms of judge.
+    forms.push(r"judge LEVEL LINE SENT \[PAGE\.html\] ".into());
+    forms.push(r"judge CAPTURE SENT \[PAGE\.html\] ".into());
     // Of the last line no more is asked than that it is no refusal and no failure.
     let mut cases = vec![Case::new("help").like(words("help"), 0, &forms, "^[^rf]")];
     cases.extend(WRONG.iter().map(|command| wrong(command)));

@@ -28,6 +28,15 @@ pub struct Case {
     has: Vec<String>,
     last: Option<String>,
     svg: Option<String>,
+    page: Option<Page>,
+}
+
+/// A page: its name, how often an element of this name or class stands in it, and texts that it has.
+#[derive(Clone)]
+pub struct Page {
+    pub path: String,
+    pub counts: Vec<(&'static str, usize)>,
+    pub texts: Vec<String>,
 }
 
 /// The words of a command in which no word has a blank.
@@ -71,6 +80,13 @@ impl Case {
         self.makes(path, b"")
     }
 
+    /// A page that the command makes.
+    pub fn shows(mut self, page: Page) -> Case {
+        let path = page.path.clone();
+        self.page = Some(page);
+        self.makes(&path, b"")
+    }
+
     /// A command that is accepted, and all that it prints.
     pub fn accepted(mut self, words: Vec<String>, stdout: &str) -> Case {
         self.stdout += stdout;
@@ -111,6 +127,11 @@ impl Case {
         }
         if let Some(path) = &self.svg {
             fs::write(folder.join("expected.svg"), lines(&[path]))?;
+        }
+        if let Some(page) = &self.page {
+            let counts = page.counts.iter().map(|(name, count)| format!("{count} {name}"));
+            let all: Vec<String> = counts.chain(page.texts.iter().cloned()).collect();
+            fs::write(folder.join("expected.page"), lines(&[page.path.clone()]) + &lines(&all))?;
         }
         write_all(&folder.join("given"), &self.given)?;
         write_all(&folder.join("after"), &self.after)

@@ -6,8 +6,11 @@ use crate::case::{words, Case};
 use crate::inputs::{damaged, known_bits, level, levels, room};
 use crate::texts::{cannot, no_capture, no_level, no_room, no_vote, no_whole_frames};
 use crate::worked::quarters;
+use reference::digits::unpack;
 use reference::frame::{self, Action};
-use reference::judging::{acting, line_of, pattern_digits, read_by, votes, Reading, Sent, READINGS};
+use reference::judging::{
+    acting, line_of, pattern_digits, read_by, votes, Reading, Sent, READINGS,
+};
 use reference::level::Row;
 use reference::random::Random;
 use reference::write_capture;
@@ -19,19 +22,19 @@ pub fn cases() -> Vec<Case> {
     }
     cases.extend(clocks());
     cases.extend(of_captures());
-    cases.extend(pages());
+    cases.push(demo());
     cases.extend(refused());
     cases
 }
 
 /// A recording, what was sent, and how the program is told of both.
-struct Trial {
-    row: &'static Row,
-    level: String,
-    earlier: u8,
-    line: Vec<u8>,
-    buffer: Vec<u8>,
-    stages: u64,
+pub struct Trial {
+    pub row: &'static Row,
+    pub level: String,
+    pub earlier: u8,
+    pub line: Vec<u8>,
+    pub buffer: Vec<u8>,
+    pub stages: u64,
 }
 
 /// Notes in which tributary 1's decision never changes, 2 and 3 change often, and 4 seldom.
@@ -57,27 +60,33 @@ fn sent_digits(row: &Row, frames: usize, stages: u64, seed: u64) -> [Vec<u8>; 4]
 
 impl Trial {
     /// The line of a multiplexer that goes by this reading.
-    fn new(row: &'static Row, frames: usize, reading: Reading, stages: u64, seed: u64) -> Trial {
+    pub fn new(
+        row: &'static Row,
+        frames: usize,
+        reading: Reading,
+        stages: u64,
+        seed: u64,
+    ) -> Trial {
         let sent = sent_digits(row, frames, stages, seed);
         let line = line_of(row, 0, &notes(row, frames, seed), &sent, reading, 0b1010);
         let buffer = quarters(&sent, room(row, frames));
         Trial { row, level: row.level.to_string(), earlier: 0, line, buffer, stages }
     }
 
-    fn after(mut self, earlier: u8) -> Trial {
+    pub fn after(mut self, earlier: u8) -> Trial {
         self.level = format!("{}:{:X}", self.row.level, earlier);
         self.earlier = earlier;
         self
     }
 
-    fn sent(&self) -> String {
+    pub fn sent(&self) -> String {
         match self.stages {
             0 => "sent".into(),
             stages => format!("pattern-{stages}"),
         }
     }
 
-    fn case(&self, name: &str) -> Case {
+    pub fn case(&self, name: &str) -> Case {
         let case = Case::new(&format!("judge-{}-{name}", self.level.replace(':', "-after-")));
         let case = case.file("line", &self.line);
         if self.stages == 0 {
@@ -91,23 +100,23 @@ impl Trial {
         self.case(name).accepted(command, &self.text())
     }
 
-    fn frames(&self) -> usize {
+    pub fn frames(&self) -> usize {
         self.line.len() / self.row.frame_bytes()
     }
 
-    fn text(&self) -> String {
+    pub fn text(&self) -> String {
         let against = match self.stages {
             0 => "sent".into(),
             stages => format!("the pattern of 2^{stages} - 1 digits, inverted"),
         };
         let (level, rate) = (self.row.level, line_rate(self.row));
         let mut text = format!(
-            "Level {level}, {rate} kbit/s: {} frames, held against {against}. \
+            "Level {level}, {rate} kbit/s: {}, held against {against}. \
              Clocks: taking the line at {rate} kbit/s.\n",
-            grouped(self.frames())
+            so_many_frames(self.frames())
         );
         for j in 0..4 {
-            text += &format!("tributary {}: {}\n", j + 1, self.verdict(j));
+            text += &format!("tributary {}: {}\n", j + 1, self.sentence(j));
             text += &format!("  clock: {}\n", self.clock(j));
         }
         text
@@ -120,7 +129,7 @@ impl Trial {
         let sent = match self.stages {
             0 => {
                 let quarter = &self.buffer[j * quarter..(j + 1) * quarter];
-                Sent::Digits(reference::digits::unpack(quarter, 8 * quarter.len()))
+                Sent::Digits(unpack(quarter, 8 * quarter.len()))
             }
             stages => Sent::Pattern(stages),
         };
@@ -135,49 +144,47 @@ impl Trial {
         zero
     }
 
-    fn verdict(&self, j: usize) -> String {
+    pub fn readings(&self, j: usize) -> [Read; 3] {
+        READINGS.map(|reading| self.read(reading, j))
+    }
+
+    pub fn verdict(&self, j: usize) -> Verdict {
         if self.frames() == 0 {
-            return "cannot be told, because there are no frames.".into();
+            return Verdict::Empty;
         }
-        let [own, before, after] = READINGS.map(|reading| self.read(reading, j));
-        let said = |read: &Read| read.said(self.stages);
-        let three = format!(
-            ": read by its own decision{}; by that of the frame before{}; by that of the frame \
-             after{}.",
-            said(&own),
-            said(&before),
-            said(&after)
-        );
-        match [own.wrong == 0, before.wrong == 0, after.wrong == 0] {
-            [true, ..] if self.still(j) => format!(
-                "cannot be told, because its decision never changes: read by its own{}, and so \
-                 they are by that of the frame before and of the frame after.",
-                said(&own)
-            ),
-            [true, false, false] => format!("the multiplexer acts in its own frame{three}"),
-            [false, true, false] => format!(
-                "the frame index is late: read by the decision of the frame before{}; read by its \
-                 own{}.",
-                said(&before),
-                said(&own)
-            ),
-            [false, false, true] => format!(
-                "the frame index is early: read by the decision of the frame after{}; read by its \
-                 own{}.",
-                said(&after),
-                said(&own)
-            ),
-            [false, false, false] => format!(
-                "no reading fits, and the fault is elsewhere (the clock slipped digits before the \
-                 multiplexer, or the line is worse than allowed){three}"
-            ),
-            [false, true, true] => format!(
-                "the frame index is late or early, which its decisions do not tell{three}"
-            ),
-            [true, ..] => format!(
-                "cannot be told from these digits, because more than one reading fits{three}"
-            ),
+        match self.readings(j).map(|read| read.wrong == 0) {
+            [true, ..] if self.still(j) => Verdict::Still,
+            [true, false, false] => Verdict::Right,
+            [false, true, false] => Verdict::Late,
+            [false, false, true] => Verdict::Early,
+            [false, true, true] => Verdict::LateOrEarly,
+            [false, false, false] => Verdict::Elsewhere,
+            [true, ..] => Verdict::Alike,
         }
+    }
+
+    pub fn sentence(&self, j: usize) -> String {
+        let verdict = self.verdict(j);
+        let said = self.readings(j).map(|read| read.said(self.stages));
+        let [own, before, after] = &said;
+        let rest = match verdict {
+            Verdict::Empty => ".".into(),
+            Verdict::Still => format!(
+                ": read by its own{own}, and so they are by that of the frame before and of the \
+                 frame after."
+            ),
+            Verdict::Late => {
+                format!(": read by the decision of the frame before{before}; read by its own{own}.")
+            }
+            Verdict::Early => {
+                format!(": read by the decision of the frame after{after}; read by its own{own}.")
+            }
+            _ => format!(
+                ": read by its own decision{own}; by that of the frame before{before}; by that of \
+                 the frame after{after}."
+            ),
+        };
+        format!("{}{rest}", verdict.head())
     }
 
     /// Whether tributary j's decision never changes, nor differs from the vote before.
@@ -189,7 +196,7 @@ impl Trial {
         votes.windows(2).all(|two| (two[0] ^ two[1]) >> j & 1 == 0)
     }
 
-    fn clock(&self, j: usize) -> String {
+    pub fn clock(&self, j: usize) -> String {
         let frames = self.frames();
         if frames == 0 {
             return "cannot be told, because there are no frames.".into();
@@ -199,13 +206,31 @@ impl Trial {
         if frames < 512 {
             let one = clock.one_digit(frames);
             return format!(
-                "cannot be told from {frames} frames, in which one digit is {}.{} ppm; it takes \
-                 512.",
+                "cannot be told from {}, in which one digit is {}.{} ppm; it takes 512.",
+                so_many_frames(frames),
                 grouped((one / 10) as usize),
                 one % 10
             );
         }
         clock.said()
+    }
+
+    /// How far off tributary j's rate is in all, where it can be told.
+    pub fn mean(&self, j: usize) -> Option<String> {
+        let carried = self.carried(j);
+        let clock = Clock { row: self.row, carried: &carried };
+        Some(clock.mean()).filter(|_| !clock.parts().is_empty())
+    }
+
+    /// The parts in which it left its tolerance.
+    pub fn outside(&self, j: usize) -> Vec<(usize, usize)> {
+        Clock { row: self.row, carried: &self.carried(j) }.outside()
+    }
+
+    /// In how many frames its decision differs from the frame before.
+    pub fn changes(&self, j: usize) -> usize {
+        let votes = votes(self.row, &self.line);
+        votes.windows(2).filter(|two| (two[0] ^ two[1]) >> j & 1 == 1).count()
     }
 
     /// The digits that each frame carries of tributary j.
@@ -224,11 +249,58 @@ impl Trial {
     }
 }
 
+/// What the readings of a tributary say.
+#[derive(Clone, Copy, PartialEq, Eq)]
+pub enum Verdict {
+    Right,
+    Late,
+    Early,
+    LateOrEarly,
+    Still,
+    Alike,
+    Elsewhere,
+    Empty,
+}
+
+impl Verdict {
+    fn head(self) -> &'static str {
+        match self {
+            Verdict::Right => "the multiplexer acts in its own frame",
+            Verdict::Late => "the frame index is late",
+            Verdict::Early => "the frame index is early",
+            Verdict::LateOrEarly => {
+                "the frame index is late or early, which its decisions do not tell"
+            }
+            Verdict::Still => "cannot be told, because its decision never changes",
+            Verdict::Alike => {
+                "cannot be told from these digits, because more than one reading fits"
+            }
+            Verdict::Elsewhere => {
+                "no reading fits, and the fault is elsewhere (the clock slipped digits before the \
+                 multiplexer, or the line is worse than allowed)"
+            }
+            Verdict::Empty => "cannot be told, because there are no frames",
+        }
+    }
+
+    /// As the table of a page has it.
+    pub fn short(self) -> &'static str {
+        match self {
+            Verdict::Right => "right",
+            Verdict::Late => "index late",
+            Verdict::Early => "index early",
+            Verdict::LateOrEarly => "index late or early",
+            Verdict::Elsewhere => "fault elsewhere",
+            Verdict::Still | Verdict::Alike | Verdict::Empty => "cannot be told",
+        }
+    }
+}
+
 /// One reading of one tributary: its digits, the wrong ones, and where the first of these stands.
-struct Read {
-    digits: usize,
-    wrong: usize,
-    first: Option<(usize, usize)>,
+pub struct Read {
+    pub digits: usize,
+    pub wrong: usize,
+    pub first: Option<(usize, usize)>,
 }
 
 impl Read {
@@ -307,32 +379,48 @@ impl Clock<'_> {
         line_rate(self.row) as i128 * 10_000_000 / (line * tributary_rate(self.row) as i128)
     }
 
-    fn said(&self) -> String {
+    /// The parts of the recording, each its first frame and the one after its last.
+    fn parts(&self) -> Vec<(usize, usize)> {
         let frames = self.carried.len();
         let each = 512 * ((frames + 32767) / 32768);
-        let count = frames / each;
+        let count = frames / each.max(1);
         let ends = |i: usize| (i * each, if i + 1 == count { frames } else { (i + 1) * each });
-        let parts: Vec<(usize, usize)> = (0..count).map(ends).collect();
-        let off = |&(first, end): &(usize, usize)| self.off(first, end);
-        let (last, tolerance) = (parts[count - 1], tolerance(self.row));
+        (0..count).map(ends).collect()
+    }
+
+    /// Those in which the rate left its tolerance.
+    fn outside(&self) -> Vec<(usize, usize)> {
+        let left = |&(first, end): &(usize, usize)| {
+            let most = 10 * tolerance(self.row) as i128 + self.one_digit(end - first);
+            self.off(first, end).abs() > most
+        };
+        self.parts().into_iter().filter(left).collect()
+    }
+
+    fn mean(&self) -> String {
+        ppm(self.off(0, self.carried.len()))
+    }
+
+    fn said(&self) -> String {
+        let parts = self.parts();
+        let (first, last, tolerance) = (parts[0], parts[parts.len() - 1], tolerance(self.row));
+        let part = |(first, end): (usize, usize)| ppm(self.off(first, end));
         let mut text = format!(
             "{} from {} kbit/s, {} in the first {} frames, {} in the last {} frames; ",
-            ppm(off(&(0, frames))),
+            self.mean(),
             tributary_rate(self.row),
-            ppm(off(&parts[0])),
-            grouped(parts[0].1),
-            ppm(off(&last)),
+            part(first),
+            grouped(first.1),
+            part(last),
             grouped(last.1 - last.0)
         );
-        let left = |part: &&(usize, usize)| {
-            off(part).abs() > 10 * tolerance as i128 + self.one_digit(part.1 - part.0)
-        };
-        let outside: Vec<&(usize, usize)> = parts.iter().filter(left).collect();
+        let outside = self.outside();
         text += &match outside.first() {
             None => format!("within {tolerance} ppm throughout."),
             Some((first, end)) => format!(
-                "outside {tolerance} ppm in {} of {count} parts, first in frames {} to {}.",
+                "outside {tolerance} ppm in {} of {} parts, first in frames {} to {}.",
                 outside.len(),
+                parts.len(),
                 grouped(*first),
                 grouped(end - 1)
             ),
@@ -351,8 +439,13 @@ fn ppm(tenths: i128) -> String {
     format!("{sign}{}.{} ppm", grouped((size / 10) as usize), size % 10)
 }
 
+pub fn so_many_frames(n: usize) -> String {
+    let plural = if n == 1 { "" } else { "s" };
+    format!("{} frame{plural}", grouped(n))
+}
+
 /// A number with its thousands apart.
-fn grouped(n: usize) -> String {
+pub fn grouped(n: usize) -> String {
     let figures = n.to_string();
     let mut text = String::new();
     for (k, figure) in figures.chars().enumerate() {
@@ -364,7 +457,7 @@ fn grouped(n: usize) -> String {
     text
 }
 
-fn line_rate(row: &Row) -> usize {
+pub fn line_rate(row: &Row) -> usize {
     match row.level {
         2 | 12 => 8448,
         3 => 34368,
@@ -442,7 +535,7 @@ fn alarmed(row: &Row, seed: u64) -> Vec<u8> {
 fn slipped(row: &'static Row, seed: u64) -> Trial {
     let mut trial = Trial::new(row, 66, Reading::Own, 0, seed + 6);
     let quarter = trial.buffer.len() / 4;
-    let mut digits = reference::digits::unpack(&trial.buffer[quarter..2 * quarter], 8 * quarter);
+    let mut digits = unpack(&trial.buffer[quarter..2 * quarter], 8 * quarter);
     digits.remove(3000);
     digits.push(0);
     trial.buffer[quarter..2 * quarter].copy_from_slice(&reference::digits::pack(&digits));
@@ -451,15 +544,18 @@ fn slipped(row: &'static Row, seed: u64) -> Trial {
 
 /// Recordings long enough for their clocks, with tributaries that are slow, fast and drift.
 fn clocks() -> Vec<Case> {
-    let mut cases = Vec::new();
-    for (number, frames) in [(2, 511), (2, 512), (2, 1500), (3, 1100), (4, 600), (12, 700), (14, 600)] {
-        let row = level(number);
-        let mut trial = Trial::new(row, 1, Reading::Own, 15, 800);
-        let sent = sent_digits(row, frames, 15, 801);
-        trial.line = line_of(row, 0, &timed_notes(row, frames), &sent, Reading::Own, 0);
-        cases.push(trial.judged(&format!("clocks-{frames}-frames")));
-    }
-    cases
+    let lengths = [(2, 511), (2, 512), (2, 1500), (3, 1100), (4, 600), (12, 700), (14, 600)];
+    let case =
+        |(number, frames)| clocked(number, frames).judged(&format!("clocks-{frames}-frames"));
+    lengths.into_iter().map(case).collect()
+}
+
+pub fn clocked(number: u64, frames: usize) -> Trial {
+    let row = level(number);
+    let mut trial = Trial::new(row, 1, Reading::Own, 15, 800);
+    let sent = sent_digits(row, frames, 15, 801);
+    trial.line = line_of(row, 0, &timed_notes(row, frames), &sent, Reading::Own, 0);
+    trial
 }
 
 /// Tributary 1 at its nominal rate, 2 slow, 3 fast, 4 nominal and then slow.
@@ -480,32 +576,94 @@ fn timed_notes(row: &Row, frames: usize) -> Vec<u8> {
     (0..frames).map(note).collect()
 }
 
-fn of_captures() -> Vec<Case> {
-    let captured = |trial: &Trial| {
-        let mut file = vec![0; 65_600];
-        let written = write_capture(trial.row.level, &trial.line, Some(b"site 7"), &mut file);
-        file.truncate(written.bytes as usize);
-        file
+/// The verdict with which demo ends, on the line of its late multiplexer.
+fn demo() -> Case {
+    let row = level(2);
+    let numbers = std::iter::successors(Some(1), |x| Some(x % 65_537 * 75 + 74));
+    let buffer: Vec<u8> = numbers.skip(1).take(824).map(|x: u32| (x / 16) as u8).collect();
+    let sent = [0, 1, 2, 3].map(|j| unpack(&buffer[206 * j..206 * (j + 1)], 8 * 206));
+    let notes = [0x25, 0x23, 0x2D, 0x2B].repeat(2);
+    let line = line_of(row, 0, &notes, &sent, Reading::Before, 11);
+    let trial = Trial { row, level: "2".into(), earlier: 0, line, buffer, stages: 0 };
+    let said = |j: usize| {
+        let [own, before, after] = trial.readings(j).map(|read| read.wrong);
+        format!(
+            "^tributary {}: {}: {own} digits wrong by its own frame, {before} by the frame before, \
+             {after} by the frame after\\.$",
+            j + 1,
+            trial.verdict(j).head()
+        )
     };
+    let said = [0, 1, 2, 3].map(said);
+    Case::new("demo-ends-with-the-verdict").like(words("demo"), 0, &said, &said[3])
+}
+
+/// The capture of a recording's line.
+pub fn captured(trial: &Trial) -> Vec<u8> {
+    let mut file = vec![0; 65_600];
+    let written = write_capture(trial.row.level, &trial.line, Some(b"site 7"), &mut file);
+    file.truncate(written.bytes as usize);
+    file
+}
+
+/// Captures, with a vote in the level's place and without one.
+fn of_captures() -> Vec<Case> {
     let mut cases = Vec::new();
-    for (number, stages) in [(2, 0), (4, 15), (12, 23)] {
-        let trial = Trial::new(level(number), 20, Reading::Before, stages, 820 + number);
-        let command = words(&format!("judge capture {}", trial.sent()));
-        let mut case = Case::new(&format!("judge-capture-{number}")).file("capture", &captured(&trial));
-        if stages == 0 {
-            case = case.file("sent", &trial.buffer);
+    for (number, stages, vote, earlier) in [
+        (2, 0, "", 0),
+        (4, 15, "", 0),
+        (12, 23, "", 0),
+        (12, 0, ":5", 5),
+        (12, 15, ":0F", 15),
+        (14, 0, ":a", 10),
+        // Levels 2 to 4 do not look at the vote.
+        (3, 0, ":ff", 0),
+    ] {
+        for (name, reading) in [("right", Reading::Own), ("late", Reading::Before)] {
+            let mut trial = Trial::new(level(number), 20, reading, stages, 820 + number);
+            trial.earlier = earlier;
+            let after = vote.replace(':', "-after-");
+            let mut case = Case::new(&format!("judge-capture-{number}{after}-{name}"))
+                .file("capture", &captured(&trial));
+            if stages == 0 {
+                case = case.file("sent", &trial.buffer);
+            }
+            let command = words(&format!("judge {vote} capture {}", trial.sent()));
+            cases.push(case.accepted(command, &trial.text()));
         }
-        cases.push(case.accepted(command, &trial.text()));
     }
-    let none = Case::new("judge-no-capture").file("capture", &[1, 2, 3]).file("sent", &[]);
-    let refusal = no_capture("capture", &[1, 2, 3]);
-    cases.push(none.fails(words("judge capture sent"), &refusal));
+    cases.extend(refused_captures());
     cases
 }
 
-/// A page is written beside what is said.
-fn pages() -> Vec<Case> {
-    Vec::new()
+/// A pattern that is none comes first, then what the reader refuses, then the vote, then what was
+/// sent.
+fn refused_captures() -> Vec<Case> {
+    let none = [1, 2, 3];
+    let good = captured(&Trial::new(level(14), 2, Reading::Own, 0, 830));
+    let given = |name: &str, file: &[u8]| {
+        Case::new(&format!("judge-capture-{name}")).file("capture", file).file("sent", &[0; 3])
+    };
+    let judge = |rest: &str| words(&format!("judge {rest}"));
+    vec![
+        given("none", &none).fails(judge("capture sent"), &no_capture("capture", &none)),
+        given("none-and-no-vote", &none)
+            .fails(judge(":10 capture sent"), &no_capture("capture", &none)),
+        given("none-and-no-pattern", &none)
+            .fails(judge(":5 capture pattern-7"), &no_pattern("pattern-7")),
+        given("no-vote", &good).fails(judge(":10 capture sent"), &no_vote(":10")),
+        given("no-vote-nothing-sent", &good).fails(judge(":ff capture none"), &no_vote(":ff")),
+        given("no-level", &good).fails(judge(":x capture sent"), &no_level(":x")),
+        given("after-a-vote-no-room", &good)
+            .fails(judge(":5 capture sent"), &no_room(level(14), "sent", 3, 2)),
+    ]
+}
+
+fn no_pattern(word: &str) -> String {
+    format!(
+        "refused 13: no pattern {word}; a pattern is pattern-15 or pattern-23, and any other word \
+         names the file of the digits sent."
+    )
 }
 
 fn refused() -> Vec<Case> {
@@ -513,20 +671,13 @@ fn refused() -> Vec<Case> {
     let given = |name: &str, line: usize, sent: usize| {
         Case::new(name).file("line", &vec![0; line]).file("sent", &vec![0; sent])
     };
-    let pattern = |word: &str| {
-        format!(
-            "refused 13: no pattern {word}; a pattern is pattern-15 or pattern-23, and any other \
-             word names the file of the digits sent."
-        )
-    };
     let judge = |rest: &str| words(&format!("judge {rest}"));
     vec![
         given("judge-no-level", 106, 104).fails(judge("5 line sent"), &no_level("5")),
-        given("judge-no-level-no-pattern", 1, 0)
-            .fails(judge("5 line pattern-9"), &no_level("5")),
-        given("judge-no-pattern", 1, 0).fails(judge("2 line pattern-9"), &pattern("pattern-9")),
+        given("judge-no-level-no-pattern", 1, 0).fails(judge("5 line pattern-9"), &no_level("5")),
+        given("judge-no-pattern", 1, 0).fails(judge("2 line pattern-9"), &no_pattern("pattern-9")),
         given("judge-no-pattern-no-vote", 1, 0)
-            .fails(judge("12:10 line pattern-"), &pattern("pattern-")),
+            .fails(judge("12:10 line pattern-"), &no_pattern("pattern-")),
         given("judge-no-vote", 1, 0).fails(judge("12:10 line sent"), &no_vote("12:10")),
         given("judge-no-whole-frames", 107, 3)
             .fails(judge("2 line sent"), &no_whole_frames(row, "line", 107)),

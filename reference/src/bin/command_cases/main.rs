@@ -11,7 +11,9 @@
 //! - `expected.stdout`: all that the commands must print, one after the other. Where the
 //!   words are left to the program, there are instead `expected.has`, patterns each of
 //!   which some line must match, and `expected.last`, the pattern of the last line;
-//! - `expected.svg`, where a picture is made: its name. Its bytes are left to the program.
+//! - `expected.svg`, where a picture is made: its name. Its bytes are left to the program;
+//! - `expected.page`, where a page is made: its name; then how many elements of a name or of
+//!   a class it has, as `8 svg`, six lines; then texts that stand in it, a line each.
 //!
 //! `case` writes such a folder. `inputs` and `stream` make what is read, `worked` says
 //! what comes of it and `texts` in which words. The others list the cases.
@@ -27,6 +29,7 @@ mod judging;
 mod keeping;
 mod multiframes;
 mod noting;
+mod paging;
 mod pictures;
 mod repairing;
 mod sending;
@@ -69,6 +72,7 @@ fn main() -> io::Result<()> {
     cases.extend(voting::cases());
     cases.extend(swapping::cases());
     cases.extend(judging::cases());
+    cases.extend(paging::cases());
     cases.extend(repairing::cases());
     cases.extend(calling::cases());
     let mut list = String::new();
