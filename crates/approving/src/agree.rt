@@ -6,13 +6,13 @@ use console::help;
 use console::national;
 use console::say;
 use passages::passage;
-use recordings::sizes;
+use recordings::lengths;
 use table::Level;
 use table::Row;
 ghost use Prim.Native.Nat.{_*_, _≤_};
 ghost use lib.ListN.{length};
 ghost use Rattle.levels.specs.Table.{Shared};
-ghost use Rattle.recordings.specs.Sizes.{longest};
+ghost use Rattle.recordings.specs.Lengths.{longest};
 
 // The word of the call that names the line.
 pub const LINE: usize = 3;
@@ -70,7 +70,7 @@ fn all(row: Row, level: u64, earlier: u64, fd: i32, frames: usize) -> Compared
     let mut k: usize = 0;
     while k < (frames + 63) / 64 {
         if c.ended == NONE {
-            c = one(row, level, fd, k, sizes::frames_in(k, frames), c);
+            c = one(row, level, fd, k, lengths::frames_in(k, frames), c);
         }
         k += 1;
     }
@@ -82,9 +82,9 @@ fn one(row: Row, level: u64, fd: i32, k: usize, f: usize, c: Compared) -> Compar
     requires { ⌜ Shared row × (f ≤ 64) × (64 * k ≤ longest) ⌝ }
 {
     let mut line = io::large_buffer();
-    let n = sizes::frame_bytes(row, f);
-    let b = 4 * sizes::quarter_bytes(row, f);
-    let at = sizes::frame_bytes(row, 64 * k);
+    let n = lengths::frame_bytes(row, f);
+    let b = 4 * lengths::quarter_bytes(row, f);
+    let at = lengths::frame_bytes(row, 64 * k);
     let ran = compare(level, c.earlier, fd, at, f, b, &mut line[..n]);
     added(f, b, ran, c)
 }
@@ -95,8 +95,8 @@ fn added(f: usize, b: usize, ran: Ran, c: Compared) -> Compared {
         return ended_by(ran.ended, c);
     }
     Compared {
-        frames: sizes::plus(c.frames, f),
-        tributaries: sizes::plus(c.tributaries, b),
+        frames: lengths::plus(c.frames, f),
+        tributaries: lengths::plus(c.tributaries, b),
         earlier: ran.last,
         ended: NONE,
     }
@@ -199,7 +199,7 @@ fn multiplexed(level: u64, earlier: u64, n: usize, notes: &[u8], buffer: &[u8]) 
     requires { ⌜ n ≤ 65536 ⌝ }
 {
     let mut set = [0u8; 64];
-    let f = sizes::least(notes.len(), 64);
+    let f = lengths::least(notes.len(), 64);
     multiplexed_in(level, earlier, n, notes, buffer, &mut set[..f])
 }
 
@@ -264,6 +264,6 @@ fn differ(call: &[u8], frames: usize, c: Compared) {
     say::text(b" of frames ");
     say::number(c.frames);
     say::text(b" to ");
-    say::number(sizes::minus(sizes::least(sizes::plus(c.frames, 64), frames), 1));
+    say::number(lengths::minus(lengths::least(lengths::plus(c.frames, 64), frames), 1));
     say::text(b"; report it, with this file.\n");
 }

@@ -15,7 +15,7 @@ use noting::extract;
 use noting::notes;
 use pictures::frame;
 use pictures::frame::Noted;
-use recordings::sizes;
+use recordings::lengths;
 use repairing::repair_capture;
 use repairing::repair_line;
 use sending::send;
@@ -95,7 +95,7 @@ watch takes a level and a file for each of up to 64 lines.
 compare takes two captures, and a file for the picture where wanted.
 ",
         &word[..n],
-        sizes::minus(os::arg_count(), 1),
+        lengths::minus(os::arg_count(), 1),
     );
 }
 
@@ -118,7 +118,7 @@ fn counted(which: usize, line: &[u8], last: usize) {
         return;
     }
     if which == TAKE || which == PLAIN_TAKE {
-        if words::one_name(sizes::minus(last, 1), last) {
+        if words::one_name(lengths::minus(last, 1), last) {
             help::wrong_call(b"NOTES and TRIBUTARIES are two files: give two names.");
             return;
         }
@@ -186,7 +186,7 @@ fn on_capture(which: usize, line: &[u8], last: usize, levelled: usize) -> bool {
 fn unlevelled(which: usize, last: usize) {
     match which {
         SHOW => opened::show(last == opened::LINE),
-        WATCH => watch::run(sizes::least(last, watch::LAST)),
+        WATCH => watch::run(lengths::least(last, watch::LAST)),
         _ => held(last),
     }
 }

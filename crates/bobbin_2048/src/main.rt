@@ -6,7 +6,7 @@ use hunting::hunt;
 use multiframe_picture::picture;
 use multiframes::apart;
 use multiframes::build;
-use recordings::sizes;
+use recordings::lengths;
 
 // The words of every call by number; word 0 is the program's own name.
 const COMMAND: usize = 1;
@@ -30,7 +30,7 @@ hunt takes a file.
 multiframe takes a file for the picture where wanted.
 ",
         &word[..n],
-        sizes::minus(os::arg_count(), 1),
+        lengths::minus(os::arg_count(), 1),
     );
 }
 

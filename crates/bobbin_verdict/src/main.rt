@@ -3,7 +3,7 @@
 use console::help;
 use demonstration::demo;
 use judging::judged;
-use recordings::sizes;
+use recordings::lengths;
 
 // The words of every call by number; word 0 is the program's own name.
 const COMMAND: usize = 1;
@@ -11,7 +11,7 @@ const COMMAND: usize = 1;
 fn main() {
     let mut word = [0u8; 16];
     let n = os::arg(COMMAND, &mut word);
-    command(&word[..n], sizes::minus(os::arg_count(), 1));
+    command(&word[..n], lengths::minus(os::arg_count(), 1));
 }
 
 // `last` is the number of the call's last word.

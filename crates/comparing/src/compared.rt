@@ -9,7 +9,7 @@ use console::say;
 use keeping::capture;
 use keeping::capture::Opened;
 use keeping::refusals;
-use recordings::sizes;
+use recordings::lengths;
 use table::Level;
 use table::Row;
 ghost use Prim.Native.Nat.{_≤_};
@@ -38,8 +38,8 @@ pub fn run(drawn: bool) {
 
 // Both files are read, each as far as a capture can reach.
 fn judged(a: Opened, b: Opened, one: &[u8], other: &[u8], drawn: bool) {
-    let n = sizes::least(a.bytes, one.len());
-    let m = sizes::least(b.bytes, other.len());
+    let n = lengths::least(a.bytes, one.len());
+    let m = lengths::least(b.bytes, other.len());
     let mut places = [0u64; 128];
     let found = compare::compare(&one[..n], &other[..m], &mut places);
     if found.refusal != 0 {
@@ -114,7 +114,7 @@ fn shown(
 {
     let r = a.reading;
     let s = b.reading;
-    let frames = sizes::least(r.line.bytes / row.bytes, 64);
+    let frames = lengths::least(r.line.bytes / row.bytes, 64);
     if !drawn {
         text::all(row, r.level, frames, found, places);
         return;
@@ -143,9 +143,9 @@ fn pictured(
     let line = r.line;
     let far = s.line;
     let end = capture::end_of(line, one);
-    let start = sizes::least(line.start, end);
+    let start = lengths::least(line.start, end);
     let far_end = capture::end_of(far, other);
-    let far_start = sizes::least(far.start, far_end);
+    let far_start = lengths::least(far.start, far_end);
     svg::all(
         page,
         row,

@@ -3,7 +3,7 @@ use compare::Compared;
 use console::say;
 use levels::places;
 use levels::places::FramePlace;
-use recordings::sizes;
+use recordings::lengths;
 use table::Row;
 use workbench::picture;
 ghost use Prim.Native.Nat.{_<_};
@@ -49,7 +49,7 @@ fn list(row: Row, all: usize, listed: usize, places: &[u64; 128])
     requires { ⌜ Shared row ⌝ }
 {
     first_words(listed < all, listed);
-    let n = sizes::least(listed, 64);
+    let n = lengths::least(listed, 64);
     let mut i: usize = 0;
     while i < n {
         one_place(row, places[2 * i], places[2 * i + 1]);

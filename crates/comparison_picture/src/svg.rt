@@ -3,7 +3,7 @@
 use compare::Compared;
 use compare::stretches;
 use console::page::Page;
-use recordings::sizes;
+use recordings::lengths;
 use table::Row;
 use workbench::picture;
 ghost use Prim.Native.Nat.{_<_, _≤_};
@@ -25,7 +25,7 @@ struct Cell {
 fn times(a: usize, b: usize) -> usize
     ensures { λ r. ⌜ r ≤ 16777216 ⌝ }
 {
-    sizes::least(a, 4096) * sizes::least(b, 4096)
+    lengths::least(a, 4096) * lengths::least(b, 4096)
 }
 
 // A picture of few frames is drawn larger.
@@ -138,7 +138,7 @@ fn legend(page: Page, s: [usize; 15]) -> Page {
 }
 
 fn four(a: usize, b: usize, c: usize, d: usize) -> usize {
-    sizes::plus(sizes::plus(a, b), sizes::plus(c, d))
+    lengths::plus(lengths::plus(a, b), lengths::plus(c, d))
 }
 
 fn entry(page: Page, x: usize, kind: &[u8], name: &[u8], sum: usize) -> Page
@@ -159,13 +159,13 @@ fn entry(page: Page, x: usize, kind: &[u8], name: &[u8], sum: usize) -> Page
 // A frame without digits: its sets in a light grey, their heads in a darker one.
 fn shape(page: Page, row: Row, cell: Cell) -> Page {
     let high = cell.high;
-    let after = sizes::minus(times(row.sets, high), high);
+    let after = lengths::minus(times(row.sets, high), high);
     let begun = page.put(b"<defs><g id=\"f\"><g color=\"#f3f3f3\">");
     let whole = shade(
         begun,
         0,
         times(row.set, cell.wide),
-        sizes::plus(after, high),
+        lengths::plus(after, high),
     );
     let heads = whole.put(b"</g><g color=\"#d0d0d0\">");
     let first = shade(heads, 0, times(row.first, cell.wide), high);
@@ -200,7 +200,7 @@ fn tick(page: Page, set: usize, wide: usize, p: usize) -> Page {
     if set <= p {
         return page;
     }
-    let x = sizes::plus(LEFT, times(p, wide));
+    let x = lengths::plus(LEFT, times(p, wide));
     page.put(b"<text class=\"p\" x=\"")
         .number(x)
         .put(b"\" y=\"106\">")
@@ -226,14 +226,14 @@ fn blocks(page: Page, row: Row, frames: usize, cell: Cell, one: &[u8], other: &[
 fn one_frame(page: Page, row: Row, cell: Cell, one: &[u8], other: &[u8], f: usize) -> Page
     requires { ⌜ Shared row × (f < 64) ⌝ }
 {
-    let begun = named(page, f, sizes::plus(TOP, times(f, cell.frame)));
-    let before = 8 * sizes::frame_bytes(row, f);
+    let begun = named(page, f, lengths::plus(TOP, times(f, cell.frame)));
+    let before = 8 * lengths::frame_bytes(row, f);
     runs(begun, row, cell, one, other, before).put(b"</g>\n")
 }
 
 fn named(page: Page, f: usize, y: usize) -> Page {
     page.put(b"<text class=\"p e\" x=\"56\" y=\"")
-        .number(sizes::plus(y, 8))
+        .number(lengths::plus(y, 8))
         .put(b"\">")
         .number(f)
         .put(b"</text><use href=\"#f\" x=\"60\" y=\"")
@@ -313,11 +313,11 @@ fn stretch(page: Page, row: Row, cell: Cell, p: usize, next: usize, differs: boo
         return page;
     }
     let place = p % row.digits;
-    let y = sizes::plus(times(place / row.set, cell.high), cell.high / 2);
+    let y = lengths::plus(times(place / row.set, cell.high), cell.high / 2);
     page.put(b"M")
         .number(times(place % row.set, cell.wide))
         .put(b" ")
         .number(y)
         .put(b"h")
-        .number(times(sizes::minus(next, p), cell.wide))
+        .number(times(lengths::minus(next, p), cell.wide))
 }

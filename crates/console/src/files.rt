@@ -3,14 +3,14 @@
 use crate::page::Page;
 use crate::say;
 use recordings::carry;
-use recordings::sizes;
+use recordings::lengths;
 ghost use Prim.Native.Nat.{_≤_};
 ghost use lib.ListN.{length};
 ghost use Rattle.io.specs.Counts.{Counts};
-ghost use Rattle.recordings.specs.Sizes.{longest};
+ghost use Rattle.recordings.specs.Lengths.{longest};
 
 // The longest input, as a place in a file, and a place that no file reaches.
-const MOST: i64 = sizes::MOST as i64;
+const MOST: i64 = lengths::MOST as i64;
 
 const PAST_ALL: usize = 4611686018427387904;
 
@@ -98,7 +98,7 @@ pub fn open(k: usize) -> Input
 
 // A place in a file as the C library takes it.
 fn offset(at: usize) -> i64 {
-    sizes::least(at, PAST_ALL) as i64
+    lengths::least(at, PAST_ALL) as i64
 }
 
 // Fills the slice from this place of a file on, and answers whether it is full.

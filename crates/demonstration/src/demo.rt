@@ -2,7 +2,7 @@
 // with what was sent; then the verdict on the late one. Tributary 1 is stuffed in every frame, the others alternate.
 use crate::verdict;
 use console::say;
-use recordings::sizes;
+use recordings::lengths;
 use workbench::Compared;
 ghost use Prim.Native.Nat.{_<_};
 
@@ -128,7 +128,7 @@ fn table(sent: &[u8; 824], back: &[u8; 824], counts: [usize; 4], came: [usize; 4
 
 // One tributary: as many digits are compared as were sent and came back.
 fn row(sent: &[u8; 824], back: &[u8; 824], j: usize, count: usize, came: usize) {
-    let r = workbench::compare_quarter(sent, back, j, sizes::least(count, came));
+    let r = workbench::compare_quarter(sent, back, j, lengths::least(count, came));
     say::column(b"     ", j % 4 + 1);
     say::column(b"        ", count);
     say::column(b"      ", came);

@@ -10,7 +10,7 @@ use passages::passage::Quarters;
 use reading::Noted;
 use recordings::carry;
 use recordings::carry::Kept;
-use recordings::sizes;
+use recordings::lengths;
 use table::Row;
 ghost use Prim.Native.Nat.{_<_, _≤_};
 ghost use lib.ListN.{length};
@@ -84,7 +84,7 @@ fn add(read: Noted, taken: Counted, row: Row, notes: &[u8], buffer: &[u8], t: Pa
     );
     u.earlier = passage::last_vote(notes, t.earlier);
     u.refusal = taken.refusal;
-    u.frame = sizes::plus(before.frames, taken.frame);
+    u.frame = lengths::plus(before.frames, taken.frame);
     passage::only_if(read.refusal == 0 && taken.refusal == 0, passage::LINE, u)
 }
 
@@ -130,13 +130,19 @@ fn write_quarter(buffer: &[u8], j: usize, count: usize, t: Passage) -> Passage
         digits: kept[j] % 8,
     };
     let mut out = io::large_buffer();
-    let first = 8 * sizes::quarter_start(buffer.len() / 4, j);
-    let r = carry::join(&mut out, before, buffer, first, sizes::least(count, 524288));
-    let n = sizes::least(r.whole, 65536);
+    let first = 8 * lengths::quarter_start(buffer.len() / 4, j);
+    let r = carry::join(
+        &mut out,
+        before,
+        buffer,
+        first,
+        lengths::least(count, 524288),
+    );
+    let n = lengths::least(r.whole, 65536);
     let at = passage::in_quarter(to.quarter, j, written[j]);
     let ok = files::write_at(to.tributaries, &out[..n], at);
     let rest = r.kept;
-    written[j] = sizes::plus(written[j], n);
+    written[j] = lengths::plus(written[j], n);
     byte[j] = rest.byte;
     kept[j] = rest.digits;
     let after = Quarters {

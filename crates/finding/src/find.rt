@@ -10,7 +10,7 @@ use passages::passage::Passage;
 use receiver::Mode;
 use receiver::State;
 use recordings::carry;
-use recordings::sizes;
+use recordings::lengths;
 use recordings::watch;
 use recordings::watch::Change;
 use recordings::watch::Heard;
@@ -19,7 +19,7 @@ ghost use mathlib.Core.Path.{_≡_};
 ghost use Prim.Native.Nat.{_<_, _≤_};
 ghost use lib.ListN.{length};
 ghost use Rattle.levels.specs.Table.{Shared};
-ghost use Rattle.recordings.specs.Sizes.{longest};
+ghost use Rattle.recordings.specs.Lengths.{longest};
 
 // The words of the call by number.
 pub const STREAM: usize = 3;
@@ -63,7 +63,7 @@ pub fn run(row: Row, level: u64, earlier: u64, writes: bool)
         first: 0,
         notes,
         tributaries,
-        quarter: sizes::quarter_bytes(row, stream.bytes / row.bytes),
+        quarter: lengths::quarter_bytes(row, stream.bytes / row.bytes),
     };
     end(
         row,
@@ -107,7 +107,7 @@ fn chunks(row: Row, level: u64, bytes: usize, t: Finding) -> Finding
             row,
             level,
             at,
-            sizes::least(bytes - at, 65536),
+            lengths::least(bytes - at, 65536),
             &mut line,
             u,
         );
@@ -175,13 +175,13 @@ fn after(row: Row, level: u64, heard: Heard, line: &mut [u8], t: Finding) -> Fin
     let state = fed.state;
     let alignment = heard.alignment;
     let alarm = heard.alarm;
-    let digits = sizes::plus(t.digits, fed.taken);
+    let digits = lengths::plus(t.digits, fed.taken);
     let found = say_change(row, alignment, digits, state.place);
     say_alarm(alarm, digits);
     let u = Finding {
         state,
         digits,
-        words: sizes::plus(t.words, fed.words),
+        words: lengths::plus(t.words, fed.words),
         found: t.found || found,
         held: t.held,
         passage: t.passage,
@@ -198,13 +198,13 @@ fn say_change(row: Row, change: Change, digits: usize, place: usize) -> bool {
         Change::Nothing => false,
         Change::Begins => {
             say::text(b"found at digit ");
-            say::number(sizes::minus(sizes::minus(digits, place), row.len));
+            say::number(lengths::minus(lengths::minus(digits, place), row.len));
             say::text(b": the third good word in a row, and the first frame handed over\n");
             true
         }
         Change::Ends => {
             say::text(b"lost at digit ");
-            say::number(sizes::minus(digits, row.len));
+            say::number(lengths::minus(digits, row.len));
             say::text(b": the fourth wrong word in a row, and its frame is not handed over\n");
             false
         }
@@ -217,12 +217,12 @@ fn say_alarm(change: Change, digits: usize) {
         Change::Nothing => {}
         Change::Begins => {
             say::text(b"alarm indication begins at digit ");
-            say::number(sizes::minus(digits, 1));
+            say::number(lengths::minus(digits, 1));
             say::text(b": the second stretch in a row with few zeros ends there\n");
         }
         Change::Ends => {
             say::text(b"alarm indication ends at digit ");
-            say::number(sizes::minus(digits, 1));
+            say::number(lengths::minus(digits, 1));
             say::text(b": the second stretch in a row with more zeros ends there\n");
         }
     }
@@ -250,7 +250,7 @@ fn put_frame(row: Row, line: &mut [u8], held: usize, frame: &[u8; 366])
 {
     carry::copy_digits(
         line,
-        8 * sizes::frame_bytes(row, held),
+        8 * lengths::frame_bytes(row, held),
         frame,
         0,
         row.digits,
@@ -261,9 +261,9 @@ fn put_frame(row: Row, line: &mut [u8], held: usize, frame: &[u8; 366])
 fn flush(row: Row, level: u64, line: &[u8], t: Finding) -> Finding
     requires { ⌜ Shared row × (length (now line) ≡ 65536) ⌝ }
 {
-    let f = sizes::least(t.held, 64);
-    let n = sizes::frame_bytes(row, f);
-    let b = 4 * sizes::quarter_bytes(row, f);
+    let f = lengths::least(t.held, 64);
+    let n = lengths::frame_bytes(row, f);
+    let b = 4 * lengths::quarter_bytes(row, f);
     let mut notes = [0u8; 64];
     let mut buffer = io::large_buffer();
     let before = t.passage;

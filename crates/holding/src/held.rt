@@ -6,7 +6,7 @@ use passages::passage;
 use table::Row;
 ghost use Prim.Native.Nat.{_<_, _≤_};
 ghost use Rattle.levels.specs.Table.{Shared};
-ghost use Rattle.recordings.specs.Sizes.{longest};
+ghost use Rattle.recordings.specs.Lengths.{longest};
 
 // A line in a file that is open: the byte at which it begins, and its frames.
 pub struct Line {

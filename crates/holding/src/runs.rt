@@ -7,12 +7,12 @@ use console::files;
 use evidence::readings;
 use levels::order;
 use passages::passage;
-use recordings::sizes;
+use recordings::lengths;
 use table::Row;
 ghost use Prim.Native.Nat.{_*_, _≤_};
 ghost use lib.ListN.{length};
 ghost use Rattle.levels.specs.Table.{Shared};
-ghost use Rattle.recordings.specs.Sizes.{longest};
+ghost use Rattle.recordings.specs.Lengths.{longest};
 
 // The votes of a run: of the two frames before it, of its own, and of the frame after.
 pub const SECOND: usize = 0;
@@ -29,7 +29,7 @@ pub fn all(row: Row, level: u64, line: Line, sent: Sent, h: Held) -> Held
     let mut k: usize = 0;
     while k < (frames + 63) / 64 {
         if u.failed == passage::NONE {
-            u = one(row, level, k, sizes::frames_in(k, frames), line, sent, u);
+            u = one(row, level, k, lengths::frames_in(k, frames), line, sent, u);
         }
         k += 1;
     }
@@ -41,9 +41,9 @@ fn one(row: Row, level: u64, k: usize, f: usize, line: Line, sent: Sent, h: Held
     requires { ⌜ Shared row × (f ≤ 64) × (64 * k ≤ longest) ⌝ }
 {
     let mut digits = io::large_buffer();
-    let n = sizes::frame_bytes(row, f);
-    let at = sizes::plus(line.first, sizes::frame_bytes(row, 64 * k));
-    let next = next_vote(row, level, line, sizes::plus(at, n));
+    let n = lengths::frame_bytes(row, f);
+    let at = lengths::plus(line.first, lengths::frame_bytes(row, 64 * k));
+    let next = next_vote(row, level, line, lengths::plus(at, n));
     read_on(row, level, at, &mut digits[..n], f, next, line, sent, h)
 }
 
@@ -52,7 +52,7 @@ fn next_vote(row: Row, level: u64, line: Line, at: usize) -> u8
     requires { ⌜ Shared row ⌝ }
 {
     let mut digits = [0u8; 366];
-    let n = sizes::least(row.bytes, 366);
+    let n = lengths::least(row.bytes, 366);
     vote_at(level, &mut digits[..n], line.fd, at)
 }
 
@@ -138,7 +138,7 @@ fn move_on(row: Row, f: usize, votes: [u8; 67], h: Held) -> Held
     if h.frames == 0 && order::has_negative(row) {
         u.moved = votes[BEFORE] ^ votes[OWN];
     }
-    u.frames = sizes::plus(h.frames, f);
+    u.frames = lengths::plus(h.frames, f);
     u.before = votes[end - 1];
     u.second = votes[end - 2];
     u
@@ -165,9 +165,9 @@ fn changes_in(votes: &[u8]) -> [usize; 4] {
 
 fn four_sums(a: [usize; 4], b: [usize; 4]) -> [usize; 4] {
     [
-        sizes::plus(a[0], b[0]),
-        sizes::plus(a[1], b[1]),
-        sizes::plus(a[2], b[2]),
-        sizes::plus(a[3], b[3]),
+        lengths::plus(a[0], b[0]),
+        lengths::plus(a[1], b[1]),
+        lengths::plus(a[2], b[2]),
+        lengths::plus(a[3], b[3]),
     ]
 }

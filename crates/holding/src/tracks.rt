@@ -2,7 +2,7 @@
 use evidence::readings;
 use evidence::readings::Found;
 use evidence::readings::Place;
-use recordings::sizes;
+use recordings::lengths;
 
 // Its digits, how many of them are wrong, the frame of the first wrong one and its number in that frame, and the last 23 digits.
 pub struct Track {
@@ -35,11 +35,11 @@ pub fn better(a: Track, b: Track) -> Track {
 pub fn more(t: Track, count: usize, found: Found, at: Place, frames: usize, window: u32) -> Track {
     let mut u = t;
     if t.wrong == 0 && found.wrong != 0 {
-        u.frame = sizes::plus(frames, at.frame);
+        u.frame = lengths::plus(frames, at.frame);
         u.digit = at.digit;
     }
-    u.digits = sizes::plus(t.digits, count);
-    u.wrong = sizes::plus(t.wrong, found.wrong);
+    u.digits = lengths::plus(t.digits, count);
+    u.wrong = lengths::plus(t.wrong, found.wrong);
     u.window = window;
     u
 }

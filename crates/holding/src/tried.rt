@@ -12,7 +12,7 @@ use evidence::readings::Followed;
 use evidence::readings::Found;
 use levels::order;
 use passages::passage;
-use recordings::sizes;
+use recordings::lengths;
 use table::Row;
 ghost use Prim.Native.Nat.{_<_, _≤_};
 ghost use lib.ListN.{length};
@@ -37,13 +37,13 @@ pub fn one(
         votes,
         r,
         h.frames == 0,
-        sizes::plus(h.frames, f) == line.frames,
+        lengths::plus(h.frames, f) == line.frames,
         f,
     );
     let first = first_vote(r);
     let end = first + f;
     let mut buffer = io::large_buffer();
-    let b = 4 * sizes::quarter_bytes(row, f);
+    let b = 4 * lengths::quarter_bytes(row, f);
     let earlier = w[first - 1] as u64;
     take(
         row,
@@ -153,7 +153,7 @@ fn four(
             f,
             buffer,
             j,
-            sizes::least(counts[j], 524288),
+            lengths::least(counts[j], 524288),
             r,
             sent,
             u,
@@ -203,7 +203,7 @@ fn start_of(bytes: usize, j: usize) -> usize
     requires { ⌜ (bytes ≤ 65536) × (j < 4) ⌝ }
     ensures { λ r. ⌜ r ≤ 524288 ⌝ }
 {
-    8 * sizes::quarter_start(bytes / 4, j)
+    8 * lengths::quarter_start(bytes / 4, j)
 }
 
 // Tributary j's (from 0) so many digits, of f frames.
@@ -221,7 +221,7 @@ fn held_against(
     if sent.stages == 0 {
         return against_file(row, f, buffer, j, count, sent, t.digits);
     }
-    let seen = sizes::least(t.digits, 1048576);
+    let seen = lengths::least(t.digits, 1048576);
     Tried {
         followed: readings::against_pattern(
             sent.stages,
@@ -254,7 +254,7 @@ fn against_file(
     requires { ⌜ Shared row × (f ≤ 64) × (length (now buffer) ≤ 65536) × (j < 4) × (count ≤ 524288) ⌝ }
 {
     let mut raw = [0u8; 8192];
-    let n = sizes::bytes_wanted(row, f, sent.quarter, done);
+    let n = lengths::bytes_wanted(row, f, sent.quarter, done);
     let ok = files::read_at(
         sent.fd,
         &mut raw[..n],

@@ -6,11 +6,11 @@ use console::say;
 use finder::Fed;
 use finder::Mode;
 use finder::State;
-use recordings::sizes;
+use recordings::lengths;
 ghost use mathlib.Core.Path.{_≡_};
 ghost use Prim.Native.Nat.{_≤_};
 ghost use lib.ListN.{length};
-ghost use Rattle.recordings.specs.Sizes.{longest};
+ghost use Rattle.recordings.specs.Lengths.{longest};
 
 // The word of the call by number.
 pub const RECORDING: usize = 2;
@@ -59,7 +59,7 @@ fn chunks(fd: i32, bytes: usize) -> Hunt
     let mut at: usize = 0;
     while at < bytes {
         progress::say(at, bytes);
-        h = one_chunk(fd, at, sizes::least(bytes - at, 65536), h);
+        h = one_chunk(fd, at, lengths::least(bytes - at, 65536), h);
         at += 65536;
     }
     progress::say(bytes, bytes);
@@ -111,13 +111,13 @@ fn after(fed: Fed, t: Hunt) -> Hunt {
     let mode = before.mode;
     let was = finder::is_aligned(mode);
     let state = fed.state;
-    let digits = sizes::plus(t.digits, fed.taken);
-    say_change(was, fed.aligned, sizes::minus(digits, WORD));
+    let digits = lengths::plus(t.digits, fed.taken);
+    say_change(was, fed.aligned, lengths::minus(digits, WORD));
     Hunt {
         state,
         digits,
-        found: sizes::plus(t.found, one_if(!was && fed.aligned)),
-        lost: sizes::plus(t.lost, one_if(was && !fed.aligned)),
+        found: lengths::plus(t.found, one_if(!was && fed.aligned)),
+        lost: lengths::plus(t.lost, one_if(was && !fed.aligned)),
         whole: t.whole,
     }
 }

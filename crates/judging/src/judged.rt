@@ -13,12 +13,12 @@ use keeping::capture;
 use keeping::capture::Opened;
 use keeping::refusals;
 use levels::judging;
-use recordings::sizes;
+use recordings::lengths;
 use table::Level;
 use table::Row;
 ghost use Prim.Native.Nat.{_≤_};
 ghost use Rattle.levels.specs.Table.{Shared};
-ghost use Rattle.recordings.specs.Sizes.{longest};
+ghost use Rattle.recordings.specs.Lengths.{longest};
 
 // The words of the call by number: the level or the vote before a capture, and, where no page is asked for, the last.
 const FIRST: usize = 2;
@@ -27,12 +27,12 @@ const SENT: usize = 4;
 
 // Whether the command may have a last word of this number: a call with a capture has one less than one with a level, one with a page one more.
 pub fn fits(last: usize) -> bool {
-    called::fits(last, SENT) || called::fits(sizes::minus(last, 1), SENT)
+    called::fits(last, SENT) || called::fits(lengths::minus(last, 1), SENT)
 }
 
 pub fn run(last: usize) {
     let paged = source::is_page(last);
-    let words = sizes::minus(last, paged);
+    let words = lengths::minus(last, paged);
     let by = called::by(words, SENT);
     if by.short || !called::fits(words, SENT) {
         wrong_words();
@@ -121,7 +121,7 @@ fn captured(row: Row, c: Opened, asked: Asked, earlier: u64)
     let whole = Line {
         fd: c.fd,
         first: line.start,
-        frames: frames_of(row, sizes::least(line.bytes, capture::MOST)),
+        frames: frames_of(row, lengths::least(line.bytes, capture::MOST)),
     };
     sent_on(row, r.level, earlier, whole, asked);
 }
@@ -143,7 +143,7 @@ fn sent_on(row: Row, level: u64, earlier: u64, line: Line, asked: Asked)
     if !sent.ok {
         return;
     }
-    let wanted = sizes::quarter_bytes(row, line.frames);
+    let wanted = lengths::quarter_bytes(row, line.frames);
     if is_short(sent.bytes, wanted) {
         help::no_room(asked.sent, sent.bytes, level, line.frames, wanted);
         return;

@@ -20,7 +20,7 @@ use wording::numbers;
 use wording::verdicts;
 ghost use Prim.Native.Nat.{_<_, _≤_};
 ghost use Rattle.levels.specs.Table.{Shared};
-ghost use Rattle.recordings.specs.Sizes.{longest};
+ghost use Rattle.recordings.specs.Lengths.{longest};
 
 pub fn run(row: Row, level: u64, earlier: u64, line: Line, sent: Sent, asked: Asked)
     requires { ⌜ Shared row × (line .frames ≤ longest) ⌝ }

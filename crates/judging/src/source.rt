@@ -3,7 +3,7 @@ use console::files;
 use console::help;
 use console::say;
 use console::words;
-use recordings::sizes;
+use recordings::lengths;
 
 // The words by number, the stages of the pattern that was sent or 0 where a file is named, WRONG where it is no pattern; and the word that names the
 // page, or 0.
@@ -18,7 +18,7 @@ const WRONG: usize = 1;
 
 // The words from the one on that names the line. `paged` is 1 where a page is asked for, by the word after what was sent.
 pub fn words_of(line: usize, paged: usize) -> Asked {
-    let sent = sizes::plus(line, 1);
+    let sent = lengths::plus(line, 1);
     Asked {
         line,
         sent,
@@ -31,7 +31,7 @@ fn page_of(sent: usize, paged: usize) -> usize {
     if paged == 0 {
         return 0;
     }
-    sizes::plus(sent, 1)
+    lengths::plus(sent, 1)
 }
 
 // Whether the page would be written over a file that is read.

@@ -4,7 +4,7 @@ use console::help;
 use console::words;
 use console::words::LevelAsked;
 use levels::judging;
-use recordings::sizes;
+use recordings::lengths;
 use table::Level;
 use table::Row;
 ghost use Rattle.levels.specs.Table.{Shared};
@@ -25,7 +25,7 @@ pub struct Called {
 
 // Whether a call of this last word has the words of one with a level, or all but the level.
 pub fn fits(last: usize, levelled: usize) -> bool {
-    last == levelled || last == sizes::minus(levelled, 1)
+    last == levelled || last == lengths::minus(levelled, 1)
 }
 
 // A call of this last word, where a call with a level has that one.

@@ -4,7 +4,7 @@ use captures::Reading;
 use console::files;
 use console::say;
 use recordings::labels;
-use recordings::sizes;
+use recordings::lengths;
 use table::Row;
 ghost use mathlib.Core.Path.{_≡_};
 ghost use Prim.Native.Nat.{_≤_};
@@ -32,7 +32,7 @@ pub fn room() -> [u8; 65600]
 // Opens the capture that word k names, and reads it into the room.
 pub fn open(k: usize, room: &mut [u8]) -> Opened {
     let input = files::open(k);
-    let n = sizes::least(input.bytes, room.len());
+    let n = lengths::least(input.bytes, room.len());
     let whole = files::read_at(input.fd, &mut room[..n], 0);
     if input.ok && !whole {
         files::unread(k);
@@ -49,7 +49,7 @@ pub fn open(k: usize, room: &mut [u8]) -> Opened {
 pub fn end_of(part: Part, room: &[u8]) -> usize
     ensures { λ r. ⌜ r ≤ length (now (room .entry)) ⌝ }
 {
-    sizes::least(sizes::plus(part.start, part.bytes), room.len())
+    lengths::least(lengths::plus(part.start, part.bytes), room.len())
 }
 
 // What a capture holds: its level and rate, how many frames its line of so many bytes has, and its label.
@@ -81,6 +81,6 @@ fn say_byte(b: u8) {
     let shown = labels::shown(b);
     let c = shown.characters;
     let characters = [c[0], c[1], c[2], c[3]];
-    let n = sizes::least(shown.count, 4);
+    let n = lengths::least(shown.count, 4);
     say::text(&characters[..n]);
 }

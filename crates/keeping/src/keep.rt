@@ -3,7 +3,7 @@ use crate::capture;
 use crate::refusals;
 use console::files;
 use levels::sizes::bad_line;
-use recordings::sizes;
+use recordings::lengths;
 use table::Row;
 ghost use Prim.Native.Nat.{_≤_};
 ghost use lib.ListN.{length};
@@ -28,7 +28,7 @@ pub fn run(row: Row, level: u64, labelled: bool)
         return;
     }
     let mut room = io::large_buffer();
-    let n = sizes::least(line.bytes, 65536);
+    let n = lengths::least(line.bytes, 65536);
     read_on(row, level, labelled, line.fd, &mut room[..n]);
 }
 
@@ -64,7 +64,7 @@ fn write_on(row: Row, level: u64, line: &[u8], labelled: bool, label: &[u8])
         return;
     }
     capture::say(row, level, line.len(), labelled, label);
-    let n = sizes::least(written.bytes, 65536);
+    let n = lengths::least(written.bytes, 65536);
     let whole = files::write_at(fd, &file[..n], 0);
     files::finish(CAPTURE, fd, whole);
 }

@@ -5,7 +5,7 @@ use crate::capture;
 use crate::capture::Opened;
 use crate::refusals;
 use crate::show;
-use recordings::sizes;
+use recordings::lengths;
 use table::Level;
 use table::Row;
 use taking::take;
@@ -63,10 +63,10 @@ fn read_on(which: u8, k: usize, earlier: u64, row: Row, c: Opened, room: &[u8])
     let from = Source {
         fd: c.fd,
         first: line.start,
-        bytes: sizes::least(line.bytes, capture::MOST),
+        bytes: lengths::least(line.bytes, capture::MOST),
         line: k,
-        notes: sizes::plus(k, 1),
-        tributaries: sizes::plus(k, 2),
+        notes: lengths::plus(k, 1),
+        tributaries: lengths::plus(k, 2),
     };
     take::run_from(row, r.level, earlier, false, from);
 }

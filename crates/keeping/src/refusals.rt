@@ -2,7 +2,7 @@
 use crate::capture::Opened;
 use console::files;
 use console::say;
-use recordings::sizes;
+use recordings::lengths;
 use table::Level;
 use table::Row;
 ghost use Prim.Native.Nat.{_<_};
@@ -134,8 +134,8 @@ fn expected(byte: usize, line_end: usize) {
 
 // What stands there: up to three bytes, how many come after them, and the end.
 fn found(byte: usize, bytes: usize, room: &[u8]) {
-    let end = sizes::least(sizes::plus(byte, 3), sizes::least(bytes, room.len()));
-    let start = sizes::least(byte, end);
+    let end = lengths::least(lengths::plus(byte, 3), lengths::least(bytes, room.len()));
+    let start = lengths::least(byte, end);
     say::text(b"; found");
     say_bytes(&room[start..end]);
     if end < bytes {

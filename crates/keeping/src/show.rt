@@ -2,7 +2,7 @@
 use crate::capture;
 use captures::Reading;
 use console::files;
-use recordings::sizes;
+use recordings::lengths;
 use table::Row;
 ghost use Rattle.levels.specs.Table.{Shared};
 
@@ -21,7 +21,7 @@ pub fn run(row: Row, r: Reading, room: &[u8], writes: bool, k: usize)
     say(row, r, room);
     let line = r.line;
     let end = capture::end_of(line, room);
-    let start = sizes::least(line.start, end);
+    let start = lengths::least(line.start, end);
     let whole = files::write_at(fd, &room[start..end], 0);
     files::finish(k, fd, whole);
 }
@@ -33,6 +33,6 @@ pub fn say(row: Row, r: Reading, room: &[u8])
     let line = r.line;
     let label = r.label;
     let end = capture::end_of(label, room);
-    let start = sizes::least(label.start, end);
+    let start = lengths::least(label.start, end);
     capture::say(row, r.level, line.bytes, r.labelled, &room[start..end]);
 }

@@ -4,7 +4,7 @@ use console::files;
 use console::say;
 use console::words;
 ghost use Prim.Native.Nat.{_≤_};
-ghost use Rattle.recordings.specs.Sizes.{longest};
+ghost use Rattle.recordings.specs.Lengths.{longest};
 
 // The words of the call by number.
 const MULTIFRAMES: usize = 2;

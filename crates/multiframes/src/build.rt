@@ -3,7 +3,7 @@ use crate::refusals;
 use console::files;
 use console::say;
 ghost use Prim.Native.Nat.{_≤_};
-ghost use Rattle.recordings.specs.Sizes.{longest};
+ghost use Rattle.recordings.specs.Lengths.{longest};
 
 // The words of the call by number.
 const CHANNELS: usize = 2;

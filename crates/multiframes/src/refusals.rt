@@ -1,7 +1,7 @@
 // Why files of multiframes are refused: the number, the file, what was found in it and what to do.
 use console::files;
 use console::say;
-use recordings::sizes;
+use recordings::lengths;
 
 // The first words of a refusal of the file that word k of the call names, by its length.
 fn of_length(k: usize, bytes: usize) {
@@ -43,7 +43,7 @@ pub fn silent(k: usize, multiframe: usize, channel: usize) {
     say::text(
         b" has signalling 0000, which would look like the start of a multiframe; change the first four digits of byte ",
     );
-    let first = 15 * sizes::least(multiframe, sizes::MOST);
-    say::number(sizes::minus(sizes::plus(first, channel), 1));
+    let first = 15 * lengths::least(multiframe, lengths::MOST);
+    say::number(lengths::minus(lengths::plus(first, channel), 1));
     say::text(b".\n");
 }

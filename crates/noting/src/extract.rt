@@ -5,12 +5,12 @@ use extracting::apart;
 use passages::passage;
 use passages::passage::OpenFiles;
 use passages::passage::Passage;
-use recordings::sizes;
+use recordings::lengths;
 use table::Row;
 use taking::runs;
 ghost use Prim.Native.Nat.{_≤_};
 ghost use Rattle.levels.specs.Table.{Shared};
-ghost use Rattle.recordings.specs.Sizes.{longest};
+ghost use Rattle.recordings.specs.Lengths.{longest};
 
 // The words of the call by number.
 const LINE: usize = 3;
@@ -54,7 +54,7 @@ fn run_from(row: Row, level: u64, earlier: u64, line: i32, notes: i32, frames: u
         first: 0,
         notes,
         tributaries,
-        quarter: sizes::quarter_bytes(row, frames),
+        quarter: lengths::quarter_bytes(row, frames),
     };
     let start = passage::start(row, earlier, open);
     end(level, runs::all(row, level, runs::BY_NOTES, frames, start));

@@ -2,7 +2,7 @@
 use levels::order;
 use levels::order::Action;
 use recordings::carry;
-use recordings::sizes;
+use recordings::lengths;
 use table::Row;
 ghost use Prim.Native.Nat.{_<_};
 ghost use lib.ListN.{length};
@@ -32,7 +32,7 @@ fn negative(row: Row, earlier: u64, notes: &[u8], j: usize) -> usize
     let mut n: usize = 0;
     let mut f: usize = 0;
     while f < notes.len() {
-        n = sizes::plus(n, negative_in(action_in(row, earlier, notes, f, j)));
+        n = lengths::plus(n, negative_in(action_in(row, earlier, notes, f, j)));
         f += 1;
     }
     n

@@ -2,7 +2,7 @@
 use crate::acts;
 use console::say;
 use levels::order;
-use recordings::sizes;
+use recordings::lengths;
 use table::Row;
 ghost use Prim.Native.Nat.{_<_, _≤_};
 
@@ -100,8 +100,8 @@ pub fn last_vote(notes: &[u8], earlier: u64) -> u64 {
 pub fn in_quarter(quarter: usize, j: usize, at: usize) -> usize
     requires { ⌜ j ≤ 4 ⌝ }
 {
-    sizes::plus(
-        sizes::quarter_start(sizes::least(quarter, sizes::MOST), j),
+    lengths::plus(
+        lengths::quarter_start(lengths::least(quarter, lengths::MOST), j),
         at,
     )
 }
@@ -121,22 +121,22 @@ pub fn add(
     let negative = t.negative;
     let before = t.dissent;
     Totals {
-        frames: sizes::plus(t.frames, notes.len()),
+        frames: lengths::plus(t.frames, notes.len()),
         digits: four_sums(digits, counts),
         stuffed: four_sums(stuffed, acts::four_stuffed(row, earlier, notes)),
         negative: four_sums(negative, acts::four_negative(row, earlier, notes)),
         signed: t.signed,
-        alignment: sizes::plus(t.alignment, alignment),
+        alignment: lengths::plus(t.alignment, alignment),
         dissent: four_sums(before, dissent),
     }
 }
 
 fn four_sums(a: [usize; 4], b: [usize; 4]) -> [usize; 4] {
     [
-        sizes::plus(a[0], b[0]),
-        sizes::plus(a[1], b[1]),
-        sizes::plus(a[2], b[2]),
-        sizes::plus(a[3], b[3]),
+        lengths::plus(a[0], b[0]),
+        lengths::plus(a[1], b[1]),
+        lengths::plus(a[2], b[2]),
+        lengths::plus(a[3], b[3]),
     ]
 }
 

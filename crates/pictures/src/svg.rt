@@ -6,7 +6,7 @@ use console::page::Page;
 use levels::order;
 use levels::places;
 use levels::places::FramePlace;
-use recordings::sizes;
+use recordings::lengths;
 use table::Row;
 use workbench::picture;
 ghost use Prim.Native.Nat.{_<_, _≤_};
@@ -20,7 +20,7 @@ const RIGHT: usize = 940;
 const CELL: usize = 34;
 
 pub fn title(page: Page, row: Row, level: u64) -> Page {
-    let height = 76 + 66 * sizes::least(row.sets, 16);
+    let height = 76 + 66 * lengths::least(row.sets, 16);
     let styled = page.put(b"<svg xmlns=\"http://www.w3.org/2000/svg\" viewBox=\"0 0 960 ")
         .number(height)
         .put(b"\" width=\"960\" height=\"")
@@ -91,14 +91,14 @@ fn set_of(row: Row, p: usize) -> usize
     requires { ⌜ Shared row ⌝ }
     ensures { λ r. ⌜ r ≤ 16 ⌝ }
 {
-    sizes::least(p / row.set, 16)
+    lengths::least(p / row.set, 16)
 }
 
 fn x_of(row: Row, p: usize) -> usize
     requires { ⌜ Shared row ⌝ }
     ensures { λ r. ⌜ r ≤ 700 ⌝ }
 {
-    LEFT + CELL * sizes::least(p % row.set, 16)
+    LEFT + CELL * lengths::least(p % row.set, 16)
 }
 
 fn y_of(row: Row, p: usize) -> usize

@@ -3,5 +3,5 @@ pub mod Copies
 pub mod Following
 pub mod Products
 pub mod Shows
-pub mod SizesAnswers
+pub mod LengthsAnswers
 pub mod Shares

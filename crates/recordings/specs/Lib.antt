@@ -1,4 +1,4 @@
 pub mod Carry
 pub mod Labels
-pub mod Sizes
+pub mod Lengths
 pub mod Watch

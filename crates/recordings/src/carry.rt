@@ -1,6 +1,6 @@
 // Digits carried on from run to run without a gap, wherever in a byte a run ends: copies of digits from places to places.
 // specs/Carry.antt says which digit stands where after each.
-use crate::sizes::least;
+use crate::lengths::least;
 use digits::digit_or_zero;
 use levels::order;
 use levels::order::Action;

@@ -9,7 +9,7 @@ use keeping::capture;
 use keeping::capture::Opened;
 use keeping::refusals;
 use keeping::show;
-use recordings::sizes;
+use recordings::lengths;
 use table::Level;
 use table::Row;
 ghost use Rattle.levels.specs.Table.{Shared};
@@ -32,7 +32,7 @@ fn read_on(row: Row, called: Called, national: bool, c: Opened, room: &[u8])
     if called::refused(row, called.earlier) {
         return;
     }
-    let new = files::create(sizes::plus(called.first, 1), b"");
+    let new = files::create(lengths::plus(called.first, 1), b"");
     if new < 0 {
         return;
     }
@@ -45,8 +45,8 @@ fn read_on(row: Row, called: Called, national: bool, c: Opened, room: &[u8])
         word: called.first,
         national,
     };
-    let frames = sizes::least(line.bytes / row.bytes, sizes::MOST);
-    let n = sizes::least(c.bytes, room.len());
+    let frames = lengths::least(line.bytes / row.bytes, lengths::MOST);
+    let n = lengths::least(c.bytes, room.len());
     show::say(row, r, room);
     repairs::run(row, r.level, called.earlier, frames, open, &room[..n]);
 }

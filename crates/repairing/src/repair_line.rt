@@ -4,7 +4,7 @@ use crate::repairs::Open;
 use console::files;
 use console::help;
 use console::say;
-use recordings::sizes;
+use recordings::lengths;
 use table::Row;
 ghost use Rattle.levels.specs.Table.{Shared};
 
@@ -28,7 +28,7 @@ pub fn run(row: Row, level: u64, earlier: u64, national: bool)
     if new < 0 {
         return;
     }
-    let frames = sizes::least(line.bytes / row.bytes, sizes::MOST);
+    let frames = lengths::least(line.bytes / row.bytes, lengths::MOST);
     let open = Open {
         line: line.fd,
         first: 0,

@@ -4,11 +4,11 @@ use crate::runs;
 use crate::said;
 use crate::said::Sums;
 use console::files;
-use recordings::sizes;
+use recordings::lengths;
 use table::Row;
 ghost use Prim.Native.Nat.{_≤_};
 ghost use Rattle.levels.specs.Table.{Shared};
-ghost use Rattle.recordings.specs.Sizes.{longest};
+ghost use Rattle.recordings.specs.Lengths.{longest};
 
 // The files by number; and none of them.
 pub const NONE: u8 = 0;
@@ -52,7 +52,7 @@ pub fn run(row: Row, level: u64, earlier: u64, frames: usize, open: Open, copy: 
 // One run of frames, which stand in the line at this place.
 pub fn one_run(row: Row, level: u64, at: usize, line: &mut [u8], t: Repairs) -> Repairs {
     let open = t.open;
-    let place = sizes::plus(open.first, at);
+    let place = lengths::plus(open.first, at);
     let read = files::read_at(open.line, line, place);
     let r = repair::repair(level, t.earlier, open.national, line);
     let written = files::write_at(open.new, line, place);
@@ -69,7 +69,7 @@ pub fn one_run(row: Row, level: u64, at: usize, line: &mut [u8], t: Repairs) -> 
 // The vote of the last of these frames, which no repair changes.
 fn last_vote(row: Row, level: u64, line: &[u8]) -> u64 {
     let end = line.len();
-    let start = sizes::minus(end, row.bytes);
+    let start = lengths::minus(end, row.bytes);
     let mut note = [0u8; 1];
     reading::read_notes(level, &line[start..end], &mut note);
     wide(note[0])
@@ -92,7 +92,7 @@ fn first_failed(before: u8, ok: bool, file: u8) -> u8 {
 
 fn end(t: Repairs) {
     let open = t.open;
-    let new = sizes::plus(open.word, 1);
+    let new = lengths::plus(open.word, 1);
     let closed = files::close(open.new);
     let failed = first_failed(t.failed, closed, NEW);
     if failed == NONE {

@@ -1,6 +1,6 @@
 // How many digits were changed, of each kind and tributary: added up over the runs, and said as the comparison says its sums.
 use console::say;
-use recordings::sizes;
+use recordings::lengths;
 use repair::Repaired;
 
 // Of the word, of each tributary's control and stuffing digits, and the national digits.
@@ -27,32 +27,35 @@ pub fn add(s: Sums, r: Repaired) -> Sums {
     let stuffing = s.stuffing;
     let further = r.stuffing;
     Sums {
-        word: sizes::plus(s.word, r.word),
+        word: lengths::plus(s.word, r.word),
         control: four(control, more),
         stuffing: four(stuffing, further),
-        national: sizes::plus(s.national, r.national),
+        national: lengths::plus(s.national, r.national),
     }
 }
 
 fn four(a: [usize; 4], b: [usize; 4]) -> [usize; 4] {
     [
-        sizes::plus(a[0], b[0]),
-        sizes::plus(a[1], b[1]),
-        sizes::plus(a[2], b[2]),
-        sizes::plus(a[3], b[3]),
+        lengths::plus(a[0], b[0]),
+        lengths::plus(a[1], b[1]),
+        lengths::plus(a[2], b[2]),
+        lengths::plus(a[3], b[3]),
     ]
 }
 
 // All of four.
 fn all(a: [usize; 4]) -> usize {
-    sizes::plus(sizes::plus(a[0], a[1]), sizes::plus(a[2], a[3]))
+    lengths::plus(lengths::plus(a[0], a[1]), lengths::plus(a[2], a[3]))
 }
 
 // The national digits have a row where they were to be repaired.
 pub fn table(s: Sums, national: bool) {
     let c = s.control;
     let d = s.stuffing;
-    let changed = sizes::plus(sizes::plus(s.word, s.national), sizes::plus(all(c), all(d)));
+    let changed = lengths::plus(
+        lengths::plus(s.word, s.national),
+        lengths::plus(all(c), all(d)),
+    );
     say::line(b"digits repaired: ", changed);
     if changed == 0 {
         return;

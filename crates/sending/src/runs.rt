@@ -6,12 +6,12 @@ use levels::judging;
 use levels::judging::Fault;
 use passages::passage;
 use passages::passage::Passage;
-use recordings::sizes;
+use recordings::lengths;
 use table::Row;
 ghost use Prim.Native.Nat.{_*_, _≤_};
 ghost use lib.ListN.{length};
 ghost use Rattle.levels.specs.Table.{Shared};
-ghost use Rattle.recordings.specs.Sizes.{longest};
+ghost use Rattle.recordings.specs.Lengths.{longest};
 
 // Four quarters with room for 64 frames of any level, so that of a run's notes alone is judged.
 const ROOM: usize = 23680;
@@ -30,7 +30,7 @@ fn sent(row: Row, level: u64, frames: usize, t: Passage) -> Passage
     let mut k: usize = 0;
     while k < (frames + 63) / 64 {
         if u.failed == passage::NONE {
-            u = one(row, level, k, sizes::frames_in(k, frames), u);
+            u = one(row, level, k, lengths::frames_in(k, frames), u);
         }
         k += 1;
     }
@@ -44,9 +44,9 @@ fn one(row: Row, level: u64, k: usize, f: usize, t: Passage) -> Passage
     let mut line = io::large_buffer();
     let mut notes = [0u8; 64];
     let mut buffer = io::large_buffer();
-    let n = sizes::frame_bytes(row, f);
-    let b = 4 * sizes::quarter_bytes(row, f);
-    let at = sizes::frame_bytes(row, 64 * k);
+    let n = lengths::frame_bytes(row, f);
+    let b = 4 * lengths::quarter_bytes(row, f);
+    let at = lengths::frame_bytes(row, 64 * k);
     send::one_run(
         row,
         level,
@@ -66,7 +66,7 @@ fn five_first(row: Row, frames: usize, t: Passage) -> Passage
     let mut k: usize = 0;
     while k < (frames + 63) / 64 {
         if u.refusal == 10 {
-            u = looked(row, k, sizes::frames_in(k, frames), u);
+            u = looked(row, k, lengths::frames_in(k, frames), u);
         }
         k += 1;
     }
@@ -86,7 +86,7 @@ fn looked_in(row: Row, k: usize, notes: &mut [u8], t: Passage) -> Passage
 {
     let from = t.open;
     let read = files::read_at(from.notes, notes, 64 * k);
-    let n = sizes::frame_bytes(row, notes.len());
+    let n = lengths::frame_bytes(row, notes.len());
     let found = judging::fault_of(row, 0, n, notes, ROOM);
     if read && found.refusal == 5 {
         return refused_by(found, k, t);
@@ -99,6 +99,6 @@ fn refused_by(found: Fault, k: usize, t: Passage) -> Passage
 {
     let mut u = t;
     u.refusal = found.refusal;
-    u.frame = sizes::plus(64 * k, found.frame);
+    u.frame = lengths::plus(64 * k, found.frame);
     u
 }

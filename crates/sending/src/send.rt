@@ -9,7 +9,7 @@ use passages::passage;
 use passages::passage::OpenFiles;
 use passages::passage::Passage;
 use recordings::carry;
-use recordings::sizes;
+use recordings::lengths;
 use table::Row;
 ghost use Prim.Native.Nat.{_<_, _≤_};
 ghost use lib.ListN.{length};
@@ -33,7 +33,7 @@ pub fn run(row: Row, level: u64, earlier: u64, plain: bool)
     if !tributaries.ok {
         return;
     }
-    let wanted = sizes::quarter_bytes(row, notes.bytes);
+    let wanted = lengths::quarter_bytes(row, notes.bytes);
     if is_short(tributaries.bytes, wanted) {
         help::no_room(TRIBUTARIES, tributaries.bytes, level, notes.bytes, wanted);
         return;
@@ -109,7 +109,7 @@ fn send_on(
         quarters,
         failed: passage::first_failed(unread, written && r.refusal == 0, passage::LINE),
         refusal: r.refusal,
-        frame: sizes::plus(totals.frames, r.frame),
+        frame: lengths::plus(totals.frames, r.frame),
         earlier: passage::last_vote(notes, t.earlier),
         plain: t.plain,
     }
@@ -176,10 +176,10 @@ fn fill_quarter(
     requires { ⌜ Shared row × (f ≤ 64) × (j < 4) × (length (now buffer) ≤ 65536) ⌝ }
 {
     let mut raw = [0u8; 8192];
-    let n = sizes::bytes_wanted(row, f, from.quarter, done);
+    let n = lengths::bytes_wanted(row, f, from.quarter, done);
     let at = passage::in_quarter(from.quarter, j, done / 8);
     let ok = files::read_at(from.tributaries, &mut raw[..n], at);
-    put_quarter(buffer, j, &raw, done % 8, sizes::tributary_digits(row, f));
+    put_quarter(buffer, j, &raw, done % 8, lengths::tributary_digits(row, f));
     ok
 }
 
@@ -187,7 +187,7 @@ fn fill_quarter(
 fn put_quarter(buffer: &mut [u8], j: usize, raw: &[u8; 8192], first: usize, count: usize)
     requires { ⌜ (j < 4) × (length (now buffer) ≤ 65536) × (first < 8) × (count ≤ 46912) ⌝ }
 {
-    let at = 8 * sizes::quarter_start(buffer.len() / 4, j);
+    let at = 8 * lengths::quarter_start(buffer.len() / 4, j);
     carry::copy_digits(buffer, at, raw, first, count);
 }
 

@@ -1,11 +1,11 @@
 // A line of any number of frames, 64 at a time.
 use crate::swapped;
 use crate::swapped::Swapping;
-use recordings::sizes;
+use recordings::lengths;
 use table::Row;
 ghost use Prim.Native.Nat.{_*_, _≤_};
 ghost use Rattle.levels.specs.Table.{Shared};
-ghost use Rattle.recordings.specs.Sizes.{longest};
+ghost use Rattle.recordings.specs.Lengths.{longest};
 
 pub fn all(row: Row, level: u64, frames: usize, t: Swapping) -> Swapping
     requires { ⌜ Shared row × (frames ≤ longest) ⌝ }
@@ -14,7 +14,7 @@ pub fn all(row: Row, level: u64, frames: usize, t: Swapping) -> Swapping
     let mut k: usize = 0;
     while k < (frames + 63) / 64 {
         if u.failed == 0 {
-            u = one(row, level, k, sizes::frames_in(k, frames), u);
+            u = one(row, level, k, lengths::frames_in(k, frames), u);
         }
         k += 1;
     }
@@ -28,9 +28,9 @@ fn one(row: Row, level: u64, k: usize, f: usize, t: Swapping) -> Swapping
     let mut line = io::large_buffer();
     let mut notes = [0u8; 64];
     let mut buffer = [0u8; 8192];
-    let n = sizes::frame_bytes(row, f);
-    let b = sizes::quarter_bytes(row, f);
-    let at = sizes::frame_bytes(row, 64 * k);
+    let n = lengths::frame_bytes(row, f);
+    let b = lengths::quarter_bytes(row, f);
+    let at = lengths::frame_bytes(row, 64 * k);
     swapped::one_run(
         row,
         level,

@@ -8,13 +8,13 @@ use keeping::called::Called;
 use keeping::capture;
 use keeping::capture::Opened;
 use keeping::refusals;
-use recordings::sizes;
+use recordings::lengths;
 use table::Level;
 use table::Row;
 ghost use Rattle.levels.specs.Table.{Shared};
 
 pub fn run(called: Called) {
-    opened(called, sizes::plus(called.first, swapped::LINE));
+    opened(called, lengths::plus(called.first, swapped::LINE));
 }
 
 // Word k names the capture.
@@ -60,6 +60,6 @@ fn read_on(row: Row, called: Called, c: Opened, room: &[u8])
         first: line.start,
         frames: line.bytes / row.bytes,
     };
-    let n = sizes::least(c.bytes, room.len());
+    let n = lengths::least(c.bytes, room.len());
     swap_line::noted(row, r.level, called.earlier, one, from, &room[..n]);
 }

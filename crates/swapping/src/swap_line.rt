@@ -7,11 +7,11 @@ use crate::swapped::Tributary;
 use console::files;
 use console::help;
 use console::words;
-use recordings::sizes;
+use recordings::lengths;
 use table::Row;
 ghost use Prim.Native.Nat.{_≤_};
 ghost use Rattle.levels.specs.Table.{Shared};
-ghost use Rattle.recordings.specs.Sizes.{longest};
+ghost use Rattle.recordings.specs.Lengths.{longest};
 
 // The words of a call with a level, or with a vote in its place, by number: the tributary's, and the last.
 const TRIBUTARY: usize = 3;
@@ -33,7 +33,7 @@ pub fn run(row: Row, level: u64, earlier: u64)
         no_tributary(TRIBUTARY);
         return;
     }
-    let k = sizes::plus(TRIBUTARY, swapped::LINE);
+    let k = lengths::plus(TRIBUTARY, swapped::LINE);
     let line = files::open(k);
     if !line.ok {
         return;
@@ -70,7 +70,7 @@ pub fn no_tributary(k: usize) {
 pub fn noted(row: Row, level: u64, earlier: u64, one: Tributary, from: Source, copy: &[u8])
     requires { ⌜ Shared row ⌝ }
 {
-    let k = sizes::plus(one.word, swapped::NOTES);
+    let k = lengths::plus(one.word, swapped::NOTES);
     let notes = files::open(k);
     if !notes.ok {
         return;
@@ -79,7 +79,7 @@ pub fn noted(row: Row, level: u64, earlier: u64, one: Tributary, from: Source, c
         help::no_note_each(
             k,
             notes.bytes,
-            sizes::plus(one.word, swapped::LINE),
+            lengths::plus(one.word, swapped::LINE),
             from.frames,
         );
         return;
@@ -96,17 +96,17 @@ pub fn noted(row: Row, level: u64, earlier: u64, one: Tributary, from: Source, c
 fn given(row: Row, level: u64, earlier: u64, one: Tributary, from: Source, notes: i32, copy: &[u8])
     requires { ⌜ Shared row × (from .frames ≤ longest) ⌝ }
 {
-    let k = sizes::plus(one.word, swapped::DIGITS);
+    let k = lengths::plus(one.word, swapped::DIGITS);
     let digits = files::open(k);
     if !digits.ok {
         return;
     }
-    let wanted = sizes::quarter_bytes(row, from.frames);
+    let wanted = lengths::quarter_bytes(row, from.frames);
     if digits.bytes < wanted {
         help::no_digits(k, digits.bytes, level, from.frames, wanted);
         return;
     }
-    let new = files::create(sizes::plus(one.word, swapped::NEW), b"");
+    let new = files::create(lengths::plus(one.word, swapped::NEW), b"");
     if new < 0 {
         return;
     }

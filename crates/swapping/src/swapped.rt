@@ -4,7 +4,7 @@ use console::files;
 use console::say;
 use passages::passage;
 use recordings::carry;
-use recordings::sizes;
+use recordings::lengths;
 use table::Row;
 ghost use Prim.Native.Nat.{_<_, _≤_};
 ghost use lib.ListN.{length};
@@ -74,9 +74,9 @@ fn fill(row: Row, f: usize, t: Swapping, buffer: &mut [u8]) -> bool
 {
     let from = t.open;
     let mut raw = [0u8; 8192];
-    let n = sizes::bytes_wanted(row, f, from.bytes, t.taken);
+    let n = lengths::bytes_wanted(row, f, from.bytes, t.taken);
     let ok = files::read_at(from.digits, &mut raw[..n], t.taken / 8);
-    put_digits(buffer, &raw, t.taken % 8, sizes::tributary_digits(row, f));
+    put_digits(buffer, &raw, t.taken % 8, lengths::tributary_digits(row, f));
     ok
 }
 
@@ -99,7 +99,7 @@ fn line_on(
     t: Swapping,
 ) -> Swapping {
     let from = t.open;
-    let whole = files::read_at(from.line, line, sizes::plus(from.first, at));
+    let whole = files::read_at(from.line, line, lengths::plus(from.first, at));
     let unnoted = first_failed(t.failed, noted, NOTES);
     let unfilled = first_failed(unnoted, filled, DIGITS);
     swap_on(
@@ -125,12 +125,12 @@ fn swap_on(
     let one = t.tributary;
     let r = swap::swap(level, t.earlier, one.number, line, notes, buffer);
     let to = t.open;
-    let written = files::write_at(to.new, line, sizes::plus(to.first, at));
+    let written = files::write_at(to.new, line, lengths::plus(to.first, at));
     Swapping {
         open: to,
         tributary: one,
-        frames: sizes::plus(t.frames, notes.len()),
-        taken: sizes::plus(t.taken, r.digits),
+        frames: lengths::plus(t.frames, notes.len()),
+        taken: lengths::plus(t.taken, r.digits),
         // The votes alone: a swap takes notes whatever their other bits are.
         earlier: passage::last_vote(notes, t.earlier) % 16,
         failed: first_failed(failed, written && r.refusal == 0, NEW),
@@ -151,7 +151,7 @@ pub fn first_failed(before: usize, ok: bool, word: usize) -> usize {
 pub fn end(level: u64, t: Swapping) {
     let to = t.open;
     let one = t.tributary;
-    let new = sizes::plus(one.word, NEW);
+    let new = lengths::plus(one.word, NEW);
     let closed = files::close(to.new);
     let failed = first_failed(t.failed, closed, NEW);
     if failed == 0 {
@@ -168,5 +168,5 @@ pub fn end(level: u64, t: Swapping) {
         files::not_whole(new, b"");
         return;
     }
-    files::unread(sizes::plus(one.word, failed));
+    files::unread(lengths::plus(one.word, failed));
 }

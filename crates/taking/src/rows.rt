@@ -6,7 +6,7 @@ use levels::order::Action;
 use passages::passage;
 use passages::passage::Passage;
 use reading::Noted;
-use recordings::sizes;
+use recordings::lengths;
 use table::Row;
 ghost use Prim.Native.Nat.{_<_, _≤_};
 ghost use lib.ListN.{length};
@@ -44,8 +44,8 @@ fn written(notes: &[u8], u: Passage, before: Passage) -> Passage {
 fn one(row: Row, level: u64, line: &[u8], notes: &mut [u8], f: usize, t: Passage) -> Passage
     requires { ⌜ Shared row × (f < length (now notes)) × (length (now notes) ≤ 64) ⌝ }
 {
-    let e = sizes::least(sizes::frame_bytes(row, f + 1), line.len());
-    let a = sizes::least(sizes::frame_bytes(row, f), e);
+    let e = lengths::least(lengths::frame_bytes(row, f + 1), line.len());
+    let a = lengths::least(lengths::frame_bytes(row, f), e);
     let end = f + 1;
     let r = reading::read_notes(level, &line[a..e], &mut notes[f..end]);
     said(row, r, notes[f], t)

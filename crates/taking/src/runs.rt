@@ -4,12 +4,12 @@ use console::files;
 use extracting::apart;
 use passages::passage;
 use passages::passage::Passage;
-use recordings::sizes;
+use recordings::lengths;
 use table::Row;
 ghost use Prim.Native.Nat.{_*_, _≤_};
 ghost use lib.ListN.{length};
 ghost use Rattle.levels.specs.Table.{Shared};
-ghost use Rattle.recordings.specs.Sizes.{longest};
+ghost use Rattle.recordings.specs.Lengths.{longest};
 
 // What is done with the frames: taken apart by the notes that are read from them, taken apart by the notes of a file, or only read.
 pub const TAKEN: u8 = 0;
@@ -25,7 +25,7 @@ pub fn all(row: Row, level: u64, way: u8, frames: usize, t: Passage) -> Passage
     let mut k: usize = 0;
     while k < (frames + 63) / 64 {
         if u.failed == passage::NONE {
-            u = one(row, level, way, k, sizes::frames_in(k, frames), u);
+            u = one(row, level, way, k, lengths::frames_in(k, frames), u);
         }
         k += 1;
     }
@@ -39,9 +39,9 @@ fn one(row: Row, level: u64, way: u8, k: usize, f: usize, t: Passage) -> Passage
     let mut line = io::large_buffer();
     let mut notes = [0u8; 64];
     let mut buffer = io::large_buffer();
-    let n = sizes::frame_bytes(row, f);
-    let b = 4 * sizes::quarter_bytes(row, f);
-    let at = sizes::frame_bytes(row, 64 * k);
+    let n = lengths::frame_bytes(row, f);
+    let b = 4 * lengths::quarter_bytes(row, f);
+    let at = lengths::frame_bytes(row, 64 * k);
     one_way(
         row,
         level,
@@ -68,7 +68,7 @@ fn one_way(
     requires { ⌜ Shared row × (length (now notes) ≤ 64) × (length (now buffer) ≤ 65536) ⌝ }
 {
     let from = t.open;
-    let whole = files::read_at(from.line, line, sizes::plus(from.first, at));
+    let whole = files::read_at(from.line, line, lengths::plus(from.first, at));
     let u = passage::only_if(whole, passage::LINE, t);
     if way == READ {
         return rows::run(row, level, line, notes, u);

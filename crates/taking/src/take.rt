@@ -6,11 +6,11 @@ use extracting::apart;
 use passages::passage;
 use passages::passage::OpenFiles;
 use passages::passage::Passage;
-use recordings::sizes;
+use recordings::lengths;
 use table::Row;
 ghost use Prim.Native.Nat.{_≤_};
 ghost use Rattle.levels.specs.Table.{Shared};
-ghost use Rattle.recordings.specs.Sizes.{longest};
+ghost use Rattle.recordings.specs.Lengths.{longest};
 
 // The words of the call by number.
 const LINE: usize = 3;
@@ -70,7 +70,7 @@ pub fn run_from(row: Row, level: u64, earlier: u64, plain: bool, from: Source)
         first: from.first,
         notes,
         tributaries,
-        quarter: sizes::quarter_bytes(row, frames),
+        quarter: lengths::quarter_bytes(row, frames),
     };
     let start = passage::start_by(row, earlier, to, plain);
     end(

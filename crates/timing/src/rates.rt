@@ -5,12 +5,12 @@ use crate::timed::Timed;
 use evidence::rates;
 use evidence::rates::Off;
 use evidence::rates::Ratio;
-use recordings::sizes;
+use recordings::lengths;
 use table::Row;
 ghost use Prim.Native.Nat.{_<_, _≤_};
 
 // The longest recording, in digits of its line.
-const DIGITS: usize = 8 * sizes::MOST;
+const DIGITS: usize = 8 * lengths::MOST;
 
 // The line's rate to the tributary's, in lowest terms: 8448 to 2048, 34368 to 8448, 139264 to 34368 kbit/s.
 fn ratio(level: u64) -> Ratio
@@ -64,14 +64,14 @@ pub fn tolerance(level: u64) -> usize
 fn line_digits(row: Row, frames: usize) -> usize
     ensures { λ r. ⌜ r ≤ 8796093022208 ⌝ }
 {
-    sizes::least(timed::times(frames, row.digits), DIGITS)
+    lengths::least(timed::times(frames, row.digits), DIGITS)
 }
 
 // How far off so many digits in so many frames are.
 fn off_in(row: Row, level: u64, digits: usize, frames: usize) -> Off {
     rates::off_by(
         ratio(level),
-        sizes::least(digits, DIGITS),
+        lengths::least(digits, DIGITS),
         line_digits(row, frames),
     )
 }
@@ -98,7 +98,7 @@ pub fn in_part(row: Row, level: u64, parts: Parts, t: Timed, j: usize, i: usize)
 
 // Whether a rate over so many frames left its tolerance: by more than one digit makes, since a count may miss the end of one.
 pub fn has_left(row: Row, level: u64, off: Off, frames: usize) -> bool {
-    sizes::plus(10 * tolerance(level), one_digit(row, level, frames)) < off.tenths
+    lengths::plus(10 * tolerance(level), one_digit(row, level, frames)) < off.tenths
 }
 
 // In how many parts tributary j (from 0) left its tolerance, and in which first.
@@ -129,7 +129,7 @@ fn left_with(row: Row, level: u64, parts: Parts, off: Off, i: usize, l: Left) ->
         return Left { parts: 1, first: i };
     }
     Left {
-        parts: sizes::plus(l.parts, 1),
+        parts: lengths::plus(l.parts, 1),
         first: l.first,
     }
 }

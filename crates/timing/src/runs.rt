@@ -6,12 +6,12 @@ use crate::timed::Timed;
 use console::files;
 use passages::acts;
 use passages::passage;
-use recordings::sizes;
+use recordings::lengths;
 use table::Row;
 ghost use Prim.Native.Nat.{_*_, _<_, _≤_};
 ghost use lib.ListN.{length};
 ghost use Rattle.levels.specs.Table.{Shared};
-ghost use Rattle.recordings.specs.Sizes.{longest};
+ghost use Rattle.recordings.specs.Lengths.{longest};
 
 pub fn all(row: Row, level: u64, from: From, parts: Parts, t: Timed) -> Timed
     requires { ⌜ Shared row × (parts .frames ≤ longest) ⌝ }
@@ -21,7 +21,7 @@ pub fn all(row: Row, level: u64, from: From, parts: Parts, t: Timed) -> Timed
     let mut k: usize = 0;
     while k < (frames + 63) / 64 {
         if u.failed == passage::NONE {
-            u = one(row, level, k, sizes::frames_in(k, frames), from, parts, u);
+            u = one(row, level, k, lengths::frames_in(k, frames), from, parts, u);
         }
         k += 1;
     }
@@ -34,8 +34,8 @@ fn one(row: Row, level: u64, k: usize, f: usize, from: From, parts: Parts, t: Ti
 {
     let mut line = io::large_buffer();
     let mut notes = [0u8; 64];
-    let n = sizes::frame_bytes(row, f);
-    let at = sizes::plus(from.first, sizes::frame_bytes(row, 64 * k));
+    let n = lengths::frame_bytes(row, f);
+    let at = lengths::plus(from.first, lengths::frame_bytes(row, 64 * k));
     let part = timed::part_of(parts, 64 * k);
     read_on(
         row,
@@ -96,7 +96,7 @@ fn add(row: Row, notes: &[u8], part: usize, t: Timed) -> Timed
 
 // So many digits where none is stuffed and no negative place carries, less the stuffed, plus the negative.
 fn carried(none: usize, stuffed: usize, negative: usize) -> usize {
-    sizes::minus(sizes::plus(none, negative), stuffed)
+    lengths::minus(lengths::plus(none, negative), stuffed)
 }
 
 fn put(part: usize, four: [usize; 4], t: Timed) -> Timed
@@ -104,10 +104,10 @@ fn put(part: usize, four: [usize; 4], t: Timed) -> Timed
 {
     let mut digits = t.digits;
     let i = 4 * part;
-    digits[i] = sizes::plus(digits[i], four[0]);
-    digits[i + 1] = sizes::plus(digits[i + 1], four[1]);
-    digits[i + 2] = sizes::plus(digits[i + 2], four[2]);
-    digits[i + 3] = sizes::plus(digits[i + 3], four[3]);
+    digits[i] = lengths::plus(digits[i], four[0]);
+    digits[i + 1] = lengths::plus(digits[i + 1], four[1]);
+    digits[i + 2] = lengths::plus(digits[i + 2], four[2]);
+    digits[i + 3] = lengths::plus(digits[i + 3], four[3]);
     let mut u = t;
     u.digits = digits;
     u
@@ -115,9 +115,9 @@ fn put(part: usize, four: [usize; 4], t: Timed) -> Timed
 
 fn four_sums(a: [usize; 4], b: [usize; 4]) -> [usize; 4] {
     [
-        sizes::plus(a[0], b[0]),
-        sizes::plus(a[1], b[1]),
-        sizes::plus(a[2], b[2]),
-        sizes::plus(a[3], b[3]),
+        lengths::plus(a[0], b[0]),
+        lengths::plus(a[1], b[1]),
+        lengths::plus(a[2], b[2]),
+        lengths::plus(a[3], b[3]),
     ]
 }

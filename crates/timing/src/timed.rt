@@ -2,11 +2,11 @@
 // end belongs to the last.
 use crate::runs;
 use passages::passage;
-use recordings::sizes;
+use recordings::lengths;
 use table::Row;
 ghost use Prim.Native.Nat.{_<_, _≤_};
 ghost use Rattle.levels.specs.Table.{Shared};
-ghost use Rattle.recordings.specs.Sizes.{longest};
+ghost use Rattle.recordings.specs.Lengths.{longest};
 
 pub const LEAST: usize = 512;
 
@@ -49,7 +49,7 @@ pub fn parts_of(frames: usize) -> Parts
     Parts {
         frames,
         each,
-        count: sizes::least(frames / each, MOST),
+        count: lengths::least(frames / each, MOST),
     }
 }
 
@@ -60,18 +60,18 @@ pub fn part_of(parts: Parts, frame: usize) -> usize
     if parts.each == 0 {
         return 0;
     }
-    sizes::least(
+    lengths::least(
         frame / parts.each,
-        sizes::least(sizes::minus(parts.count, 1), 63),
+        lengths::least(lengths::minus(parts.count, 1), 63),
     )
 }
 
 // How many frames part i has.
 pub fn frames_of(parts: Parts, i: usize) -> usize {
-    if sizes::plus(i, 1) < parts.count {
+    if lengths::plus(i, 1) < parts.count {
         return parts.each;
     }
-    sizes::minus(parts.frames, first_of(parts, i))
+    lengths::minus(parts.frames, first_of(parts, i))
 }
 
 // The first frame of part i.
@@ -81,8 +81,8 @@ pub fn first_of(parts: Parts, i: usize) -> usize {
 
 // The product of two numbers, the first no larger than the longest file and the second than 4096.
 pub fn times(a: usize, b: usize) -> usize {
-    let x = sizes::least(a, sizes::MOST);
-    let y = sizes::least(b, 4096);
+    let x = lengths::least(a, lengths::MOST);
+    let y = lengths::least(b, 4096);
     x * y
 }
 

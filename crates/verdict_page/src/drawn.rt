@@ -7,7 +7,7 @@ use holding::held;
 use holding::held::Held;
 use holding::tracks::Track;
 use levels::order;
-use recordings::sizes;
+use recordings::lengths;
 use table::Row;
 use wording::numbers;
 ghost use Prim.Native.Nat.{_<_, _≤_};
@@ -61,9 +61,9 @@ fn bar(p: Page, class: &[u8], x: usize, y: usize) -> Page {
     let s = r.put(b"\" x=\"");
     let t = s.number(x);
     let u = t.put(b"\" y=\"");
-    let v = u.number(sizes::plus(y, 20));
+    let v = u.number(lengths::plus(y, 20));
     let w = v.put(b"\" height=\"40\" width=\"");
-    let z = w.number(sizes::minus(7200, x));
+    let z = w.number(lengths::minus(7200, x));
     z.put(b"\"/>")
 }
 
@@ -121,7 +121,7 @@ fn one_cell(p: Page, kind: u8, i: usize, count: usize) -> Page
     let s = r.put(b"\" x=\"");
     let t = s.number(x);
     let u = t.put(b"\" y=\"570\" width=\"");
-    let v = u.number(sizes::minus(across(i + 1, count), x));
+    let v = u.number(lengths::minus(across(i + 1, count), x));
     v.put(b"\" height=\"240\"/>")
 }
 
@@ -132,7 +132,7 @@ pub fn across(i: usize, count: usize) -> usize
     if count == 0 {
         return LEFT;
     }
-    sizes::plus(LEFT, i * WIDTH / count)
+    lengths::plus(LEFT, i * WIDTH / count)
 }
 
 // The first frame and the last, below a drawing.
@@ -143,7 +143,7 @@ pub fn ends(p: Page, frames: usize, y: usize) -> Page {
     }
     let r = label_open(q, b"end", 7200, y);
     let s = r.put(b"frame ");
-    let t = numbers::grouped(s, sizes::minus(frames, 1));
+    let t = numbers::grouped(s, lengths::minus(frames, 1));
     t.put(b"</text>")
 }
 

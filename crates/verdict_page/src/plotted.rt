@@ -2,7 +2,7 @@
 use crate::drawn;
 use console::page::Page;
 use evidence::rates::Off;
-use recordings::sizes;
+use recordings::lengths;
 use table::Row;
 use timing::rates;
 use timing::timed;
@@ -74,23 +74,23 @@ fn height(tenths: usize, most: usize) -> usize {
     if most == 0 {
         return 0;
     }
-    sizes::least(sizes::least(tenths, 10000000) * HALF / most, HALF)
+    lengths::least(lengths::least(tenths, 10000000) * HALF / most, HALF)
 }
 
 fn at_height(off: Off, most: usize) -> usize {
     let up = height(off.tenths, most);
     if off.fast {
-        return sizes::minus(NOMINAL, up);
+        return lengths::minus(NOMINAL, up);
     }
-    sizes::plus(NOMINAL, up)
+    lengths::plus(NOMINAL, up)
 }
 
 fn band(p: Page, level: u64, most: usize) -> Page {
     let up = height(10 * rates::tolerance(level), most);
     let q = p.put(b"<rect class=\"band\" x=\"900\" width=\"6300\" y=\"");
-    let r = q.number(sizes::minus(NOMINAL, up));
+    let r = q.number(lengths::minus(NOMINAL, up));
     let s = r.put(b"\" height=\"");
-    let t = s.number(sizes::plus(up, up));
+    let t = s.number(lengths::plus(up, up));
     t.put(b"\"/><line class=\"axis\" x1=\"900\" x2=\"7200\" y1=\"600\" y2=\"600\"/>")
 }
 
@@ -102,7 +102,12 @@ fn scale(p: Page, level: u64, most: usize) -> Page {
     let t = numbers::tenths(s, most);
     let u = t.put(b" ppm</text>");
     let up = height(10 * rates::tolerance(level), most);
-    let v = drawn::label_open(u, b"end", 7180, sizes::minus(sizes::minus(NOMINAL, up), 25));
+    let v = drawn::label_open(
+        u,
+        b"end",
+        7180,
+        lengths::minus(lengths::minus(NOMINAL, up), 25),
+    );
     let w = v.put(b"tolerance ");
     let x = w.number(rates::tolerance(level));
     x.put(b" ppm</text>")

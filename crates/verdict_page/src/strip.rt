@@ -2,13 +2,13 @@
 use console::files;
 use levels::order;
 use passages::passage;
-use recordings::sizes;
+use recordings::lengths;
 use table::Row;
 use timing::timed::From;
 ghost use Prim.Native.Nat.{_*_, _<_, _≤_};
 ghost use lib.ListN.{length};
 ghost use Rattle.levels.specs.Table.{Shared};
-ghost use Rattle.recordings.specs.Sizes.{longest};
+ghost use Rattle.recordings.specs.Lengths.{longest};
 
 pub const MOST: usize = 240;
 
@@ -28,7 +28,7 @@ pub fn all(row: Row, level: u64, from: From, frames: usize) -> Strip
     let ok = filled(row, level, from, frames, each, &mut cells);
     Strip {
         each,
-        count: cell_of(sizes::plus(frames, sizes::minus(each, 1)), each),
+        count: cell_of(lengths::plus(frames, lengths::minus(each, 1)), each),
         ok,
         cells,
     }
@@ -41,7 +41,7 @@ pub fn cell_of(frame: usize, each: usize) -> usize
     if each == 0 {
         return 0;
     }
-    sizes::least(frame / each, MOST)
+    lengths::least(frame / each, MOST)
 }
 
 fn filled(
@@ -61,7 +61,7 @@ fn filled(
             row,
             level,
             k,
-            sizes::frames_in(k, frames),
+            lengths::frames_in(k, frames),
             from,
             each,
             cells,
@@ -87,8 +87,8 @@ fn one(
 {
     let mut line = io::large_buffer();
     let mut notes = [0u8; 64];
-    let n = sizes::frame_bytes(row, f);
-    let at = sizes::plus(from.first, sizes::frame_bytes(row, 64 * k));
+    let n = lengths::frame_bytes(row, f);
+    let at = lengths::plus(from.first, lengths::frame_bytes(row, 64 * k));
     read_on(
         level,
         from.fd,
@@ -120,7 +120,7 @@ fn read_on(
 fn mark_all(notes: &[u8], first: usize, each: usize, cells: &mut [u8; 960]) {
     let mut f: usize = 0;
     while f < notes.len() {
-        let cell = sizes::least(cell_of(sizes::plus(first, f), each), 239);
+        let cell = lengths::least(cell_of(lengths::plus(first, f), each), 239);
         mark(notes[f], cell, cells);
         f += 1;
     }

@@ -6,14 +6,14 @@ use console::say;
 use console::words;
 use rack::record;
 use rack::record::Record;
-use recordings::sizes;
+use recordings::lengths;
 use table::Level;
 use table::Row;
 ghost use mathlib.Core.Path.{_≡_};
 ghost use Prim.Native.Nat.{_<_, _≤_};
 ghost use lib.ListN.{length};
 ghost use Rattle.levels.specs.Table.{Shared};
-ghost use Rattle.recordings.specs.Sizes.{longest};
+ghost use Rattle.recordings.specs.Lengths.{longest};
 
 // The word of the first level, and of the last file that a call may have: two words to a line, and at most 64 lines.
 pub const FIRST: usize = 2;
@@ -46,7 +46,7 @@ pub fn run(last: usize)
             return;
         }
         if seen == ALIGNED {
-            aligned = sizes::plus(aligned, 1);
+            aligned = lengths::plus(aligned, 1);
         }
         k += 2;
     }
@@ -133,7 +133,7 @@ fn at_its_end(row: Row, level: u64, k: usize) -> u8
 
 fn say_row(k: usize, level: u64, t: Watched) {
     let kept = t.kept;
-    say::right(4, sizes::minus(k, FIRST) / 2);
+    say::right(4, lengths::minus(k, FIRST) / 2);
     say::right(7, level as usize);
     say_yes(record::is_aligned(kept.mode), b"      yes", b"       no");
     say_yes(kept.alarm != 0, b"    yes", b"     no");
@@ -141,7 +141,7 @@ fn say_row(k: usize, level: u64, t: Watched) {
     say::right(12, t.dissent);
     say::right(16, t.words);
     say::text(b"  ");
-    files::say_word(sizes::plus(k, 1));
+    files::say_word(lengths::plus(k, 1));
     say::text(b"\n");
 }
 
@@ -173,7 +173,7 @@ fn chunks(row: Row, level: u64, fd: i32, bytes: usize) -> Watched
     let mut at: usize = 0;
     while at < bytes {
         progress(at, bytes);
-        u = one_chunk(row, level, fd, at, sizes::least(bytes - at, 65536), u);
+        u = one_chunk(row, level, fd, at, lengths::least(bytes - at, 65536), u);
         at += 65536;
     }
     progress(bytes, bytes);
@@ -253,14 +253,14 @@ fn after(row: Row, level: u64, kept: Record, ready: bool, words: usize, t: Watch
     let mut dissent = t.dissent;
     if ready {
         let frame = kept.frame;
-        frames = sizes::plus(frames, 1);
-        dissent = sizes::plus(dissent, dissent_of(row, level, &frame));
+        frames = lengths::plus(frames, 1);
+        dissent = lengths::plus(dissent, dissent_of(row, level, &frame));
     }
     Watched {
         kept,
         frames,
         dissent,
-        words: sizes::plus(t.words, words),
+        words: lengths::plus(t.words, words),
         whole: t.whole,
     }
 }
@@ -276,7 +276,7 @@ fn dissent_of(row: Row, level: u64, frame: &[u8; 366]) -> usize
 fn dissent_in(row: Row, level: u64, frame: &[u8]) -> usize
     requires { ⌜ Shared row ⌝ }
 {
-    let n = sizes::least(row.bytes, frame.len());
+    let n = lengths::least(row.bytes, frame.len());
     let mut notes = [0u8; 64];
     read(level, &frame[..n], &mut notes[..1])
 }
@@ -284,5 +284,5 @@ fn dissent_in(row: Row, level: u64, frame: &[u8]) -> usize
 fn read(level: u64, line: &[u8], notes: &mut [u8]) -> usize {
     let got = reading::read_notes(level, line, notes);
     let d = got.dissent;
-    sizes::plus(sizes::plus(d[0], d[1]), sizes::plus(d[2], d[3]))
+    lengths::plus(lengths::plus(d[0], d[1]), lengths::plus(d[2], d[3]))
 }

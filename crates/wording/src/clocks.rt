@@ -2,7 +2,7 @@
 use crate::numbers;
 use console::page::Page;
 use console::words;
-use recordings::sizes;
+use recordings::lengths;
 use table::Row;
 use timing::rates;
 use timing::rates::Left;
@@ -30,7 +30,7 @@ pub fn clock(p: Page, row: Row, level: u64, parts: Parts, t: Timed, j: usize) ->
 fn ends(p: Page, row: Row, level: u64, parts: Parts, t: Timed, j: usize) -> Page
     requires { ⌜ j < 4 ⌝ }
 {
-    let last = sizes::least(sizes::minus(parts.count, 1), 63);
+    let last = lengths::least(lengths::minus(parts.count, 1), 63);
     let q = p.put(b", ");
     let r = numbers::ppm(q, rates::in_part(row, level, parts, t, j, 0));
     let s = r.put(b" in the first ");
@@ -65,7 +65,7 @@ fn span(p: Page, parts: Parts, i: usize) -> Page {
     let r = q.put(b" to ");
     let s = numbers::grouped(
         r,
-        sizes::minus(sizes::plus(first, timed::frames_of(parts, i)), 1),
+        lengths::minus(lengths::plus(first, timed::frames_of(parts, i)), 1),
     );
     s.put(b".")
 }

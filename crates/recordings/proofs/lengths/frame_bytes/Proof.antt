@@ -2,8 +2,8 @@
 use mathlib.Core.Path.{refl}
 use native.Mathlib.Omega.{arith}
 use Rattle.recordings.proofs.Products.{frame-at-most}
-use Rattle.recordings.proofs.sizes.frame_bytes.Statement.{statement}
-use Rattle.recordings.proofs.sizes.frame_bytes.Tie as tie
+use Rattle.recordings.proofs.lengths.frame_bytes.Statement.{statement}
+use Rattle.recordings.proofs.lengths.frame_bytes.Tie as tie
 
 mul-result : tie.Need-mul-result
 mul-result c = omega (arith, frame-at-most (c .before .args .row) (c .before .pre .0) (c .before .args .frames))

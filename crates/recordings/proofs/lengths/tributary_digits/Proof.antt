@@ -2,8 +2,8 @@
 use mathlib.Core.Path.{refl}
 use native.Mathlib.Omega.{arith}
 use Rattle.recordings.proofs.Products.{digits-at-most}
-use Rattle.recordings.proofs.sizes.tributary_digits.Statement.{statement}
-use Rattle.recordings.proofs.sizes.tributary_digits.Tie as tie
+use Rattle.recordings.proofs.lengths.tributary_digits.Statement.{statement}
+use Rattle.recordings.proofs.lengths.tributary_digits.Tie as tie
 
 mul-result : tie.Need-mul-result
 mul-result c = omega (arith, digits-at-most (c .before .args .row) (c .before .pre .0) (c .before .args .frames))

@@ -2,8 +2,8 @@
 use mathlib.Core.Path.{refl}
 use native.Mathlib.Omega.{arith}
 use Rattle.recordings.proofs.Products.{at-most}
-use Rattle.recordings.proofs.sizes.quarter_start.Statement.{statement}
-use Rattle.recordings.proofs.sizes.quarter_start.Tie as tie
+use Rattle.recordings.proofs.lengths.quarter_start.Statement.{statement}
+use Rattle.recordings.proofs.lengths.quarter_start.Tie as tie
 
 mul-result : tie.Need-mul-result
 mul-result c = omega (arith, at-most 4 (c .args .quarter) (c .args .j) (c .pre .1))

@@ -1,4 +1,4 @@
--- The sizes and places of a recording: `..Met` is the whole statement of a function of src/sizes.rt. Beside what the answer is, each says how
+-- The lengths and places of a recording: `..Met` is the whole statement of a function of src/lengths.rt. Beside what the answer is, each says how
 -- large it may be, by which a caller sees that its own sums and places are small.
 use mathlib.Core.Path.{_≡_}
 use Prim.Native.Nat.{ℕ, _+_, _-_, _*_, _/_, _%_, _≤_, min}

@@ -1,10 +1,10 @@
-// The sizes and places of a recording that goes through the calls in runs of 64 frames: of its lines, buffers and quarters. Files may be up
+// The lengths and places of a recording that goes through the calls in runs of 64 frames: of its lines, buffers and quarters. Files may be up
 // to 2 to the 40 bytes long, so that no product here is too large for a number.
 use table::Row;
 ghost use Prim.Native.Nat.{_≤_};
 ghost use Rattle.levels.specs.Table.{Shared};
-ghost use Rattle.recordings.specs.Sizes.{longest, LeastMet, FramesInMet, FrameBytesMet, TributaryDigitsMet};
-ghost use Rattle.recordings.specs.Sizes.{QuarterBytesMet, QuarterStartMet, BytesWantedMet, PlusMet, MinusMet};
+ghost use Rattle.recordings.specs.Lengths.{longest, LeastMet, FramesInMet, FrameBytesMet, TributaryDigitsMet};
+ghost use Rattle.recordings.specs.Lengths.{QuarterBytesMet, QuarterStartMet, BytesWantedMet, PlusMet, MinusMet};
 
 // The longest file, in bytes.
 pub const MOST: usize = 1099511627776;

@@ -1,20 +1,20 @@
--- The statements of src/sizes.rt leave no second answer (`..-once`), and what each function ensures is its statement (`..-met`).
+-- The statements of src/lengths.rt leave no second answer (`..-once`), and what each function ensures is its statement (`..-met`).
 use contract.Lifetimes.{Lfts}
 use denote.Triple.Clauses.{AtExit}
 use borrow.Fn.World.{ArgsD, ResD}
 use mathlib.Core.Path.{_≡_, sym, _∙_}
 use Prim.Native.Nat.{ℕ}
 use Rattle.table.specs.declared.Row.{Row}
-use Rattle.recordings.specs.Sizes.{LeastMet, FramesInMet, FrameBytesMet, TributaryDigitsMet, QuarterBytesMet, QuarterStartMet, BytesWantedMet, PlusMet, MinusMet}
-use Rattle.recordings.proofs.sizes.least
-use Rattle.recordings.proofs.sizes.frames_in
-use Rattle.recordings.proofs.sizes.frame_bytes
-use Rattle.recordings.proofs.sizes.tributary_digits
-use Rattle.recordings.proofs.sizes.quarter_bytes
-use Rattle.recordings.proofs.sizes.quarter_start
-use Rattle.recordings.proofs.sizes.bytes_wanted
-use Rattle.recordings.proofs.sizes.plus
-use Rattle.recordings.proofs.sizes.minus
+use Rattle.recordings.specs.Lengths.{LeastMet, FramesInMet, FrameBytesMet, TributaryDigitsMet, QuarterBytesMet, QuarterStartMet, BytesWantedMet, PlusMet, MinusMet}
+use Rattle.recordings.proofs.lengths.least
+use Rattle.recordings.proofs.lengths.frames_in
+use Rattle.recordings.proofs.lengths.frame_bytes
+use Rattle.recordings.proofs.lengths.tributary_digits
+use Rattle.recordings.proofs.lengths.quarter_bytes
+use Rattle.recordings.proofs.lengths.quarter_start
+use Rattle.recordings.proofs.lengths.bytes_wanted
+use Rattle.recordings.proofs.lengths.plus
+use Rattle.recordings.proofs.lengths.minus
 
 pub least-once : (m n r s : ℕ) → LeastMet m n r → LeastMet m n s → r ≡ s
 least-once m n r s x y = x .0 ∙ sym (y .0)
