@@ -1,9 +1,6 @@
 // The verdict on a recording as one page for people who were not there: the answer in a sentence, a table, each tributary in words, its rate over the
 // recording and its decisions drawn. The page has no script and loads nothing.
-mod drawn;
 pub mod page;
-mod plotted;
-pub mod strip;
 mod style;
 mod summary;
 mod tables;

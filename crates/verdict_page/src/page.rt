@@ -1,7 +1,4 @@
 // The page from its head to its end.
-use crate::drawn;
-use crate::plotted;
-use crate::strip::Strip;
 use crate::style;
 use crate::summary;
 use crate::tables;
@@ -11,6 +8,9 @@ use holding::held::Held;
 use table::Row;
 use timing::timed::Parts;
 use timing::timed::Timed;
+use verdict_drawings::drawn;
+use verdict_drawings::plotted;
+use verdict_drawings::strip::Strip;
 use wording::clocks;
 use wording::numbers;
 use wording::verdicts;

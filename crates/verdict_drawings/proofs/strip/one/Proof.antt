@@ -2,8 +2,8 @@
 use lib.ListN.{length-take}
 use native.Mathlib.Omega.{arith}
 use borrow.Author.Needs.{needs}
-use Rattle.verdict_page.proofs.strip.one.Statement.{statement}
-use Rattle.verdict_page.proofs.strip.one.Tie as tie
+use Rattle.verdict_drawings.proofs.strip.one.Statement.{statement}
+use Rattle.verdict_drawings.proofs.strip.one.Tie as tie
 
 -- src/strip.rt:96:9
 slice-aggregate-read-on : tie.Need-slice-aggregate-read-on

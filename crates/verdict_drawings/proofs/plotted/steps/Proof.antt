@@ -1,8 +1,8 @@
 -- The part stays inside the parts.
 use Prim.Native.Nat.{_≤_, _-_}
 use borrow.Author.Needs.{needs}
-use Rattle.verdict_page.proofs.plotted.outside.Statement.{statement}
-use Rattle.verdict_page.proofs.plotted.outside.Tie as tie
+use Rattle.verdict_drawings.proofs.plotted.steps.Statement.{statement}
+use Rattle.verdict_drawings.proofs.plotted.steps.Tie as tie
 
 abbrev Inv-loop : tie.InvT-loop
 Inv-loop row level parts t j most q₀ i₀ q i = i ≤ 64
@@ -10,8 +10,8 @@ Inv-loop row level parts t j most q₀ i₀ q i = i ≤ 64
 abbrev μ-loop : tie.MeasureT-loop
 μ-loop row level parts t j most q₀ i₀ q i = 64 - i
 
-pub outside-spec : {M : Type 1} → statement M
-outside-spec =
+pub steps-spec : {M : Type 1} → statement M
+steps-spec =
     tie.close
     (tie.spec Inv-loop μ-loop (λ c. search needs) (λ c κs. search needs) (λ c κs. search needs) (λ c. search needs) (λ c. search needs)
     (λ c. search needs) (λ c. search needs))

@@ -1,8 +1,8 @@
 -- The cell stays inside the cells.
 use Prim.Native.Nat.{_≤_, _-_}
 use borrow.Author.Needs.{needs}
-use Rattle.verdict_page.proofs.drawn.cells.Statement.{statement}
-use Rattle.verdict_page.proofs.drawn.cells.Tie as tie
+use Rattle.verdict_drawings.proofs.drawn.cells.Statement.{statement}
+use Rattle.verdict_drawings.proofs.drawn.cells.Tie as tie
 
 abbrev Inv-loop : tie.InvT-loop
 Inv-loop s j q₀ i₀ q i = i ≤ 240

@@ -1,8 +1,8 @@
 -- The run stays inside the runs.
 use Prim.Native.Nat.{_≤_, _-_, _+_, _/_}
 use borrow.Author.Needs.{needs}
-use Rattle.verdict_page.proofs.strip.filled.Statement.{statement}
-use Rattle.verdict_page.proofs.strip.filled.Tie as tie
+use Rattle.verdict_drawings.proofs.strip.filled.Statement.{statement}
+use Rattle.verdict_drawings.proofs.strip.filled.Tie as tie
 
 abbrev Inv-loop : tie.InvT-loop
 Inv-loop row level from frames each cells₀ ok₀ k₀ cells ok k = k ≤ (frames + 63) / 64

@@ -1,8 +1,8 @@
 -- The part stays inside the parts.
 use Prim.Native.Nat.{_≤_, _-_}
 use borrow.Author.Needs.{needs}
-use Rattle.verdict_page.proofs.plotted.largest.Statement.{statement}
-use Rattle.verdict_page.proofs.plotted.largest.Tie as tie
+use Rattle.verdict_drawings.proofs.plotted.largest.Statement.{statement}
+use Rattle.verdict_drawings.proofs.plotted.largest.Tie as tie
 
 abbrev Inv-loop : tie.InvT-loop
 Inv-loop row level parts t j most₀ i₀ most i = i ≤ 64

@@ -2,8 +2,8 @@
 use Prim.Native.Nat.{_≤_, _-_}
 use lib.ListN.{length}
 use borrow.Author.Needs.{needs}
-use Rattle.verdict_page.proofs.strip.mark_all.Statement.{statement}
-use Rattle.verdict_page.proofs.strip.mark_all.Tie as tie
+use Rattle.verdict_drawings.proofs.strip.mark_all.Statement.{statement}
+use Rattle.verdict_drawings.proofs.strip.mark_all.Tie as tie
 
 abbrev Inv-loop : tie.InvT-loop
 Inv-loop notes first each cells₀ f₀ cells f = f ≤ length notes
