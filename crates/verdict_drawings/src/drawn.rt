@@ -61,7 +61,7 @@ fn bar(p: Page, class: &[u8], x: usize, y: usize) -> Page {
     let s = r.put(b"\" x=\"");
     let t = s.number(x);
     let u = t.put(b"\" y=\"");
-    let v = u.number(lengths::plus(y, 20));
+    let v = u.number(lengths::plus(y, 32));
     let w = v.put(b"\" height=\"40\" width=\"");
     let z = w.number(lengths::minus(7200, x));
     z.put(b"\"/>")
