@@ -16,14 +16,14 @@ use Rattle.table.specs.declared.Row.{Row}
 use Rattle.levels.specs.declared.order.Action.{Action}
 use Rattle.levels.specs.Table.{Shared}
 use Rattle.levels.specs.Sizes.{Fits}
-use Rattle.levels.specs.Order.{before, actions, placesOf}
+use Rattle.levels.specs.Order.{before, actsBy, actions, placesOf}
 use Rattle.levels.proofs.Columns.{wide, columns, frame-start}
 use Rattle.levels.proofs.Sentences.{set-start}
 use Rattle.levels.proofs.Counts.{count-of, count-room}
 use Rattle.levels.proofs.Inverse.{before-rises}
 use Rattle.levels.proofs.Judged.{room-small, short-line}
 use Rattle.unweave.specs.declared.Writers.{Writers}
-use Rattle.unweave.specs.Lanes.{actsBy, setDigits}
+use Rattle.unweave.specs.Lanes.{setDigits}
 use Rattle.unweave.specs.Quarters.{partOf, writerOf, Roomy, Grown}
 use Rattle.unweave.proofs.Four.{part-lent, part-size}
 use Rattle.extraction.specs.Quarters.{takenTo}

@@ -19,12 +19,6 @@ ghost use Rattle.judge.specs.Wrong.{wrongIn};
 ghost use Rattle.judge.specs.Verdict.{four, wrongBy, ownWrong, beforeWrong, afterWrong, changesOf};
 ghost use Rattle.judge.specs.Counting.{Known, Accepting, Voted};
 
-fn wide(vote: u8) -> u64
-    ensures { λ r. ⌜ r ≡ vote ⌝ }
-{
-    vote as u64
-}
-
 // The wrong digits of tributary j (from 0): n digits of its quarter of a reading, against its quarter of the buffer or the pattern.
 fn wrong_of(pattern: usize, buffer: &[u8], read: &[u8], n: usize, j: usize) -> usize
     requires { ⌜
@@ -158,7 +152,7 @@ fn after_by(
     let mut moved = votes;
     moved[frames + 1] = unknown;
     let end = frames + 2;
-    let first = wide(moved[1]);
+    let first = moved[1] as u64;
     wrong_by(row, first, line, &moved[2..end], pattern, buffer, room)
 }
 

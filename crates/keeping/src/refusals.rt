@@ -86,12 +86,6 @@ fn no_frames(k: usize, room: &[u8]) {
     say::text(b" bytes.\n");
 }
 
-fn wide(b: u8) -> usize
-    ensures { λ r. ⌜ r < 256 ⌝ }
-{
-    b as usize
-}
-
 // The byte at index i, and 0 past the end.
 fn byte_at(room: &[u8], i: usize) -> usize
     ensures { λ r. ⌜ r < 256 ⌝ }
@@ -99,7 +93,7 @@ fn byte_at(room: &[u8], i: usize) -> usize
     if room.len() <= i {
         return 0;
     }
-    wide(room[i])
+    room[i] as usize
 }
 
 // The length that the line's field gives.

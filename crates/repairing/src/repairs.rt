@@ -72,11 +72,7 @@ fn last_vote(row: Row, level: u64, line: &[u8]) -> u64 {
     let start = lengths::minus(end, row.bytes);
     let mut note = [0u8; 1];
     reading::read_notes(level, &line[start..end], &mut note);
-    wide(note[0])
-}
-
-fn wide(b: u8) -> u64 {
-    b as u64
+    note[0] as u64
 }
 
 // The file that failed first, where this one did if not ok.

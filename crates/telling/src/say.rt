@@ -25,15 +25,11 @@ pub fn four(label: &[u8], counts: [usize; 4]) {
     labelled(b" ", counts[3]);
 }
 
-fn wide(b: u8) -> u64 {
-    b as u64
-}
-
 // All bytes of a slice, as numbers, and the end of the line.
 pub fn bytes(s: &[u8]) {
     let mut i: usize = 0;
     while i < s.len() {
-        counted(b" ", wide(s[i]));
+        counted(b" ", s[i] as u64);
         i += 1;
     }
     text(b"\n");
