@@ -19,6 +19,13 @@ ghost use Rattle.judge.specs.Wrong.{wrongIn};
 ghost use Rattle.judge.specs.Verdict.{four, wrongBy, ownWrong, beforeWrong, afterWrong, changesOf};
 ghost use Rattle.judge.specs.Counting.{Known, Accepting, Voted};
 
+// A vote as a reading is handed the one before its first.
+fn as_earlier(vote: u8) -> u64
+    ensures { λ r. ⌜ r ≡ vote ⌝ }
+{
+    vote as u64
+}
+
 // The wrong digits of tributary j (from 0): n digits of its quarter of a reading, against its quarter of the buffer or the pattern.
 fn wrong_of(pattern: usize, buffer: &[u8], read: &[u8], n: usize, j: usize) -> usize
     requires { ⌜
@@ -152,7 +159,7 @@ fn after_by(
     let mut moved = votes;
     moved[frames + 1] = unknown;
     let end = frames + 2;
-    let first = moved[1] as u64;
+    let first = as_earlier(moved[1]);
     wrong_by(row, first, line, &moved[2..end], pattern, buffer, room)
 }
 
