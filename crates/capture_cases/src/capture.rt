@@ -396,7 +396,7 @@ fn begin(file: &mut [u8], head: &[u8; 11]) {
     let mut i: usize = 0;
     while i < 11 {
         inputs::put_byte(file, i, head[i]);
-        say::counted(b" ", head[i] as u64);
+        say::byte(b" ", head[i]);
         i += 1;
     }
 }

@@ -5,7 +5,6 @@ use Prim.Native.Nat.{ℕ, _+_, _-_, _≤_, _<_}
 use native.Mathlib.Omega.{arith}
 use lib.ListN.{length, take}
 use lib.Seq.{length-take-le, getD-take}
-use Rattle.digits.specs.Sums.{sumTo}
 use Rattle.digits.proofs.Sums.{sum-same}
 use Rattle.judge.specs.Wrong.{stageOf, dueAt, wrongAt, wrongIn}
 use Rattle.judge.specs.Counting.{wrongTo}

@@ -1,11 +1,10 @@
 -- What the inner functions count, between the loops and the call's definitions (specs/Wrong.antt, specs/Verdict.antt).
 use mathlib.Core.Path.{_≡_}
-use mathlib.Core.Bool.{cond, false}
+use mathlib.Core.Bool.{false}
 use mathlib.Core.Logic.{_≢_}
 use mathlib.Core.List.{List}
 use Prim.Native.Nat.{ℕ, _+_, _*_, _/_, _≤_}
-use lib.Dec.{eqb}
-use lib.ListN.{length, getD, take, drop}
+use lib.ListN.{length, take, drop}
 use Rattle.digits.specs.Sums.{sumTo}
 use Rattle.table.specs.declared.Row.{Row}
 use Rattle.levels.specs.Table.{Shared}

@@ -26,7 +26,6 @@ use Rattle.levels.proofs.Runs.{past-head}
 use Rattle.levels.proofs.Walk.{Walking, walk-start, walk-next, Column, column}
 use Rattle.multiplex.specs.Line.{digitBy, lineDigit}
 use Rattle.multiplex.proofs.Running.{set-in-line, before-room}
-use Rattle.swap.specs.Swap.{swappedDigit}
 use Rattle.swap.specs.Filling.{among, Ran, Ahead, Put, Filled}
 use Rattle.swap.proofs.Eights.{among-none, by-columns}
 

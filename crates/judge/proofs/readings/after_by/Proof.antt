@@ -1,6 +1,5 @@
 -- `after_by`: the votes moved towards the beginning, the unknown one behind them.
 use mathlib.Core.Path.{_≡_, _∙_, ap}
-use mathlib.Core.List.{List}
 use Prim.Native.Nat.{ℕ, _+_, _-_, _/_}
 use native.Mathlib.Omega.{arith}
 use lib.ListN.{length, set, take, drop}

@@ -1,5 +1,5 @@
 -- `count_wrong` counts up to 32 digits a turn. The invariant: the count so far, which is no more than the digits behind it.
-use mathlib.Core.Path.{_≡_, refl, sym, _∙_}
+use mathlib.Core.Path.{_≡_, refl}
 use Prim.Native.Nat.{_≤_, _-_}
 use native.Mathlib.Omega.{arith}
 use Rattle.digits.specs.Digits.{digitsOf}

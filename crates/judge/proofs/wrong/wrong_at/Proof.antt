@@ -1,5 +1,4 @@
 -- `wrong_at`: against what was sent, or against the recurrence.
-use borrow.Author.Needs.{needs}
 use native.Mathlib.Omega.{arith}
 use Rattle.judge.proofs.wrong.wrong_at.Statement.{statement}
 use Rattle.judge.proofs.wrong.wrong_at.Tie as tie

@@ -1,6 +1,6 @@
 -- `count_vote`: a control digit is counted at its tributary and its value, any other digit nowhere.
 use borrow.Author.Needs.{needs}
-use mathlib.Core.Path.{_≡_, refl, sym, _∙_, ap}
+use mathlib.Core.Path.{sym, _∙_, ap}
 use native.Mathlib.Omega.{arith}
 use Prim.Native.Nat.{_+_, _*_, _%_}
 use lib.ListN.{getD, length-set}
