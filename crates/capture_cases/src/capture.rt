@@ -396,7 +396,7 @@ fn begin(file: &mut [u8], head: &[u8; 11]) {
     let mut i: usize = 0;
     while i < 11 {
         inputs::put_byte(file, i, head[i]);
-        say::counted(b" ", wide(head[i]));
+        say::byte(b" ", head[i]);
         i += 1;
     }
 }
@@ -414,10 +414,6 @@ fn read_on(file: &[u8]) {
     say::counted(b" ", answer[5]);
     say::counted(b" byte ", answer[6]);
     say::text(b"\n");
-}
-
-fn wide(b: u8) -> u64 {
-    b as u64
 }
 
 // Request 1's example: the capture of case 1's line without a label, all its bytes.

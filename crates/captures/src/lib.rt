@@ -182,7 +182,7 @@ pub fn write(level: u64, line: &[u8], label: &[u8], labelled: bool, file: &mut [
 }
 
 // The byte at index i, and 0 past the end.
-fn byte_at(file: &[u8], i: usize) -> u8
+pub fn byte_at(file: &[u8], i: usize) -> u8
     ensures { λ r. ⌜ r ≡ getD (now (file .entry)) i 0 ⌝ }
 {
     if file.len() <= i {
@@ -192,7 +192,7 @@ fn byte_at(file: &[u8], i: usize) -> u8
 }
 
 // The length that a field which begins at byte p gives, high byte first.
-fn length_at(file: &[u8], p: usize) -> usize
+pub fn length_at(file: &[u8], p: usize) -> usize
     requires { ⌜ p < 2 ^ 63 ⌝ }
     ensures { λ r. ⌜ (r ≡ lengthAt (now (file .entry)) p) × (r < 65536) ⌝ }
 {

@@ -1,6 +1,10 @@
 // The commands of a program, told from one text: a line for each in the order of their numbers, which begins with the command's name and goes on with the words
 // that it takes. So a name stands once, beside what is said where the words are wrong.
+pub mod level;
+
 use console::help;
+use console::words;
+use recordings::lengths;
 ghost use Prim.Native.Nat.{_≤_};
 ghost use lib.ListN.{length};
 
@@ -57,6 +61,15 @@ pub fn named(lines: &[u8], word: &[u8]) -> Command
         from: 0,
         to: 0,
     }
+}
+
+// Whether the last two words, NOTES and TRIBUTARIES, name one file, and then that is said.
+pub fn one_file(last: usize) -> bool {
+    let one = words::one_name(lengths::minus(last, 1), last);
+    if one {
+        help::wrong_call(b"NOTES and TRIBUTARIES are two files: give two names.");
+    }
+    one
 }
 
 // The answer to a word that names no command.

@@ -3,8 +3,8 @@
 -- guards the call: it leaves no second answer, it is what the call ensures, and the call asks nothing of its caller.
 use mathlib.Core.Path.{_≡_, refl, sym, _∙_, ap}
 use mathlib.Core.Bool.{Bool, cond, true, false, not}
-use mathlib.Core.List.{List, []}
-use Prim.Native.Nat.{ℕ, _+_, _*_, _≤_, _<_}
+use mathlib.Core.List.{List}
+use Prim.Native.Nat.{ℕ, _+_, _*_, _<_}
 use native.Mathlib.Omega.{arith}
 use native.Mathlib.Decide.{ℕ-discrete}
 use lib.Dec.{eqb}
@@ -22,7 +22,6 @@ use Rattle.table.specs.declared.Row.{Row}
 use Rattle.table.specs.declared.Level.{Level}
 use Rattle.table.specs.declared.Level.the-variants.{Of, NoSuchLevel}
 use Rattle.table.specs.Table.{levelOf}
-use Rattle.levels.specs.Table.{Shared}
 use Rattle.levels.specs.Sizes.{onLevel}
 use Rattle.levels.proofs.Choice.{cond-by}
 use Rattle.levels.proofs.Rows.{shared-row}
@@ -32,7 +31,7 @@ use Rattle.tally.specs.Tally.{differAt}
 use Rattle.tally.proofs.Sums.{sums-agree, all-agree, adds-up}
 use Rattle.compare.specs.declared.Fault.{Fault}
 use Rattle.compare.specs.declared.Compared.{Compared}
-use Rattle.compare.specs.Compare.{faultIn, faultOf, refusedBy, placesTo, listOf, countedOn, listedOn, lineOf, comparedOf, listedOf, CompareMet}
+use Rattle.compare.specs.Compare.{faultIn, faultOf, refusedBy, placesTo, countedOn, listedOn, lineOf, comparedOf, listedOf, CompareMet}
 use Rattle.compare.specs.Counting.{Counted}
 use Rattle.compare.specs.Promises.{Lists}
 use Rattle.compare.proofs.Listing.{places-length}

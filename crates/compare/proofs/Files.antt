@@ -1,6 +1,6 @@
 -- Two files and their lines: where a reading's line stands in its file, what two readings that fit each other have in common, and what the walk over
 -- their lines answers.
-use mathlib.Core.Path.{_≡_, refl, sym, _∙_, ap}
+use mathlib.Core.Path.{_≡_, refl, sym, _∙_}
 use mathlib.Core.Bool.{Bool, cond, true, false}
 use mathlib.Core.List.{List}
 use Prim.Native.Nat.{ℕ, _+_, _-_, _*_, _≤_, _<_, min}
@@ -20,10 +20,9 @@ use Rattle.levels.specs.Sizes.{onLevel, badLine}
 use Rattle.levels.proofs.Choice.{cond-by}
 use Rattle.captures.specs.declared.Part.{Part}
 use Rattle.captures.specs.declared.Reading.{Reading}
-use Rattle.captures.specs.Captures.{endAt, partAt, fieldAt, unread, unlabelled, labelledAt, afterLine, fieldsOf, readOf, bytesIn}
+use Rattle.captures.specs.Captures.{endAt, partAt, fieldAt, unread, afterLine, fieldsOf, readOf, bytesIn}
 use Rattle.captures.proofs.Walking.{stands}
 use Rattle.tally.specs.Tally.{differAt}
-use Rattle.compare.specs.declared.Compared.{Compared}
 use Rattle.compare.specs.Compare.{faultIn, faultOf, placesTo, countedOn, listedOn}
 use Rattle.compare.specs.Counting.{Lines, Counted}
 use Rattle.compare.proofs.Listing.{places-length}

@@ -1,6 +1,6 @@
 -- The places at which a test is true, in order: place i of the list is true and has i true ones before it, and a true place with i before it is place
 -- i of the list. So the list rises, and holds every true place.
-use mathlib.Core.Path.{_≡_, refl, sym, _∙_, ap}
+use mathlib.Core.Path.{_≡_, refl, _∙_}
 use mathlib.Core.Bool.{Bool, cond, true, false}
 use mathlib.Core.List.{List, [], _∷_, _++_, append-nil}
 use Prim.Native.Nat.{ℕ, zero, suc, _+_, _≤_, _<_}

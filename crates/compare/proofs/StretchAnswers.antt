@@ -1,7 +1,7 @@
 -- The stretch of two lines has one end, and that is what `stretch_end` ensures.
 use mathlib.Core.Path.{_≡_}
 use mathlib.Core.List.{List}
-use Prim.Native.Nat.{ℕ, _≤_, _<_}
+use Prim.Native.Nat.{ℕ}
 use native.Mathlib.Omega.{arith}
 use native.Mathlib.Decide.{decLt}
 use contract.Lifetimes.{Lfts}

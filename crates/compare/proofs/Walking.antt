@@ -3,7 +3,7 @@
 use mathlib.Core.Path.{_≡_, refl, sym, _∙_, ap}
 use mathlib.Core.Bool.{Bool, cond, true, false, not}
 use mathlib.Core.List.{List}
-use Prim.Native.Nat.{ℕ, zero, suc, _+_, _-_, _*_, _/_, _%_, _^_, _≤_, _<_}
+use Prim.Native.Nat.{ℕ, zero, suc, _+_, _-_, _*_, _/_, _≤_, _<_}
 use native.Mathlib.Omega.{arith}
 use native.Mathlib.Decide.{ℕ-discrete}
 use lib.Dec.{eqb}
@@ -14,7 +14,7 @@ use Rattle.digits.specs.Sums.{sumTo}
 use Rattle.digits.proofs.Laws.{digit-at}
 use Rattle.digits.proofs.Sums.{sum-most}
 use Rattle.table.specs.declared.Row.{Row}
-use Rattle.tally.specs.Tally.{allOf, numberAt, oneMore, differAt}
+use Rattle.tally.specs.Tally.{numberAt, oneMore, differAt}
 use Rattle.tally.proofs.Sums.{all-more, sums-same, sums-more, sums-none, sum-small}
 use Rattle.compare.specs.Compare.{placesTo, listOf}
 use Rattle.compare.specs.Counting.{Counted, putPlace, EqualBytes}

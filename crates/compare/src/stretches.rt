@@ -1,6 +1,6 @@
 // Two lines in stretches: places one after another at which they differ, or do not. A picture draws a stretch at once.
 ghost use mathlib.Core.Path.{_≡_};
-ghost use Prim.Native.Nat.{_<_, _^_};
+ghost use Prim.Native.Nat.{_<_};
 ghost use Rattle.tally.specs.Tally.{differAt};
 ghost use Rattle.compare.specs.Stretches.{StretchMet};
 

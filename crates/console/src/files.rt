@@ -5,7 +5,6 @@ use crate::say;
 use recordings::carry;
 use recordings::lengths;
 ghost use Prim.Native.Nat.{_≤_};
-ghost use lib.ListN.{length};
 ghost use Rattle.io.specs.Counts.{Counts};
 ghost use Rattle.recordings.specs.Lengths.{longest};
 

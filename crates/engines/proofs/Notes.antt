@@ -1,17 +1,16 @@
 -- Reading the notes: both engines count the same wrong digits and the same votes, and so make the same notes. The plain engine counts over
 -- all places of a frame, by what stands there; the quick one looks at the places of the word and of the control groups.
-use mathlib.Core.Path.{_≡_, refl, sym, _∙_, ap, ap₂}
+use mathlib.Core.Path.{_≡_, refl, sym, _∙_, ap}
 use mathlib.Core.Logic.{_≢_}
-use mathlib.Core.Bool.{Bool, cond, true, false}
-use mathlib.Core.List.{List, [], _∷_, _++_}
-use Prim.Native.Nat.{ℕ, zero, suc, _+_, _*_, _-_, _/_, _%_, _≤_, _<_, min}
+use mathlib.Core.Bool.{Bool, cond}
+use mathlib.Core.List.{List, [], _∷_}
+use Prim.Native.Nat.{ℕ, zero, suc, _+_, _*_, _-_, _%_, _≤_, _<_}
 use native.Mathlib.Omega.{arith}
 use native.Mathlib.Nat.{add-zero, zero-add, suc-mul, one-mul, mul-le-mul-right}
 use native.Mathlib.Decide.{decLt, ℕ-discrete}
 use lib.Dec.{eqb, ltb}
 use lib.Arith.{digits-mod}
 use lib.ListN.{length, getD}
-use lib.Seq.{ext-getD}
 use borrow.Author.Tests.{lt-ltb, le-ltb, eq-eqb, ne-eqb}
 use Rattle.digits.specs.Digits.{digitsOf, tab}
 use Rattle.digits.specs.Sums.{sumTo}
@@ -19,16 +18,15 @@ use Rattle.digits.proofs.Laws.{digits-binary, tab-of}
 use Rattle.table.specs.declared.Row.{Row}
 use Rattle.levels.specs.Table.{Shared}
 use Rattle.levels.specs.Places.{notedOf}
-use Rattle.levels.specs.Vote.{votesFor, voteBy, voteOf, groupOf}
+use Rattle.levels.specs.Vote.{votesFor, voteBy, groupOf}
 use Rattle.levels.specs.Word.{wordDigit, wrongDigits}
 use Rattle.levels.proofs.Choice.{cond-by}
 use Rattle.levels.proofs.Groups.{group-binary}
-use Rattle.levels.proofs.Majority.{votes-append, votes-all, votes-le}
+use Rattle.levels.proofs.Majority.{votes-append, votes-all}
 use Rattle.levels.proofs.Sentences.{set-start}
 use Rattle.reading.specs.Notes as quick
 use Rattle.plain.specs.declared.frame.Place.{Place}
-use Rattle.plain.specs.declared.frame.Place.the-variants.{Alignment, Service, Fixed, Control, Negative, Positive, Tributary}
-use Rattle.plain.specs.Engine.{digitAt, sumOver, placeIn, received, wrongBy, wrongTo, votesBy, votesTo, majority, dissentIn, alarmIn, nationalIn, noteIn, notesTo, alignmentTo, dissentTo, dissentsTo}
+use Rattle.plain.specs.Engine.{sumOver, placeIn, received, wrongBy, wrongTo, votesBy, votesTo, majority, dissentIn, alarmIn, nationalIn, noteIn, notesTo, alignmentTo, dissentTo, dissentsTo}
 use Rattle.plain.specs.Walk.{isControl}
 use Rattle.plain.proofs.Votes.{control-votes}
 use Rattle.plain.proofs.Noting.{notes-length, note-at}

@@ -1,17 +1,16 @@
 -- The order of a tributary's digits. The plain engine goes over all places of a line and picks a tributary's own; the quick one goes over
 -- the tributary's columns, one place of four. What one gathers from the places of a column is what the other gathers from the column: for
 -- a count and for a list alike.
-use mathlib.Core.Path.{_≡_, refl, sym, _∙_, ap, ap₂}
+use mathlib.Core.Path.{_≡_, refl, sym, _∙_, ap}
 use mathlib.Core.Logic.{_≢_}
 use mathlib.Core.Bool.{Bool, cond, true, false, not, _&&_, _||_}
-use mathlib.Core.List.{List, [], _∷_, _++_, append-nil}
+use mathlib.Core.List.{List, _∷_}
 use Prim.Native.Nat.{ℕ, zero, suc, _+_, _*_, _/_, _%_, _≤_, _<_}
 use native.Mathlib.Omega.{arith}
-use native.Mathlib.Numerals.{add-one}
 use native.Mathlib.Nat.{add-zero, mod-lt, div-add-mod'}
 use native.Mathlib.Decide.{decLt, ℕ-discrete}
 use lib.Dec.{eqb, ltb}
-use lib.ListN.{length, getD}
+use lib.ListN.{length}
 use borrow.Author.Tests.{lt-ltb, le-ltb, eq-eqb, ne-eqb}
 use Rattle.table.specs.declared.Row.{Row}
 use Rattle.levels.specs.declared.places.Kind.{Kind}
@@ -21,7 +20,7 @@ use Rattle.levels.specs.Order.{decisions, hasNegative, byOwn, byBoth, actionOf,
 use Rattle.levels.proofs.Columns.{frame-start}
 use Rattle.levels.proofs.Counts.{count-of}
 use Rattle.plain.specs.declared.frame.Place.{Place}
-use Rattle.plain.specs.Engine.{digitAt, sumOver, negativePlaces, stuffedIn, negativeIn, carriesBy, carriesAt, carriesFor, countTo, countsTo, takenTo}
+use Rattle.plain.specs.Engine.{sumOver, negativePlaces, stuffedIn, negativeIn, carriesBy, carriesAt, carriesFor, countTo, countsTo}
 use Rattle.plain.proofs.Counting.{count-more}
 use Rattle.engines.proofs.Places.{by-place}
 

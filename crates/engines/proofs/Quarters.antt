@@ -4,7 +4,7 @@ use mathlib.Core.Bool.{Bool, cond, true, false}
 use mathlib.Core.List.{List, [], _∷_, _++_, map, append-nil}
 use Prim.Native.Nat.{ℕ, zero, suc, _+_, _*_, _-_, _/_, _%_, _≤_, _<_}
 use native.Mathlib.Omega.{arith}
-use native.Mathlib.Nat.{add-zero, zero-add, mul-left-comm, zero-mul, one-mul}
+use native.Mathlib.Nat.{zero-add, mul-left-comm, zero-mul}
 use native.Mathlib.Decide.{decLt}
 use lib.Arith.{digits-div, digits-mod}
 use lib.ListN.{length, getD, replicate, length-append, length-replicate, List·getD-append, List·getD-eq-default}
@@ -17,7 +17,7 @@ use Rattle.levels.specs.Order.{actions, carries, placesOf}
 use Rattle.levels.proofs.Counts.{count-of, count-room}
 use Rattle.extraction.specs.Quarters as quick
 use Rattle.extraction.proofs.Taking as taking
-use Rattle.plain.specs.Engine.{digitAt, packed, carriesFor, takenTo, handedAt}
+use Rattle.plain.specs.Engine.{digitAt, packed, takenTo, handedAt}
 use Rattle.plain.proofs.Packing.{packed-is}
 use Rattle.plain.proofs.Handing as plain
 use Rattle.engines.proofs.Bytes.{digit-same}

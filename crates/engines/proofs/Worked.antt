@@ -1,7 +1,7 @@
 -- What the plain engine's definitions say of single frames at levels 12 and 14, by computation: numbers that a reader of request 10 can hold
 -- them against, and by the theorem the quick engine's too.
 use mathlib.Core.Path.{_≡_, refl}
-use mathlib.Core.List.{List, [], _∷_}
+use mathlib.Core.List.{[], _∷_}
 use Rattle.table.specs.Table.{row2, row4, row12, row14}
 use Rattle.plain.specs.declared.frame.Place.the-variants.{Alignment, Fixed, Control, Negative, Positive, Tributary}
 use Rattle.plain.specs.Engine.{sumOver, placeIn, carriesAt, carriesFor, countTo, digitAt, quarterDigit, sentAt, firstWith, nationalOnes, verdict, verdictOn, sendingOn}

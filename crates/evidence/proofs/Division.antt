@@ -1,8 +1,8 @@
 -- A division that goes on digit by digit: what stands for ten times as much, and what the quotient is in the end.
-use mathlib.Core.Path.{_≡_, refl, sym, _∙_, ap}
+use mathlib.Core.Path.{_≡_, sym, _∙_, ap}
 use Prim.Native.Nat.{ℕ, _+_, _*_, _/_, _%_, _≤_, _<_}
 use native.Mathlib.Omega.{arith}
-use native.Mathlib.Nat.{div-add-mod', mul-add-div-right, div-eq-of-lt, div-lt-iff-lt-mul, mul-le-mul, add-mul, mul-add, mul-assoc, div-le-of-le-mul, mul-one, div-zero}
+use native.Mathlib.Nat.{div-add-mod', mul-add-div-right, div-eq-of-lt, div-lt-iff-lt-mul, mul-le-mul, add-mul, mul-assoc, div-le-of-le-mul, mul-one, div-zero}
 use borrow.Author.Tests.{lt-ltb, le-ltb}
 use Rattle.evidence.specs.Rates.{apart, tenthsOff}
 

@@ -1,8 +1,8 @@
 -- How far a tributary's rate is off, from the digits that it carried while the line ran at its nominal rate. `..Met` is the whole statement of a
 -- function of src/rates.rt.
 use mathlib.Core.Path.{_≡_}
-use mathlib.Core.Bool.{Bool, cond}
-use Prim.Native.Nat.{ℕ, _+_, _-_, _*_, _/_, _≤_, _<_}
+use mathlib.Core.Bool.{cond}
+use Prim.Native.Nat.{ℕ, _+_, _-_, _*_, _/_}
 use lib.Dec.{ltb, leb}
 use Rattle.evidence.specs.declared.rates.Ratio.{Ratio}
 use Rattle.evidence.specs.declared.rates.Off.{Off}

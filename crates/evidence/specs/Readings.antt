@@ -1,7 +1,7 @@
 -- A reading of one tributary in a run of frames, digit by digit: which digits are wrong, what was found of them, in which frame a digit stands, and
 -- how often a decision changes. `..Met` is the whole statement of a function of src/readings.rt.
 use mathlib.Core.Path.{_≡_}
-use mathlib.Core.Bool.{Bool, cond, _&&_}
+use mathlib.Core.Bool.{cond}
 use mathlib.Core.List.{List}
 use Prim.Native.Nat.{ℕ, zero, suc, _+_, _-_, _*_, _/_, _%_, _^_, _≤_, _<_}
 use lib.Dec.{eqb, ltb}
@@ -10,7 +10,7 @@ use Rattle.digits.specs.Digits.{digitsOf}
 use Rattle.digits.specs.Sums.{sumTo}
 use Rattle.table.specs.declared.Row.{Row}
 use Rattle.levels.specs.declared.order.Action.{Action}
-use Rattle.levels.specs.Order.{actions, isStuffed, bothCarry, stuffed}
+use Rattle.levels.specs.Order.{actions, isStuffed, bothCarry}
 use Rattle.evidence.specs.declared.readings.Found.{Found}
 use Rattle.evidence.specs.declared.readings.Followed.{Followed}
 use Rattle.evidence.specs.declared.readings.Place.{Place}

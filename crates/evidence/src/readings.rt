@@ -6,12 +6,11 @@ use levels::order::Action;
 use table::Row;
 ghost use mathlib.Core.Path.{_≡_};
 ghost use Prim.Native.Nat.{_+_, _-_, _*_, _/_, _%_, _^_, _<_, _≤_};
-ghost use lib.ListN.{length, getD};
-ghost use Rattle.digits.specs.Digits.{digitsOf};
+ghost use lib.ListN.{length};
 ghost use Rattle.levels.specs.Order.{actions};
 ghost use mathlib.Core.Bool.{cond};
 ghost use lib.Dec.{ltb};
-ghost use Rattle.evidence.specs.Readings.{differ, nextFound, sentWrong, SentMet, expected, nextWindow, patternWrong, PatternMet, windowTo};
+ghost use Rattle.evidence.specs.Readings.{differ, nextFound, SentMet, expected, nextWindow, PatternMet, windowTo};
 ghost use Rattle.evidence.specs.Readings.{carriedBy, PlaceMet, changed, ChangesMet};
 
 // How many digits are right before the first wrong one, which is its number from 0, and how many are wrong in all.

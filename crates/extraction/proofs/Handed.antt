@@ -1,6 +1,6 @@
 -- What a quarter holds, digit by digit: digit i of a tributary is the line's digit at the place that carries digit i, and the further
 -- digits are zero. The quarters of what an extraction leaves are those of its tributaries.
-use mathlib.Core.Path.{_≡_, refl, sym, _∙_, ap}
+use mathlib.Core.Path.{_≡_, refl, sym, _∙_}
 use mathlib.Core.List.{List, [], _∷_, _++_, map, append-assoc, append-nil}
 use Prim.Native.Nat.{ℕ, zero, suc, _+_, _*_, _-_, _≤_, _<_}
 use native.Mathlib.Omega.{arith}

@@ -1,29 +1,28 @@
 -- The tributaries under way (`Handing`): that it holds at the start, that a set more keeps it, and what it says at the end of a frame and of the line.
-use mathlib.Core.Path.{_≡_, refl, sym, _∙_, ap}
+use mathlib.Core.Path.{_≡_, sym, _∙_, ap}
 use mathlib.Core.List.{List, _∷_, _++_}
-use Prim.Native.Nat.{ℕ, _+_, _*_, _/_, _≤_, _<_}
+use Prim.Native.Nat.{ℕ, _+_, _*_, _≤_, _<_}
 use native.Mathlib.Omega.{arith}
 use native.Mathlib.Nat.{add-mul, mul-le-mul-right, mul-left-comm}
-use lib.ListN.{length, getD, take, drop, length-append}
+use lib.ListN.{length, getD, take, length-append}
 use lib.Seq.{length-take-le}
 use Rattle.digits.specs.Digits.{digitsOf, written}
 use Rattle.digits.proofs.Laws.{digits-length}
 use Rattle.digits.proofs.Written.{written-length}
-use Rattle.digits.proofs.Lists.{of-four}
 use Rattle.words.specs.declared.Writer.{Writer}
-use Rattle.words.specs.Words.{Ready, outFrom}
+use Rattle.words.specs.Words.{outFrom}
 use Rattle.table.specs.declared.Row.{Row}
 use Rattle.levels.specs.declared.order.Action.{Action}
 use Rattle.levels.specs.Table.{Shared}
 use Rattle.levels.specs.Sizes.{Fits}
-use Rattle.levels.specs.Order.{before, actions, placesOf}
+use Rattle.levels.specs.Order.{before, actsBy, actions, placesOf}
 use Rattle.levels.proofs.Columns.{wide, columns, frame-start}
 use Rattle.levels.proofs.Sentences.{set-start}
 use Rattle.levels.proofs.Counts.{count-of, count-room}
 use Rattle.levels.proofs.Inverse.{before-rises}
 use Rattle.levels.proofs.Judged.{room-small, short-line}
 use Rattle.unweave.specs.declared.Writers.{Writers}
-use Rattle.unweave.specs.Lanes.{actsBy, setDigits}
+use Rattle.unweave.specs.Lanes.{setDigits}
 use Rattle.unweave.specs.Quarters.{partOf, writerOf, Roomy, Grown}
 use Rattle.unweave.proofs.Four.{part-lent, part-size}
 use Rattle.extraction.specs.Quarters.{takenTo}

@@ -19,13 +19,13 @@ use Rattle.levels.specs.declared.places.Sign.the-variants.{Negative, Positive}
 use Rattle.levels.specs.declared.places.Kind.the-variants.{Justification}
 use Rattle.levels.specs.Table.{Shared}
 use Rattle.levels.specs.Places.{headEnd}
-use Rattle.levels.specs.Order.{hasNegative, actions, carried, carries, before, placesOf}
+use Rattle.levels.specs.Order.{hasNegative, actsBy, actions, carried, carries, before, placesOf}
 use Rattle.levels.proofs.Choice.{cond-same}
 use Rattle.levels.proofs.Columns.{wide, columns, headOf, headColumns, lastHead, head-last, head-fours, line-carries, frame-start}
 use Rattle.levels.proofs.Counts.{head-fits}
 use Rattle.levels.proofs.Sentences.{set-start}
 use Rattle.levels.proofs.Inverse.{places-length}
-use Rattle.unweave.specs.Lanes.{picked, runDigits, actsBy, columnDigits, setDigits}
+use Rattle.unweave.specs.Lanes.{picked, runDigits, columnDigits, setDigits}
 use Rattle.unweave.proofs.Lanes.{picked-cat}
 use Rattle.unweave.proofs.Runs.{last-head}
 use Rattle.extraction.specs.Quarters.{takenTo}

@@ -18,18 +18,12 @@ pub fn missed_of(mode: Mode) -> u8
     }
 }
 
-fn wide(d: u8) -> usize
-    ensures { λ r. ⌜ r ≡ d ⌝ }
-{
-    d as usize
-}
-
 // The last seven digits with one digit more.
 pub fn window_of(window: usize, d: u8) -> usize
     requires { ⌜ (window < 2 ^ 7) × (d < 2) ⌝ }
     ensures { λ r. ⌜ r ≡ windowOf window d ⌝ }
 {
-    (window * 2 + wide(d)) & 127
+    (window * 2 + d as usize) & 127
 }
 
 // How many digits came, one more, stopping at seven.

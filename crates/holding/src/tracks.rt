@@ -1,5 +1,4 @@
 // What a reading of one tributary has come to so far, and which of two readings is the better one.
-use evidence::readings;
 use evidence::readings::Found;
 use evidence::readings::Place;
 use recordings::lengths;

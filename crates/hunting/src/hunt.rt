@@ -7,7 +7,6 @@ use finder::Fed;
 use finder::Mode;
 use finder::State;
 use recordings::lengths;
-ghost use mathlib.Core.Path.{_≡_};
 ghost use Prim.Native.Nat.{_≤_};
 ghost use lib.ListN.{length};
 ghost use Rattle.recordings.specs.Lengths.{longest};

@@ -1,7 +1,7 @@
 -- What a call that is not refused may rely on.
-use mathlib.Core.Path.{_≡_, refl, sym, _∙_}
+use mathlib.Core.Path.{_≡_, refl}
 use mathlib.Core.Logic.{_≢_}
-use mathlib.Core.Bool.{Bool, cond, true, false, not, _&&_, _||_, true≢false}
+use mathlib.Core.Bool.{true, false, not, _&&_, true≢false}
 use mathlib.Core.List.{List}
 use Prim.Native.Nat.{ℕ, _*_, _/_, _%_, _≤_}
 use native.Mathlib.Omega.{arith}
@@ -13,10 +13,9 @@ use borrow.Author.Tests.{eq-eqb, ne-eqb, ltb-false}
 use Rattle.digits.proofs.Tests.{or-neither, and-asked}
 use Rattle.table.specs.declared.Row.{Row}
 use Rattle.levels.specs.Table.{Shared}
-use Rattle.levels.specs.Sizes.{framesOf, badLine, badBuffer, Framed, Accepted}
+use Rattle.levels.specs.Sizes.{framesOf, badLine, badBuffer, Framed}
 use Rattle.levels.specs.Judging.{badEarlier}
 use Rattle.levels.proofs.Judged.{line-frames, unrefused}
-use Rattle.judge.specs.Wrong.{stageOf}
 use Rattle.judge.specs.Verdict.{badPattern, numberOf}
 use Rattle.judge.specs.Counting.{Known, Judgeable, Accepting}
 

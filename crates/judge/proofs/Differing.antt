@@ -2,11 +2,13 @@
 -- back the ones are the places at which the digit is what the inverted pattern has.
 use mathlib.Core.Path.{_≡_, refl}
 use mathlib.Core.Bool.{cond}
+use mathlib.Core.Logic.{_≢_}
 use mathlib.Core.List.{List}
 use Prim.Native.Nat.{ℕ, zero, suc, _+_, _*_, _-_, _≤_, _<_}
 use native.Mathlib.Omega.{arith}
-use native.Mathlib.Nat.{add-zero, add-suc}
+use native.Mathlib.Nat.{zero-add, add-zero, add-suc}
 use lib.Dec.{eqb}
+use borrow.Author.Tests.{ne-eqb}
 use lib.ListN.{getD}
 use lib.Pow.{high, low}
 use lib.Bits.{bitXor, xor-step, xor-lt, differ}
@@ -16,8 +18,8 @@ use Rattle.digits.specs.Sums.{sumTo}
 use Rattle.digits.proofs.Laws.{by-digit}
 use Rattle.digits.proofs.Windows.{window-lt}
 use Rattle.levels.proofs.Windows.{differs, xor-more}
-use Rattle.judge.specs.Wrong.{stageOf, madeFrom}
-use Rattle.judge.specs.Counting.{otherTo, unmadeTo}
+use Rattle.judge.specs.Wrong.{stageOf, dueAt}
+use Rattle.judge.specs.Counting.{wrongTo}
 
 no-ones : ones (bitXor 0 0) ≡ 0
 unfolding ones onesIn
@@ -27,11 +29,11 @@ module _ (ds es : List ℕ) (bd : Binary ds) (be : Binary es) (p : ℕ) where
   pub others-few : (n : ℕ) → ones (bitXor (windowAt ds p n) (windowAt es p n)) ≤ n
   others-few n = ones-le n (bitXor (windowAt ds p n) (windowAt es p n)) (xor-lt n (windowAt ds p n) (windowAt es p n) (window-lt ds bd p n) (window-lt es be p n))
 
-  pub others-more : (n : ℕ) → otherTo ds es (p + n) ≡ otherTo ds es p + ones (bitXor (windowAt ds p n) (windowAt es p n))
-  unfolding windowAt otherTo sumTo
+  pub others-more : (n : ℕ) → wrongTo 0 es ds (p + n) ≡ wrongTo 0 es ds p + ones (bitXor (windowAt ds p n) (windowAt es p n))
+  unfolding windowAt wrongTo dueAt sumTo
   others-more zero = rw (add-zero p) (omega (arith, no-ones))
   others-more (suc n) =
-      rw (add-suc p n, xor-more (windowAt ds p n) (windowAt es p n) (getD ds (p + n) 0) (getD es (p + n) 0) (bd (p + n)) (be (p + n)))
+      rw (add-suc p n, zero-add (p + n), xor-more (windowAt ds p n) (windowAt es p n) (getD ds (p + n) 0) (getD es (p + n) 0) (bd (p + n)) (be (p + n)))
       (omega (arith, others-more n))
 
 -- a digit is the two digits' sum without carry, or it is that sum inverted
@@ -59,7 +61,7 @@ three-more w u v c a b hc ha hb =
     let sum : bitXor (u * 2 + a) (v * 2 + b) ≡ bitXor u v * 2 + differ a b = rw (xor-step (u * 2 + a) (v * 2 + b), high u 1 ha, high v 1 hb, low u 1 ha, low v 1 hb) in
     rw (sum, xor-more w (bitXor u v) c (differ a b) hc (differs a b ha hb .1)) (omega (arith, one-way c a b hc ha hb))
 
-module _ (pattern : ℕ) (ds : List ℕ) (bd : Binary ds) (h : stageOf pattern ≤ pattern) (p : ℕ) where
+module _ (pattern : ℕ) (ds : List ℕ) (bd : Binary ds) (some : pattern ≢ 0) (h : stageOf pattern ≤ pattern) (sent : List ℕ) (p : ℕ) where
   -- the digits and the two stages
   abbrev sums : ℕ → ℕ
   sums n = bitXor (windowAt ds (pattern + p) n) (bitXor (windowAt ds (pattern + p - stageOf pattern) n) (windowAt ds p n))
@@ -69,8 +71,8 @@ module _ (pattern : ℕ) (ds : List ℕ) (bd : Binary ds) (h : stageOf pattern �
       let stages = xor-lt n (windowAt ds (pattern + p - stageOf pattern) n) (windowAt ds p n) (window-lt ds bd (pattern + p - stageOf pattern) n) (window-lt ds bd p n) in
       ones-le n (sums n) (xor-lt n (windowAt ds (pattern + p) n) _ (window-lt ds bd (pattern + p) n) stages)
 
-  pub unmade-more : (n : ℕ) → unmadeTo pattern ds (p + n) + ones (sums n) ≡ unmadeTo pattern ds p + n
-  unfolding windowAt unmadeTo sumTo
+  pub unmade-more : (n : ℕ) → wrongTo pattern sent ds (p + n) + ones (sums n) ≡ wrongTo pattern sent ds p + n
+  unfolding windowAt wrongTo dueAt sumTo
   unmade-more zero = rw (add-zero p) (omega (arith, no-ones))
   unmade-more (suc n) =
       let one = three-more (windowAt ds (pattern + p) n) (windowAt ds (pattern + p - stageOf pattern) n) (windowAt ds p n) in
@@ -80,5 +82,5 @@ module _ (pattern : ℕ) (ds : List ℕ) (bd : Binary ds) (h : stageOf pattern �
       let c = getD ds (pattern + p + n) 0 in
       let a = getD ds (pattern + p - stageOf pattern + n) 0 in
       let b = getD ds (p + n) 0 in
-      rw (add-suc p n, here, stage, last)
-      (omega (arith, unmade-more n, one c a b (bd (pattern + p + n)) (bd (pattern + p - stageOf pattern + n)) (bd (p + n))))
+      rw (add-suc p n, ne-eqb pattern 0 some, here, stage, last)
+      (omega (arith, rw (ne-eqb pattern 0 some) at (unmade-more n), one c a b (bd (pattern + p + n)) (bd (pattern + p - stageOf pattern + n)) (bd (p + n))))

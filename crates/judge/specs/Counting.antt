@@ -1,26 +1,21 @@
 -- What the inner functions count, between the loops and the call's definitions (specs/Wrong.antt, specs/Verdict.antt).
 use mathlib.Core.Path.{_≡_}
-use mathlib.Core.Bool.{cond, false}
+use mathlib.Core.Bool.{false}
 use mathlib.Core.Logic.{_≢_}
 use mathlib.Core.List.{List}
 use Prim.Native.Nat.{ℕ, _+_, _*_, _/_, _≤_}
-use lib.Dec.{eqb}
-use lib.ListN.{length, getD, take, drop}
+use lib.ListN.{length, take, drop}
 use Rattle.digits.specs.Sums.{sumTo}
 use Rattle.table.specs.declared.Row.{Row}
 use Rattle.levels.specs.Table.{Shared}
 use Rattle.levels.specs.Sizes.{framesOf, Framed, Accepted}
 use Rattle.levels.specs.Judging.{badEarlier}
 use Rattle.judge.specs.Readings.{majorities}
-use Rattle.judge.specs.Wrong.{stageOf, madeFrom}
+use Rattle.judge.specs.Wrong.{stageOf, wrongAt}
 
--- in how many of their first n places two lists differ
-unfoldable pub otherTo : List ℕ → List ℕ → ℕ → ℕ
-otherTo ds es n = sumTo n (λ (i : ℕ). cond (eqb (getD ds i 0) (getD es i 0)) 0 1)
-
--- how many of the n digits after a pattern's first are not what the recurrence makes
-unfoldable pub unmadeTo : ℕ → List ℕ → ℕ → ℕ
-unmadeTo pattern ds n = sumTo n (λ (k : ℕ). cond (eqb (getD ds (pattern + k) 0) (madeFrom pattern ds (pattern + k))) 0 1)
+-- how many of the n digits behind a pattern's first are wrong; pattern 0 has no first digits
+unfoldable pub wrongTo : ℕ → List ℕ → List ℕ → ℕ → ℕ
+wrongTo pattern sent ds n = sumTo n (λ (k : ℕ). wrongAt pattern sent ds (pattern + k))
 
 -- a pattern that is not refused: the stage that it feeds back lies before its last one
 pub record Known (pattern : ℕ) : Type 0 where

@@ -19,7 +19,8 @@ ghost use Rattle.judge.specs.Wrong.{wrongIn};
 ghost use Rattle.judge.specs.Verdict.{four, wrongBy, ownWrong, beforeWrong, afterWrong, changesOf};
 ghost use Rattle.judge.specs.Counting.{Known, Accepting, Voted};
 
-fn wide(vote: u8) -> u64
+// A vote as a reading is handed the one before its first.
+fn as_earlier(vote: u8) -> u64
     ensures { λ r. ⌜ r ≡ vote ⌝ }
 {
     vote as u64
@@ -158,7 +159,7 @@ fn after_by(
     let mut moved = votes;
     moved[frames + 1] = unknown;
     let end = frames + 2;
-    let first = wide(moved[1]);
+    let first = as_earlier(moved[1]);
     wrong_by(row, first, line, &moved[2..end], pattern, buffer, room)
 }
 

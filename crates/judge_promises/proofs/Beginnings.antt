@@ -3,7 +3,7 @@
 use mathlib.Core.Path.{_≡_, refl, sym, _∙_, ap, subst}
 use mathlib.Core.Bool.{Bool, cond, true, false}
 use mathlib.Core.List.{List, map}
-use Prim.Native.Nat.{ℕ, zero, suc, _+_, _*_, _-_, _/_, _%_, _≤_, _<_}
+use Prim.Native.Nat.{ℕ, zero, suc, _+_, _*_, _-_, _/_, _≤_, _<_}
 use native.Mathlib.Omega.{arith}
 use native.Mathlib.Decide.{decLt, ℕ-discrete}
 use native.Mathlib.Nat.{zero-mul, suc-mul}
@@ -19,7 +19,7 @@ use Rattle.table.specs.declared.Level.{Level}
 use Rattle.table.specs.declared.Level.the-variants.{Of, NoSuchLevel}
 use Rattle.table.specs.Table.{row2, row3, row4, row12, row14, levelOf}
 use Rattle.levels.specs.Table.{Shared}
-use Rattle.levels.specs.Sizes.{onLevel, framesOf, quarterOf}
+use Rattle.levels.specs.Sizes.{quarterOf}
 use Rattle.levels.specs.declared.order.Action.{Action}
 use Rattle.levels.specs.Order.{actions, carries, before, placesOf}
 use Rattle.levels.proofs.Choice.{cond-by}
@@ -30,9 +30,8 @@ use Rattle.levels.proofs.Positions.{in-frame}
 use Rattle.extraction.specs.Quarters.{takenTo}
 use Rattle.promises.proofs.Accepted.{shared}
 use Rattle.judge.specs.Readings.{majorities, readBy}
-use Rattle.judge.specs.Wrong.{stageOf, madeFrom, dueAt, wrongAt, wrongIn}
-use Rattle.judge.specs.Verdict.{badPattern, numberOf}
-use Rattle.judge_promises.specs.Verdicts.{Question, verdict, JudgeAccepted, ReadsRight, Begins, OneBegins}
+use Rattle.judge.specs.Wrong.{stageOf, dueAt, wrongAt, wrongIn}
+use Rattle.judge_promises.specs.Verdicts.{Question, JudgeAccepted, ReadsRight, Begins, OneBegins}
 use Rattle.judge_promises.proofs.Fitting.{stage-least, judge-level, known-pattern, judged-places}
 
 -- a level's first set has room for more digits of a tributary than a pattern has stages

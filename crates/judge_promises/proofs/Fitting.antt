@@ -2,8 +2,8 @@
 use mathlib.Core.Path.{_≡_, refl, sym, _∙_, ap}
 use mathlib.Core.Logic.{_≢_}
 use mathlib.Core.Bool.{Bool, cond, true, false, true≢false, not, _||_}
-use mathlib.Core.List.{List, [], _∷_}
-use Prim.Native.Nat.{ℕ, zero, suc, _+_, _*_, _-_, _/_, _%_, _≤_, _<_, min}
+use mathlib.Core.List.{List}
+use Prim.Native.Nat.{ℕ, zero, _+_, _*_, _-_, _/_, _%_, _≤_, _<_, min}
 use native.Mathlib.Omega.{arith}
 use native.Mathlib.Nat.{mul-left-comm, div-add-mod'}
 use native.Mathlib.Decide.{ℕ-discrete}
@@ -19,16 +19,15 @@ use Rattle.digits.proofs.Sums.{sum-all}
 use Rattle.table.specs.declared.Row.{Row}
 use Rattle.table.specs.declared.Level.the-variants.{Of}
 use Rattle.table.specs.Table.{levelOf}
-use Rattle.levels.specs.Table.{Shared}
 use Rattle.levels.specs.Sizes.{framesOf, badLine, quarterOf}
 use Rattle.levels.proofs.Columns.{columns}
 use Rattle.levels.proofs.Judged.{unrefused, line-frames}
 use Rattle.promises.proofs.Accepted.{some-level, zero-refusal, shared}
 use Rattle.judge.specs.declared.Judged.{Judged}
-use Rattle.judge.specs.Readings.{majorities, readBy, noneStuffed, allStuffed}
-use Rattle.judge.specs.Wrong.{stageOf, madeFrom, dueAt, wrongAt, wrongIn}
+use Rattle.judge.specs.Readings.{majorities, readBy}
+use Rattle.judge.specs.Wrong.{stageOf, dueAt, wrongAt, wrongIn}
 use Rattle.judge.specs.Verdict.{ownWrong, beforeWrong, afterWrong, fitting, four, judgement, badPattern, numberOf, refusedWith, judgedOn}
-use Rattle.judge_promises.specs.Verdicts.{Index, right, late, early, actsOn, AsSent, Question, verdict, JudgeAccepted, wrongBy, worth, Fits}
+use Rattle.judge_promises.specs.Verdicts.{Index, right, late, early, actsOn, AsSent, Question, verdict, JudgeAccepted, Fits}
 use Rattle.judge_promises.proofs.Readings.{tried}
 
 -- ---- wrong digits

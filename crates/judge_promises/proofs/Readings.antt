@@ -1,6 +1,6 @@
 -- Readings by votes: what tributary j's digits are goes by its own bit of the votes that a frame looks at, and by nothing else of them.
 use mathlib.Core.Path.{_≡_, refl, sym, _∙_, ap}
-use mathlib.Core.Bool.{Bool, cond, true, false, false≢true}
+use mathlib.Core.Bool.{Bool, cond, true, false}
 use mathlib.Core.List.{List, [], _∷_, _++_}
 use Prim.Native.Nat.{ℕ, zero, suc, _+_, _*_, _≤_, _<_}
 use native.Mathlib.Omega.{arith}
@@ -10,11 +10,11 @@ use lib.Seq.{getD-take, getD-drop, getD-append-add}
 use Rattle.digits.proofs.Lists.{of-four}
 use Rattle.table.specs.declared.Row.{Row}
 use Rattle.levels.specs.Table.{Shared}
-use Rattle.levels.specs.Order.{stuffed, decisions, hasNegative, byOwn, actionOf, actions}
+use Rattle.levels.specs.Order.{stuffed, decisions, hasNegative, actionOf, actions}
 use Rattle.levels.proofs.Columns.{columns}
 use Rattle.extraction.specs.Quarters.{takenTo}
 use Rattle.promises.proofs.Order.{places-same}
-use Rattle.judge.specs.Readings.{noneStuffed, allStuffed, beforeVotes, afterVotes}
+use Rattle.judge.specs.Readings.{noneStuffed, allStuffed, beforeVotes}
 use Rattle.judge_promises.specs.Verdicts.{Index, right, late, early, actsOn}
 
 -- tributary j's bit of a list of votes

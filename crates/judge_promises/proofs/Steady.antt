@@ -2,25 +2,23 @@
 use mathlib.Core.Path.{_≡_, refl, sym, _∙_, ap}
 use mathlib.Core.Bool.{Bool, cond, true, false}
 use mathlib.Core.List.{List, [], _∷_, _++_}
-use Prim.Native.Nat.{ℕ, zero, suc, _+_, _*_, _-_, _/_, _%_, _^_, _≤_, _<_}
+use Prim.Native.Nat.{ℕ, zero, suc, _+_, _*_, _-_, _≤_, _<_}
 use native.Mathlib.Omega.{arith}
 use native.Mathlib.Decide.{decLt}
 use lib.Dec.{eqb}
-use lib.ListN.{length, getD, take, drop, List·getD-append}
+use lib.ListN.{length, getD, take, List·getD-append}
 use lib.Seq.{getD-take, getD-append-add}
 use borrow.Author.Tests.{eqb-true}
 use Rattle.digits.specs.Digits.{digitsOf}
-use Rattle.digits.specs.Sums.{sumTo}
 use Rattle.digits.proofs.Laws.{tab-length}
 use Rattle.digits.proofs.Sums.{sum-zero}
 use Rattle.table.specs.declared.Row.{Row}
 use Rattle.table.specs.declared.Level.{Level}
 use Rattle.table.specs.declared.Level.the-variants.{Of}
 use Rattle.table.specs.Table.{levelOf}
-use Rattle.levels.specs.Table.{Shared}
 use Rattle.levels.specs.Sizes.{onLevel, framesOf, quarterOf}
 use Rattle.levels.specs.Order.{stuffed, decisions, hasNegative}
-use Rattle.levels.proofs.Columns.{columns, frame-start}
+use Rattle.levels.proofs.Columns.{columns}
 use Rattle.reading.specs.Notes.{noteOf}
 use Rattle.promises.proofs.Accepted.{shared}
 use Rattle.judge.specs.Readings.{majorities, readBy, ownVotes, beforeVotes, afterVotes}

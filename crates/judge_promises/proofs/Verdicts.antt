@@ -2,24 +2,23 @@
 -- such multiplexer made the line of these digits.
 use mathlib.Core.Path.{_≡_, refl, sym, _∙_, ap, subst}
 use mathlib.Core.Logic.{_≢_}
-use mathlib.Core.Bool.{Bool, cond, true, false, _&&_, _||_}
+use mathlib.Core.Bool.{Bool, cond, true, false}
 use mathlib.Core.List.{List}
-use Prim.Native.Nat.{ℕ, _+_, _*_, _/_, _%_, _≤_, _<_}
+use Prim.Native.Nat.{ℕ, _*_, _/_, _%_, _<_}
 use native.Mathlib.Omega.{arith}
-use native.Mathlib.Nat.{zero-add, eq-of-mul-eq-mul-right, div-add-mod'}
+use native.Mathlib.Nat.{zero-add, div-add-mod'}
 use lib.ListN.{length, getD, take, drop}
 use borrow.Author.Tests.{le-ltb}
 use Rattle.digits.specs.Digits.{digitsOf, tab}
 use Rattle.digits.proofs.Laws.{digits-length, tab-length, tab-at, tab-of}
 use Rattle.table.specs.declared.Row.{Row}
 use Rattle.table.specs.declared.Level.{Level}
-use Rattle.table.specs.declared.Level.the-variants.{Of, NoSuchLevel}
+use Rattle.table.specs.declared.Level.the-variants.{Of}
 use Rattle.table.specs.Table.{levelOf}
 use Rattle.levels.specs.Table.{Shared}
-use Rattle.levels.specs.Sizes.{onLevel, framesOf, quarterOf, badLine, badBuffer, Accepted}
+use Rattle.levels.specs.Sizes.{onLevel, framesOf, quarterOf, Accepted}
 use Rattle.levels.specs.Places.{kindAt}
 use Rattle.levels.specs.Order.{stuffed, decisions, actions, countOf}
-use Rattle.levels.specs.Judging.{badEarlier}
 use Rattle.levels.proofs.Columns.{columns, frame-start}
 use Rattle.levels.proofs.Counts.{count-room}
 use Rattle.multiplex.specs.Line.{lineDigit}

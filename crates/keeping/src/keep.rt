@@ -5,8 +5,6 @@ use console::files;
 use levels::sizes::bad_line;
 use recordings::lengths;
 use table::Row;
-ghost use Prim.Native.Nat.{_≤_};
-ghost use lib.ListN.{length};
 ghost use Rattle.levels.specs.Table.{Shared};
 
 // The words of the call by number.

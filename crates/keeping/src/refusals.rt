@@ -69,49 +69,26 @@ fn frames(level: u64, row: Row) {
 fn no_level(k: usize, room: &[u8]) {
     start(1, k, LEVEL);
     say::text(b"level 2, 3, 4, 12 or 14; found ");
-    say::number(byte_at(room, LEVEL));
+    say::number(captures::byte_at(room, LEVEL) as usize);
     say::text(b".\n");
 }
 
 fn no_frames(k: usize, room: &[u8]) {
     start(2, k, LINE_FIELD);
-    let level = byte_at(room, LEVEL) as u64;
+    let level = captures::byte_at(room, LEVEL) as u64;
     let found = table::level_of(level);
     match found {
         Level::Of(row) => frames(level, row),
         Level::NoSuchLevel => {}
     }
     say::text(b"a line of ");
-    say::number(line_bytes(room));
+    say::number(captures::length_at(room, LINE_FIELD));
     say::text(b" bytes.\n");
-}
-
-fn wide(b: u8) -> usize
-    ensures { λ r. ⌜ r < 256 ⌝ }
-{
-    b as usize
-}
-
-// The byte at index i, and 0 past the end.
-fn byte_at(room: &[u8], i: usize) -> usize
-    ensures { λ r. ⌜ r < 256 ⌝ }
-{
-    if room.len() <= i {
-        return 0;
-    }
-    wide(room[i])
-}
-
-// The length that the line's field gives.
-fn line_bytes(room: &[u8]) -> usize
-    ensures { λ r. ⌜ r < 65536 ⌝ }
-{
-    256 * byte_at(room, LINE_FIELD + 1) + byte_at(room, LINE_FIELD + 2)
 }
 
 fn no_field(k: usize, byte: usize, bytes: usize, room: &[u8]) {
     start(9, k, byte);
-    expected(byte, LINE_FIELD + 3 + line_bytes(room));
+    expected(byte, LINE_FIELD + 3 + captures::length_at(room, LINE_FIELD));
     found(byte, bytes, room);
 }
 

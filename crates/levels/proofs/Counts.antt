@@ -1,15 +1,13 @@
 -- How many digits of a tributary a line carries. Within a set: the columns less the head's; over a frame: n, one less if it is stuffed, one
 -- more if its negative place carries; over F frames with s stuffed and e negative: F * n + e - s, stated with + as count + s = F * n + e.
-use mathlib.Core.Path.{_≡_, refl, sym, _∙_, ap}
-use mathlib.Core.Logic.{_≢_}
-use mathlib.Core.Bool.{Bool, cond, true, false}
+use mathlib.Core.Path.{_≡_, sym, _∙_, ap}
+use mathlib.Core.Bool.{cond}
 use Prim.Native.Nat.{ℕ, zero, suc, _+_, _*_, _/_, _-_, _≤_, _<_}
 use native.Mathlib.Omega.{arith}
-use native.Mathlib.Decide.{decLe, decLt, ℕ-discrete}
-use native.Mathlib.Numerals.{add-one}
-use native.Mathlib.Nat.{add-zero, add-suc, suc-mul, zero-mul, mul-left-comm}
+use native.Mathlib.Decide.{decLe}
+use native.Mathlib.Nat.{add-zero, suc-mul, zero-mul, mul-left-comm}
 use lib.Dec.{eqb, leb}
-use borrow.Author.Tests.{le-leb, lt-leb, eq-eqb, ne-eqb}
+use borrow.Author.Tests.{le-leb, lt-leb}
 use Rattle.digits.specs.Sums.{sumTo}
 use Rattle.table.specs.declared.Row.{Row}
 use Rattle.levels.specs.declared.order.Action.{Action}

@@ -1,8 +1,8 @@
 -- What a call may rely on where its lengths are accepted: the line is F whole frames, F at most 64; there are F notes; the
 -- buffer is four quarters, and each has room for F frames.
-use mathlib.Core.Path.{_≡_, refl, sym, _∙_}
+use mathlib.Core.Path.{_≡_, refl}
 use mathlib.Core.Bool.{Bool, cond, true, false, not, _||_, true≢false}
-use Prim.Native.Nat.{ℕ, _+_, _*_, _/_, _%_, _≤_, _<_}
+use Prim.Native.Nat.{ℕ, _*_, _/_, _%_, _≤_}
 use native.Mathlib.Omega.{arith}
 use native.Mathlib.Nat.{mul-le-mul, div-add-mod'}
 use lib.Dec.{eqb, ltb}

@@ -1,5 +1,5 @@
 -- The ways of a call that goes by notes: refused for a length, for the earlier vote, for a note, or accepted; and what it then answers and leaves.
-use mathlib.Core.Path.{_≡_, refl, sym, _∙_, ap}
+use mathlib.Core.Path.{_≡_, refl, sym, ap}
 use mathlib.Core.Logic.{_≢_}
 use mathlib.Core.Bool.{Bool, cond, true, false}
 use mathlib.Core.List.{List, [], _∷_}
@@ -12,11 +12,10 @@ use lib.ListN.{length, getD}
 use borrow.Author.Tests.{lt-ltb, le-ltb, eq-eqb, ne-eqb, lt-leb, leb-false, ltb-false}
 use Rattle.table.specs.declared.Row.{Row}
 use Rattle.levels.specs.declared.judging.Fault.{Fault}
-use Rattle.levels.specs.declared.judging.Counted.{Counted}
 use Rattle.levels.specs.Sizes.{sizeRefusal, Accepted}
 use Rattle.levels.specs.Places.{notedOf}
 use Rattle.levels.specs.Order.{countsOf}
-use Rattle.levels.specs.Judging.{firstWith, overfull, unset, fault, naming, noteFault, badEarlier, earlierFault, faultOf, sendFaultOf, refusedWith, counted, answerBy, leftBy}
+use Rattle.levels.specs.Judging.{firstWith, overfull, unset, fault, naming, noteFault, badEarlier, faultOf, sendFaultOf, refusedWith, answerBy, leftBy}
 use Rattle.levels.proofs.Judged.{accepted, no-size-refused}
 
 -- no note meets a test that none was found to meet

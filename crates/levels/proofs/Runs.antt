@@ -10,7 +10,7 @@ use borrow.Author.Tests.{eq-eqb, ne-eqb}
 use Rattle.table.specs.declared.Row.{Row}
 use Rattle.levels.specs.declared.places.Kind.the-variants.{Tributary}
 use Rattle.levels.specs.Table.{Shared}
-use Rattle.levels.specs.Places.{headEnd, kindOf, kindAt, posOf}
+use Rattle.levels.specs.Places.{headEnd, kindOf, kindAt}
 use Rattle.levels.specs.declared.order.Action.{Action}
 use Rattle.levels.specs.Order.{carries, before}
 use Rattle.levels.proofs.Choice.{cond-by}

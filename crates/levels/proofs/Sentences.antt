@@ -1,7 +1,7 @@
 -- The documents' sentences on what a place is hold of every row of the table, and the two frames of request 10 are as it says, every place.
-use mathlib.Core.Path.{_≡_, refl, sym, _∙_, ap}
+use mathlib.Core.Path.{_≡_, refl, _∙_, ap}
 use mathlib.Core.Logic.{_≢_}
-use Prim.Native.Nat.{ℕ, _+_, _*_, _-_, _/_, _%_, _≤_, _<_}
+use Prim.Native.Nat.{ℕ, _+_, _*_, _-_, _/_, _≤_, _<_}
 use native.Mathlib.Omega.{arith}
 use native.Mathlib.Decide.{decLt, ℕ-discrete}
 use native.Mathlib.Nat.{mul-left-comm, zero-mul, div-eq-of-lt}
@@ -17,7 +17,7 @@ use Rattle.levels.specs.Table.{Shared}
 use Rattle.levels.specs.Places.{notedDigit, kindOf, kindAt, posOf}
 use Rattle.levels.specs.Sentences.{Sentences, Are, GroupIV, Level12, Level14}
 use Rattle.levels.proofs.Rows.{shared12, shared14}
-use Rattle.levels.proofs.Positions.{Stands, stands, pos-of-sum}
+use Rattle.levels.proofs.Positions.{stands, pos-of-sum}
 use Rattle.levels.proofs.Ways.{kind-word, kind-noted, kind-unnoted, kind-first, kind-control, kind-negative, kind-positive, kind-after, kind-fixed, kind-between}
 
 module _ (row : Row) (sh : Shared row) where

@@ -1,7 +1,7 @@
 -- The walk along one tributary's columns, as the multiplexer's pass and the demultiplexer's extraction both make it: what they carry
 -- along, how it moves on, and what is known of a column inside a line of F frames.
 use mathlib.Core.Path.{_≡_, refl, sym, _∙_, ap}
-use mathlib.Core.Bool.{Bool, cond, true}
+use mathlib.Core.Bool.{cond, true}
 use Prim.Native.Nat.{ℕ, suc, _+_, _*_, _≤_, _<_}
 use native.Mathlib.Omega.{arith}
 use native.Mathlib.Numerals.{add-one}

@@ -3,7 +3,7 @@
 -- first that applies is answered.
 use mathlib.Core.Bool.{Bool, cond, not, _&&_}
 use mathlib.Core.List.{List, [], _∷_}
-use Prim.Native.Nat.{ℕ, suc, _+_, _-_, _/_, _%_, _^_}
+use Prim.Native.Nat.{ℕ, suc, _+_, _-_, _*_, _/_, _%_, _^_}
 use lib.Dec.{eqb, ltb, leb}
 use lib.ListN.{length}
 use Rattle.table.specs.declared.Row.{Row}
@@ -44,6 +44,10 @@ noteFault row notes = naming 5 (overfull row) notes
 -- all 1": from bit 5 on, as many as the level has national digits (one at levels 2 and 3, three at 4; at 12 and 14 none, so that no note is at fault)
 abbrev pub unset : Row → ℕ → Bool
 unset row note = not (eqb (note / 2 ^ 5 % 2 ^ row .nationals) (2 ^ row .nationals - 1))
+
+-- a note that has those bits, and no other
+abbrev pub nationalBits : Row → ℕ
+nationalBits row = 32 * (2 ^ row .nationals - 1)
 
 abbrev pub nationalFault : Row → List ℕ → Fault
 nationalFault row notes = naming 10 (unset row) notes

@@ -44,6 +44,10 @@ byBoth false true = PositiveCarries
 unfoldable pub actionOf : Row → Bool → Bool → Action
 actionOf row preceding own = cond (hasNegative row) (byBoth preceding own) (byOwn own)
 
+-- what a frame with this note, after one with the preceding note, does for tributary j
+abbrev pub actsBy : Row → ℕ → ℕ → ℕ → Action
+actsBy row preceding note j = actionOf row (stuffed preceding j) (stuffed note j)
+
 -- what frame f does for tributary j, by the notes and the vote before them: the preceding vote is that of the same notes one further on
 abbrev pub actions : Row → ℕ → List ℕ → ℕ → ℕ → Action
 actions row earlier notes j f = actionOf row (decisions (earlier ∷ notes) j f) (decisions notes j f)

@@ -1,7 +1,7 @@
 -- What the rows of the level table (table/specs/Table.antt) share.
 use mathlib.Core.Path.{_≡_}
 use mathlib.Core.Logic.{_≢_}
-use Prim.Native.Nat.{ℕ, _+_, _*_, _-_, _/_, _%_, _^_, _≤_, _<_}
+use Prim.Native.Nat.{_+_, _*_, _-_, _/_, _%_, _^_, _≤_, _<_}
 use Rattle.digits.specs.Digits.{written, zerosIn}
 use Rattle.table.specs.declared.Row.{Row}
 

@@ -5,7 +5,6 @@ use crate::sizes;
 use table::Row;
 ghost use mathlib.Core.Path.{_≡_};
 ghost use Prim.Native.Nat.{_^_, _<_};
-ghost use lib.ListN.{length};
 ghost use Rattle.levels.specs.Table.{Shared};
 ghost use Rattle.levels.specs.Judging.{firstWith, overfull, unset, badEarlier, faultOf, sendFaultOf, refusedWith};
 

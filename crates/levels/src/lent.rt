@@ -30,11 +30,3 @@ pub fn tributary_digit(quarter: &[u8], i: TributaryPlace) -> u8
 {
     digits::digit_at(quarter, i.0)
 }
-
-// Writes a digit of a quarter.
-pub fn put_tributary_digit(quarter: &mut [u8], i: TributaryPlace, d: u8)
-    requires { ⌜ (i .0 < 8 * length (now quarter)) × (d < 2) ⌝ }
-    ensures { λ _. ⌜ (digitsOf (now (quarter .exit)) ≡ set (digitsOf (now (quarter .entry))) (i .0) d) × Bytes (now (quarter .exit)) ⌝ }
-{
-    digits::put_digit(quarter, i.0, d);
-}

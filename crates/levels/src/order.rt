@@ -8,7 +8,7 @@ ghost use mathlib.Core.List.{_∷_};
 ghost use Prim.Native.Nat.{_<_};
 ghost use lib.ListN.{length, getD};
 ghost use Rattle.levels.specs.declared.places.Kind.the-variants.{Justification};
-ghost use Rattle.levels.specs.Order.{stuffed, hasNegative, byOwn, byBoth, actionOf, isStuffed, bothCarry, carried};
+ghost use Rattle.levels.specs.Order.{stuffed, hasNegative, byOwn, byBoth, actsBy, isStuffed, bothCarry, carried};
 
 // What a frame does for a tributary: its positive place is stuffed, or only that carries a digit, or the negative place carries one too.
 pub enum Action {
@@ -80,7 +80,7 @@ fn by_both(preceding: bool, own: bool) -> Action
 // What a frame with this note, after one with the preceding note, does for tributary j (from 0).
 pub fn action_of(row: Row, preceding: u64, note: u8, j: usize) -> Action
     requires { ⌜ j < 4 ⌝ }
-    ensures { λ r. ⌜ r ≡ actionOf row (stuffed preceding j) (stuffed note j) ⌝ }
+    ensures { λ r. ⌜ r ≡ actsBy row preceding note j ⌝ }
 {
     let own = is_stuffed(note, j);
     if has_negative(row) {
@@ -124,7 +124,7 @@ pub fn justification_carries(sign: Sign, act: Action) -> bool
 // place asks what the frame does.
 pub fn carries_digit(row: Row, kind: Kind, preceding: u64, note: u8, j: usize) -> bool
     requires { ⌜ j < 4 ⌝ }
-    ensures { λ r. ⌜ r ≡ carried kind (actionOf row (stuffed preceding j) (stuffed note j)) ⌝ }
+    ensures { λ r. ⌜ r ≡ carried kind (actsBy row preceding note j) ⌝ }
 {
     match kind {
         Kind::Word => false,

@@ -4,7 +4,7 @@
 use mathlib.Core.Path.{_≡_, refl, sym, _∙_, ap}
 use mathlib.Core.Bool.{Bool, cond, true, false}
 use mathlib.Core.List.{List}
-use Prim.Native.Nat.{ℕ, _+_, _-_, _*_, _/_, _%_, _≤_, _<_}
+use Prim.Native.Nat.{ℕ, _+_, _*_, _/_, _%_, _≤_, _<_}
 use native.Mathlib.Omega.{arith}
 use native.Mathlib.Decide.{decLt}
 use lib.Dec.{eqb}
@@ -14,16 +14,16 @@ use contract.Lifetimes.{Lfts}
 use denote.Ref.{now}
 use denote.Triple.Clauses.{AtExit}
 use borrow.Fn.World.{ArgsD, ResD}
-use borrow.Author.Tests.{eq-eqb, eqb-true}
+use borrow.Author.Tests.{eq-eqb}
 use Rattle.digits.specs.Digits.{digitsOf, Bytes}
 use Rattle.digits.proofs.Laws.{digits-inj, digits-length, part-digit, bytes-by-place}
 use Rattle.multiframe.specs.declared.Built.{Built}
-use Rattle.multiframe.specs.declared.Kind.the-variants.{Fixed, Spare, Signalling, Channel}
-use Rattle.multiframe.specs.Multiframe.{kindAt, channelFrom, digitFor, multiframeOf}
+use Rattle.multiframe.specs.declared.Kind.the-variants.{Channel}
+use Rattle.multiframe.specs.Multiframe.{channelFrom, digitFor, multiframeOf}
 use Rattle.multiframe.specs.Calls.{lengthsRight, firstSilent, builtOf, BuildMet, Taken, ApartMet}
 use Rattle.multiframe.specs.Trips.{FixedRight, channelBytes, SameAt}
 use Rattle.multiframe.proofs.Lengths.{right-lengths}
-use Rattle.multiframe.proofs.Told.{Told, fixed, spare, signalled, channelled, told, no-truth, signalling-there}
+use Rattle.multiframe.proofs.Told.{Told, fixed, spare, signalled, channelled, told, signalling-there}
 use Rattle.multiframe.proofs.Spares.{table, table-there}
 use Rattle.multiframe.proofs.Places.{made-digit, spare-meant, channelPlace, channel-stands, signallingPlace, channel-taken, signalling-taken, spare-taken}
 use Rattle.multiframe.proofs.build as build

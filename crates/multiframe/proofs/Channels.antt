@@ -1,6 +1,6 @@
 -- The columns of the channels, one after the other: after c of them the bytes of channels 1 to c are right, in the multiframe that is
 -- built or in the channels that are taken.
-use mathlib.Core.Path.{_≡_, refl, sym, ap, _∙_}
+use mathlib.Core.Path.{_≡_, sym, ap, _∙_}
 use mathlib.Core.List.{List, _++_}
 use Prim.Native.Nat.{ℕ, _+_, _-_, _*_, _/_, _%_, _≤_, _<_}
 use native.Mathlib.Omega.{arith}
@@ -11,7 +11,7 @@ use lib.Seq.{getD-append-add, getD-take, getD-drop, length-take-le}
 use borrow.Author.Tests.{lt-ltb, le-ltb}
 use borrow.Rule.Slice.PartMut.{putMid, postOf}
 use Rattle.multiframe.specs.Multiframe.{channelOf, channelFrom}
-use Rattle.multiframe.specs.Steps.{columnOf, Channelled, ColumnPut, ColumnTaken}
+use Rattle.multiframe.specs.Steps.{columnOf, Channelled, ColumnPut}
 
 -- ---- a channel's byte in a frame, and the channel of a byte
 

@@ -1,7 +1,7 @@
 -- From bytes to the definition: a multiframe whose bytes are laid and whose spare digits are put is the one that the definition makes, and
 -- what is taken byte by byte and spare digit by spare digit is what the definition names.
 use mathlib.Core.Path.{_≡_, refl, sym, ap, _∙_}
-use mathlib.Core.Logic.{_⊎_, inl, inr}
+use mathlib.Core.Logic.{inl, inr}
 use mathlib.Core.Bool.{Bool, cond, true, false, _&&_}
 use mathlib.Core.List.{List, [], _∷_, _++_, map}
 use Prim.Native.Nat.{ℕ, zero, suc, _+_, _-_, _*_, _/_, _%_, _^_, _≤_, _<_}
@@ -12,14 +12,13 @@ use lib.Dec.{eqb, ltb, lit<}
 use lib.ListN.{length, getD, set, List·getD-append}
 use lib.Seq.{getD-set-same, getD-set-other, getD-take, getD-append-add}
 use borrow.Author.Tests.{eq-eqb, ne-eqb, eqb-true, ltb-true}
-use Rattle.digits.specs.Digits.{digitsOf, byteOf, bytesOf, tab, Bytes, Binary}
+use Rattle.digits.specs.Digits.{digitsOf, byteOf, tab, Bytes, Binary}
 use Rattle.digits.proofs.Bits.{eight-at, eight-byte}
 use Rattle.digits.proofs.Lists.{each-binary}
 use Rattle.digits.proofs.Laws.{digit-at, digits-binary, bytes-by-place, bytes-length, bytes-are-bytes, digits-of-bytes, tab-at, binary-append, map-binary, map-at, zeros-at}
 use Rattle.multiframe.specs.declared.SpareDigit.{SpareDigit}
 use Rattle.multiframe.specs.declared.SpareDigit.the-variants.{International, Alarm, National, Extra, MultiframeAlarm}
-use Rattle.multiframe.specs.declared.Kind.{Kind}
-use Rattle.multiframe.specs.declared.Kind.the-variants.{Fixed, Spare, Signalling, Channel}
+use Rattle.multiframe.specs.declared.Kind.the-variants.{Fixed, Spare}
 use Rattle.multiframe.specs.Multiframe.{kindAt, withWord, withoutWord, multiframeByte, isFixed, sparesBefore, signallingFrom, channelFrom, channelOf, meant, digitFor, multiframeOf}
 use Rattle.multiframe.specs.Steps.{ColumnPut, ColumnTaken, Channelled, Laid, at, wordByte, otherByte, wordFrom, firstByte, firstBytes, sixteenthByte, spareTable, spareBytes}
 use Rattle.multiframe.specs.Calls.{Taken}

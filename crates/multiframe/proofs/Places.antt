@@ -3,14 +3,13 @@
 use mathlib.Core.Path.{_≡_, refl, sym, ap, _∙_}
 use mathlib.Core.Bool.{Bool, cond, true, false}
 use mathlib.Core.List.{List, [], _∷_}
-use Prim.Native.Nat.{ℕ, zero, suc, _+_, _-_, _*_, _/_, _%_, _≤_, _<_}
+use Prim.Native.Nat.{ℕ, zero, suc, _+_, _-_, _*_, _/_, _%_, _<_}
 use native.Mathlib.Omega.{arith}
 use native.Mathlib.Nat.{zero-add}
 use lib.Dec.{eqb, lit<}
 use lib.ListN.{length, getD, replicate}
-use Rattle.digits.specs.Digits.{digitsOf, bytesOf, tab, Binary}
-use Rattle.digits.proofs.Laws.{digits-binary, digits-of-bytes, bytes-length, bytes-are-bytes, tab-length, tab-at, tab-binary}
-use Rattle.multiframe.specs.declared.SpareDigit.{SpareDigit}
+use Rattle.digits.specs.Digits.{digitsOf, tab, Binary}
+use Rattle.digits.proofs.Laws.{digits-binary, digits-of-bytes, bytes-length, tab-length, tab-at, tab-binary}
 use Rattle.multiframe.specs.declared.Kind.{Kind}
 use Rattle.multiframe.specs.declared.Kind.the-variants.{Fixed, Spare, Signalling, Channel}
 use Rattle.multiframe.specs.Multiframe.{kindAt, kindsOf, withWord, withoutWord, multiframeByte, signallingByte}

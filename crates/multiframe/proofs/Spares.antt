@@ -1,20 +1,13 @@
 -- The places of the spare digits, in order: the table of src/lib.rt is read off the definition, a place for each spare digit.
-use mathlib.Core.Path.{_≡_, refl, sym, ap, subst, _∙_}
-use mathlib.Core.Logic.{_≢_}
-use mathlib.Core.Bool.{Bool, cond, true, false, _&&_}
-use mathlib.Core.List.{List, [], _∷_, _++_, append-nil}
-use Prim.Native.Nat.{ℕ, zero, suc, _+_, _/_, _≤_, _<_}
+use mathlib.Core.Path.{_≡_, refl, sym, ap, _∙_}
+use mathlib.Core.Bool.{Bool, cond, true, false}
+use mathlib.Core.List.{List, [], _∷_, _++_}
+use Prim.Native.Nat.{ℕ, zero, suc, _+_, _≤_, _<_}
 use native.Mathlib.Omega.{arith}
 use native.Mathlib.Decide.{decLt, ℕ-discrete}
-use native.Mathlib.Nat.{zero-div}
-use lib.Dec.{ltb}
-use lib.ListN.{length, getD, set, length-append, List·getD-append}
+use lib.ListN.{length, getD, length-append, List·getD-append}
 use lib.Seq.{getD-append-add}
-use borrow.Author.Tests.{lt-ltb, le-ltb}
-use Rattle.digits.specs.Digits.{digitsOf, Bytes}
-use Rattle.digits.proofs.Laws.{digit-at, put-same, put-other}
 use Rattle.multiframe.specs.Steps.{spareTable}
-use Rattle.digits.proofs.Below.{lt-of-ne}
 use Rattle.multiframe.specs.Multiframe.{kindAt, isSpare, sparesBefore}
 
 -- the places below n that are spare

@@ -1,6 +1,6 @@
 -- What `build` and `apart` answer and leave, refused or not, for any input. Request 3 of document 02.
 use mathlib.Core.Path.{_≡_}
-use mathlib.Core.Bool.{Bool, cond, true, false, not, _&&_}
+use mathlib.Core.Bool.{Bool, cond, false, _&&_}
 use mathlib.Core.List.{List}
 use Prim.Native.Nat.{ℕ, zero, suc, _+_, _<_, _≤_}
 use lib.Dec.{eqb}

@@ -6,7 +6,6 @@ use Prim.Native.Nat.{ℕ, zero, suc, _+_, _-_, _*_, _/_, _%_}
 use lib.Dec.{eqb, ltb, leb}
 use lib.ListN.{getD, replicate}
 use Rattle.digits.specs.Digits.{digitsOf, bytesOf, tab}
-use Rattle.multiframe.specs.declared.SpareDigit.{SpareDigit}
 use Rattle.multiframe.specs.declared.SpareDigit.the-variants.{International, Alarm, National, Extra, MultiframeAlarm}
 use Rattle.multiframe.specs.declared.Kind.{Kind}
 use Rattle.multiframe.specs.declared.Kind.the-variants.{Fixed, Spare, Signalling, Channel}

@@ -2,11 +2,12 @@
 -- is one of its L digits.
 use mathlib.Core.Path.{_≡_, refl, sym, _∙_, ap}
 use mathlib.Core.Bool.{Bool, true, false, true≢false, false≢true}
-use Prim.Native.Nat.{ℕ, zero, suc, _+_, _-_, _/_, _%_, _^_, _≤_, _<_}
+use Prim.Native.Nat.{ℕ, _+_, _-_, _/_, _%_, _^_, _≤_, _<_}
 use native.Mathlib.Omega.{arith}
 use native.Mathlib.Decide.{decLt}
 use lib.Dec.{eqb, ltb}
 use borrow.Author.Tests.{le-ltb}
+use Rattle.digits.proofs.Lists.{of-four}
 use Rattle.table.specs.declared.Row.{Row}
 use Rattle.levels.specs.declared.order.Action.{Action}
 use Rattle.levels.specs.declared.places.Sign.{Sign}
@@ -35,14 +36,7 @@ module _ (row : Row) (note : ℕ) (act : Action) (j r next : ℕ) (k : Kind) (no
 
 -- the service digits that a note has stand in the order of its bits, from bit 4 on
 pub noted-bit : (note k : ℕ) → k < 4 → serviceBy note (notedDigit k) ≡ note / 2 ^ (4 + k) % 2
-noted-bit note zero h = refl
-noted-bit note (suc zero) h = refl
-noted-bit note (suc (suc zero)) h = refl
-noted-bit note (suc (suc (suc zero))) h = refl
-noted-bit note (suc (suc (suc (suc k)))) h = absurd (over k h)
-  where
-    over : (k : ℕ) → suc (suc (suc (suc k))) < 4 → ⊥
-    over k h = omega arith
+noted-bit note = of-four (λ (k : ℕ). serviceBy note (notedDigit k) ≡ note / 2 ^ (4 + k) % 2) refl refl refl refl
 
 abbrev isWord : Kind → Bool
 isWord Word = true

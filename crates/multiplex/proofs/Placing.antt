@@ -22,7 +22,7 @@ use Rattle.levels.specs.declared.order.Action.{Action}
 use Rattle.levels.specs.declared.places.Kind.{Kind}
 use Rattle.levels.specs.Table.{Shared}
 use Rattle.levels.specs.Places.{middleSet, lastSet, kindOf, posOf}
-use Rattle.levels.specs.Order.{stuffed, actionOf, actions, carried, carries, before}
+use Rattle.levels.specs.Order.{actsBy, actions, carried, carries, before}
 use Rattle.levels.specs.Sizes.{Fits}
 use Rattle.levels.proofs.Choice.{cond-same}
 use Rattle.levels.proofs.Positions.{in-frame, pos-of-sum}
@@ -162,7 +162,7 @@ module _ (row : Row) (sh : Shared row) (f s r p : ℕ) (at : p ≡ f * row .digi
   module _ (earlier : ℕ) (notes : List ℕ) (preceding note : ℕ) (last : preceding ≡ getD (earlier ∷ notes) f 0) (own : note ≡ getD notes f 0) where
     -- what its frame does for each tributary
     abbrev acts : ℕ → Action
-    acts j = actionOf row (stuffed preceding j) (stuffed note j)
+    acts = actsBy row preceding note
 
     -- where a place carries a digit, its tributary's index moves on
     carries-here : (j : ℕ) → j < 4 → carries row (actions row earlier notes j) (p + j) ≡ carried (kindOf row s (r + j)) (acts j)

@@ -1,22 +1,22 @@
 -- The line as it goes out: heads and runs one after the other, set after set. A run is the columns that `woven` makes of the four
 -- quarters; all places of a line that fits lie in it; the start, and the whole line at the end.
 use mathlib.Core.Path.{_≡_, refl, sym, _∙_, ap}
-use mathlib.Core.List.{List, [], _∷_, _++_, append-assoc, append-nil}
-use Prim.Native.Nat.{ℕ, zero, suc, _+_, _*_, _-_, _/_, _%_, _^_, _≤_, _<_}
+use mathlib.Core.List.{List, [], _∷_, _++_, append-nil}
+use Prim.Native.Nat.{ℕ, zero, suc, _+_, _*_, _-_, _/_, _%_, _≤_, _<_}
 use native.Mathlib.Omega.{arith}
-use native.Mathlib.Nat.{add-zero, zero-add, zero-mul, add-mul, mul-left-comm, mul-le-mul-right}
+use native.Mathlib.Nat.{zero-add, zero-mul, add-mul, mul-left-comm, mul-le-mul-right}
 use lib.ListN.{length, getD, take, drop}
 use lib.Seq.{take-all}
 use Rattle.digits.specs.Digits.{digitsOf, bytesOf, tab, written, Bytes}
 use Rattle.digits.proofs.Laws.{tab-of, bytes-of-digits}
 use Rattle.digits.proofs.Lists.{tab-cat, tab-four, of-four}
 use Rattle.words.specs.declared.Writer.{Writer}
-use Rattle.words.specs.Words.{Ready, outFrom, Appended, zerosAfter, Finished}
+use Rattle.words.specs.Words.{outFrom, Appended, zerosAfter, Finished}
 use Rattle.weave.specs.Weave.{woven, Has}
 use Rattle.table.specs.declared.Row.{Row}
 use Rattle.levels.specs.Table.{Shared}
-use Rattle.levels.specs.Places.{headEnd, kindAt}
-use Rattle.levels.specs.Order.{actions, before, countOf, countsOf}
+use Rattle.levels.specs.Places.{headEnd}
+use Rattle.levels.specs.Order.{actions, before, countOf}
 use Rattle.levels.specs.Sizes.{quarterOf, Accepted, Fits}
 use Rattle.levels.proofs.Buffers.{quarter-length}
 use Rattle.levels.proofs.Columns.{wide, columns, frame-start}
@@ -24,9 +24,9 @@ use Rattle.levels.proofs.Counts.{count-of, count-room}
 use Rattle.levels.proofs.Inverse.{before-rises}
 use Rattle.levels.proofs.Judged.{room-small, fits-quarter}
 use Rattle.levels.proofs.Positions.{in-frame}
-use Rattle.levels.proofs.Runs.{Body, before-run, run-body, head-end-fours, head-end-in, head-end-short}
+use Rattle.levels.proofs.Runs.{Body, before-run, run-body, head-end-fours, head-end-in}
 use Rattle.levels.proofs.Sentences.{set-start}
-use Rattle.multiplex.specs.Line.{lineDigit, lineOf}
+use Rattle.multiplex.specs.Line.{lineDigit}
 use Rattle.multiplex.specs.Sending.{tributaryOf, nextOf, Ran, Sent, Sending, AllSent}
 use Rattle.multiplex.proofs.Placing.{Headed}
 

@@ -3,7 +3,7 @@
 use mathlib.Core.Path.{_≡_}
 use mathlib.Core.Bool.{cond, true}
 use mathlib.Core.List.{List, [], _∷_}
-use Prim.Native.Nat.{ℕ, _+_, _*_, _-_, _/_, _^_, _<_}
+use Prim.Native.Nat.{ℕ, _+_, _*_, _-_, _/_, _%_, _^_, _<_}
 use lib.Dec.{eqb, ltb}
 use lib.ListN.{length, getD}
 use Rattle.digits.specs.Digits.{digitsOf, tab, written}
@@ -15,7 +15,8 @@ use Rattle.table.specs.declared.Row.{Row}
 use Rattle.levels.specs.declared.order.Action.{Action}
 use Rattle.levels.specs.declared.places.Kind.{Kind}
 use Rattle.levels.specs.Places.{kindOf}
-use Rattle.levels.specs.Order.{actions, carried, before, countsOf}
+use Rattle.levels.specs.Table.{Shared}
+use Rattle.levels.specs.Order.{actions, actsBy, carried, before, countsOf}
 use Rattle.levels.specs.Sizes.{quarterOf, Fits}
 use Rattle.multiplex.specs.Line.{digitBy, lineDigit, lineOf}
 
@@ -43,6 +44,14 @@ pub record PlacedTo (row : Row) (note : ℕ) (acts : ℕ → Action) (set r : �
 abbrev pub Rely : Row → (ℕ → Action) → ℕ → ℕ → ℕ → List ℕ → Type 0
 Rely row acts set r quarter next =
     (j : ℕ) → j < 4 → (getD next j 0 < 65536) × (carried (kindOf row set (r + j)) (acts j) ≡ true → getD next j 0 < 8 * quarter)
+
+-- and all that the column of a head from place r on asks, in a frame with this note after one with the preceding note
+pub record ColumnAsked (row : Row) (preceding note set r : ℕ) (buffer next : List ℕ) : Type 0 where
+  pub shared : Shared row
+  pub quarters : length buffer ≡ 4 * (length buffer / 4)
+  pub four : length next ≡ 4
+  pub column : r % 4 ≡ 0
+  pub rely : Rely row (actsBy row preceding note) set r (length buffer / 4) next
 
 -- the four indices, each by itself
 abbrev pub nextOf : List ℕ → Next

@@ -26,12 +26,12 @@ ghost use Rattle.weave.specs.Weave.{spreadOf, Has};
 ghost use Rattle.levels.specs.Table.{Shared};
 ghost use Rattle.levels.specs.Sizes.{quarterOf, Accepted};
 ghost use Rattle.levels.specs.Places.{headEnd};
-ghost use Rattle.levels.specs.Order.{stuffed, actionOf, carried};
+ghost use Rattle.levels.specs.Order.{actsBy, carried};
 ghost use Rattle.levels.specs.Word.{wordDigit};
 ghost use Rattle.levels.specs.declared.order.Action.{Action};
 ghost use Rattle.levels.specs.declared.places.Kind.the-variants.{Word};
 ghost use Rattle.multiplex.specs.Line.{serviceBy, digitBy};
-ghost use Rattle.multiplex.specs.Sending.{Placed, PlacedTo, Rely, nextOf, Ran, Sending, AllSent};
+ghost use Rattle.multiplex.specs.Sending.{Placed, PlacedTo, ColumnAsked, nextOf, Ran, Sending, AllSent};
 ghost use Rattle.levels.specs.Judging.{sendAnswerOn};
 ghost use Rattle.multiplex.specs.Multiplex.{lineOn, Met};
 
@@ -90,10 +90,10 @@ fn place_digit(
         × (j < 4)
         × (kind ≡ Word → r < row .len)
         × (getD (now next) j 0 < 65536)
-        × (carried kind (actionOf row (stuffed preceding j) (stuffed note j)) ≡ true → getD (now next) j 0 < 8 * (length (now buffer) / 4))
+        × (carried kind (actsBy row preceding note j) ≡ true → getD (now next) j 0 < 8 * (length (now buffer) / 4))
         ⌝ }
     ensures { λ d. ⌜
-        Placed row note (actionOf row (stuffed preceding j) (stuffed note j)) kind j r (now (buffer .entry)) (now (next .entry)) d (now (next .exit))
+        Placed row note (actsBy row preceding note j) kind j r (now (buffer .entry)) (now (next .entry)) d (now (next .exit))
         ⌝ }
 {
     if order::carries_digit(row, kind, preceding, note, j) {
@@ -105,12 +105,6 @@ fn place_digit(
         return lent::tributary_digit(&buffer[a..e], TributaryPlace(i));
     }
     idle_digit(row, kind, note, j, r)
-}
-
-fn wide(d: u8) -> u64
-    ensures { λ r. ⌜ r ≡ d ⌝ }
-{
-    d as u64
 }
 
 // The column of the first set's head from place r on, place by place: none of them carries a digit.
@@ -130,7 +124,7 @@ fn first_column(row: Row, note: u8, r: usize) -> u64
                 place,
             },
         );
-        word = word * 2 + wide(idle_digit(row, kind, note, j, place));
+        word = word * 2 + idle_digit(row, kind, note, j, place) as u64;
         j += 1;
     }
     word
@@ -147,16 +141,10 @@ fn later_column(
     r: usize,
 ) -> u64
     requires { ⌜
-        Shared row
-        × (length (now buffer) ≡ 4 * (length (now buffer) / 4))
-        × (length (now next) ≡ 4)
-        × (0 < set)
-        × (r % 4 ≡ 0)
-        × (r < 65536)
-        × Rely row (λ (j : ℕ). actionOf row (stuffed preceding j) (stuffed note j)) set r (length (now buffer) / 4) (now next)
+        (0 < set) × (r < 65536) × ColumnAsked row preceding note set r (now buffer) (now next)
         ⌝ }
     ensures { λ w. ⌜
-        PlacedTo row note (λ (j : ℕ). actionOf row (stuffed preceding j) (stuffed note j)) set r (now (buffer .entry)) (now (next .entry)) 4 w
+        PlacedTo row note (actsBy row preceding note) set r (now (buffer .entry)) (now (next .entry)) 4 w
         (now (next .exit))
         ⌝ }
 {
@@ -171,7 +159,7 @@ fn later_column(
     let mut word: u64 = 0;
     let mut j: usize = 0;
     while j < 4 {
-        word = word * 2 + wide(place_digit(row, kind, buffer, next, preceding, note, j, r + j));
+        word = word * 2 + place_digit(row, kind, buffer, next, preceding, note, j, r + j) as u64;
         j += 1;
     }
     word
@@ -188,15 +176,10 @@ fn head_column(
     r: usize,
 ) -> u64
     requires { ⌜
-        Shared row
-        × (length (now buffer) ≡ 4 * (length (now buffer) / 4))
-        × (length (now next) ≡ 4)
-        × (r % 4 ≡ 0)
-        × (r < headEnd row set)
-        × Rely row (λ (j : ℕ). actionOf row (stuffed preceding j) (stuffed note j)) set r (length (now buffer) / 4) (now next)
+        (r < headEnd row set) × ColumnAsked row preceding note set r (now buffer) (now next)
         ⌝ }
     ensures { λ w. ⌜
-        PlacedTo row note (λ (j : ℕ). actionOf row (stuffed preceding j) (stuffed note j)) set r (now (buffer .entry)) (now (next .entry)) 4 w
+        PlacedTo row note (actsBy row preceding note) set r (now (buffer .entry)) (now (next .entry)) 4 w
         (now (next .exit))
         ⌝ }
 {

@@ -1,6 +1,5 @@
 -- The quarters on their way: one place more is handed out, and at the end all are.
 use mathlib.Core.Path.{_≡_, refl, sym, _∙_, ap}
-use mathlib.Core.Logic.{_≢_}
 use mathlib.Core.Bool.{Bool, cond, true, false}
 use mathlib.Core.List.{List, [], _∷_, _++_, append-nil}
 use Prim.Native.Nat.{ℕ, zero, suc, _+_, _*_, _/_, _%_, _≤_, _<_}
@@ -15,7 +14,7 @@ use lib.Seq.{getD-append-seam}
 use borrow.Author.Tests.{eq-eqb, ne-eqb}
 use Rattle.table.specs.declared.Row.{Row}
 use Rattle.plain.specs.Engine.{digitAt, packed, sumOver, carriesAt, carriesFor, countTo, takenTo, handedAt}
-use Rattle.plain.specs.Walk.{Bytes, Counted, Taken}
+use Rattle.plain.specs.Walk.{Bytes, Taken}
 use Rattle.plain.proofs.Rows.{cond-by}
 use Rattle.plain.proofs.Packing.{packed-is}
 

@@ -63,12 +63,6 @@ fn is_control(place: Place) -> bool
     }
 }
 
-fn wide(d: u8) -> usize
-    ensures { λ r. ⌜ r ≡ d ⌝ }
-{
-    d as usize
-}
-
 // Digit d at place q of a frame is counted, where it is a control digit: at 4 * d + j, where j is its tributary.
 fn count_vote(row: Row, q: usize, d: u8, votes: &mut [usize; 8])
     requires { ⌜
@@ -81,7 +75,7 @@ fn count_vote(row: Row, q: usize, d: u8, votes: &mut [usize; 8])
         ⌝ }
 {
     if is_control(frame::place_in(row, q)) {
-        let i = 4 * wide(d) + q % 4;
+        let i = 4 * d as usize + q % 4;
         votes[i] += 1;
     }
 }

@@ -2,7 +2,6 @@
 use table::Row;
 ghost use mathlib.Core.Path.{_≡_};
 ghost use Prim.Native.Nat.{_/_, _^_, _<_, _≤_};
-ghost use lib.ListN.{length};
 ghost use Rattle.plain.specs.Engine.{badLine, badBuffer, badEarlier, firstFaulty, nationalOnes, firstLacking, verdictOn, sendingOn, readingOn};
 ghost use Rattle.plain.specs.Walk.{Regular};
 

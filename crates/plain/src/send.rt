@@ -5,10 +5,10 @@ use crate::packed;
 use table::Row;
 ghost use mathlib.Core.Path.{_≡_};
 ghost use mathlib.Core.Bool.{cond};
-ghost use Prim.Native.Nat.{_+_, _*_, _-_, _/_, _%_, _<_, _≤_};
-ghost use lib.ListN.{length, getD};
+ghost use Prim.Native.Nat.{_+_, _*_, _-_, _/_, _%_, _<_};
+ghost use lib.ListN.{length};
 ghost use Rattle.plain.specs.Engine.{packed, wordDigit, carriesAt, sentAt, countsTo};
-ghost use Rattle.plain.specs.Walk.{Regular, Fits, Counted, Sent};
+ghost use Rattle.plain.specs.Walk.{Regular, Fits, Counted};
 
 // Digit q of the frame alignment signal.
 pub fn word_digit(row: Row, q: usize) -> u8

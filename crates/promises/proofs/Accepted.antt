@@ -1,14 +1,14 @@
 -- What an accepted call is over its level's row: the line, the counts, the notes and the quarters as the theorems speak of them.
 use mathlib.Core.Path.{_≡_, refl, sym, _∙_, ap}
 use mathlib.Core.Bool.{Bool, cond, true, false}
-use mathlib.Core.List.{List, [], _∷_}
-use Prim.Native.Nat.{ℕ, zero, suc, _+_, _*_, _-_, _/_, _%_, _^_, _≤_, _<_}
+use mathlib.Core.List.{List}
+use Prim.Native.Nat.{ℕ, zero, _*_, _/_, _≤_, _<_}
 use native.Mathlib.Omega.{arith}
 use native.Mathlib.Decide.{decLt, ℕ-discrete}
-use native.Mathlib.Nat.{mul-left-comm, not-suc-le-zero, div-add-mod'}
+use native.Mathlib.Nat.{mul-left-comm}
 use lib.Dec.{eqb, lit<}
 use lib.ListN.{length, getD, take, length-map}
-use borrow.Author.Tests.{eq-eqb, ne-eqb, le-ltb, lt-leb, ltb-false, leb-false}
+use borrow.Author.Tests.{eq-eqb, ne-eqb}
 use Rattle.digits.specs.Digits.{digitsOf, Binary}
 use Rattle.digits.proofs.Laws.{digits-length, digits-binary, digits-of-bytes, tab-length}
 use Rattle.digits.proofs.Lists.{of-four}
@@ -28,11 +28,10 @@ use Rattle.levels.proofs.Judged.{accepted, fits-quarter, no-size-refused}
 use Rattle.levels.specs.declared.judging.Counted.{Counted}
 use Rattle.levels.specs.declared.judging.Fault.{Fault}
 use Rattle.levels.specs.Judging.{fault, badEarlier, faultOf, sendFaultOf, refusedWith, counted, answerOn, answered, sendAnswerOn, sendAnswered}
-use Rattle.levels.proofs.Refusals.{EarlierFits, NotesFit, NationalsSet, number, faultless, fit-faultless, send-faultless, set-faultless}
+use Rattle.levels.proofs.Refusals.{EarlierFits, NotesFit, NationalsSet, faultless, fit-faultless, send-faultless, set-faultless}
 use Rattle.multiplex.specs.Line.{lineDigit, lineOf}
 use Rattle.reading.specs.Notes.{noteOf, notesOf, dissentTo, dissentsOf}
 use Rattle.extraction.specs.Quarters.{takenTo, quartersFrom}
-use Rattle.extraction.specs.Extract.{bufferAfter}
 use Rattle.extraction.proofs.Handed.{quarter-first}
 use Rattle.promises.specs.Damage.{lineDigits}
 use Rattle.promises.specs.Carried.{Sound, digitsSent, digitsRead}

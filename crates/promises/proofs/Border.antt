@@ -25,22 +25,21 @@ use Rattle.levels.specs.declared.places.Kind.the-variants.{Word, Service, Contr
 use Rattle.table.specs.Table.{row2, row3, row4, row12, row14, levelOf}
 use Rattle.levels.specs.Table.{Shared}
 use Rattle.levels.specs.Sizes.{framesRefusal, sizeRefusal}
-use Rattle.levels.specs.Places.{notedOf, firstSet, middleSet, lastSet, kindOf, kindAt, posOf}
-use Rattle.levels.specs.Order.{stuffed, decisions, actionOf, actions, carried, carries, before, placesOf, countOf}
+use Rattle.levels.specs.Places.{firstSet, middleSet, lastSet, kindOf, kindAt, posOf}
+use Rattle.levels.specs.Order.{stuffed, actionOf, actions, carried, carries, before, placesOf, countOf}
 use Rattle.levels.specs.Vote.{groupOf, votesFor, voteBy}
 use Rattle.levels.proofs.Rows.{shared2, shared3, shared4, shared12, shared14}
 use Rattle.levels.proofs.Positions.{stands, pos-of-sum}
 use Rattle.levels.proofs.Majority.{group-length}
 use Rattle.levels.proofs.Ways.{kind-control}
 use Rattle.multiplex.specs.Line.{digitBy, lineDigit}
-use Rattle.levels.specs.Judging.{firstWith, unset, faultOf, sendFaultOf}
+use Rattle.levels.specs.Judging.{firstWith, unset, nationalBits, faultOf, sendFaultOf}
 use Rattle.reading.specs.Notes.{voteAt, serviceAt, noteOf}
 use Rattle.extraction.specs.Quarters.{takenTo, quarterFrom, quartersFrom}
 use Rattle.promises.specs.Damage.{Liberty, at-will, counted, kept, liberty, libertyAt, groupAt, allowed, DamageUpTo, Damage, controlsChanged, lineDigits}
 use Rattle.promises.specs.Carried.{Sound}
 use Rattle.promises.specs.Calls.{SendAccepted, sentLine, outcome, LentAt, DamageAt}
-use Rattle.promises.specs.Together.{Outcome}
-use Rattle.promises.specs.Border.{inverted, spoilt, changes, early, late, nationalBits, noneStuffed, allStuffed, idle, Border, exampleSend, exampleLine, exampleDamaged, exampleRead, Example}
+use Rattle.promises.specs.Border.{inverted, spoilt, changes, early, late, noneStuffed, allStuffed, idle, Border, exampleSend, exampleLine, exampleDamaged, exampleRead, Example}
 use Rattle.promises.proofs.Sent.{control-place, in-line, sent-at}
 use Rattle.promises.proofs.Recovered.{dissent-changed}
 use Rattle.promises.proofs.RoundTrip.{line-binary}

@@ -10,7 +10,7 @@ use native.Mathlib.Nat.{zero-add, zero-div}
 use lib.Dec.{ltb}
 use lib.ListN.{length, getD, take, drop, replicate, length-replicate, length-take, List·getD-eq-default}
 use lib.Seq.{getD-take, getD-drop}
-use borrow.Author.Tests.{eq-eqb, le-ltb}
+use borrow.Author.Tests.{le-ltb}
 use Rattle.digits.specs.Digits.{bytesOf, tab, digitsOf}
 use Rattle.digits.proofs.Laws.{digit-at, tab-of, tab-at, tab-length, zeros-at}
 use Rattle.digits.specs.Sums.{sumTo}

@@ -4,7 +4,7 @@
 use mathlib.Core.Path.{_≡_, refl, sym, _∙_, ap}
 use mathlib.Core.Bool.{Bool, true, false, false≢true, _&&_}
 use mathlib.Core.List.{List, [], _∷_, _++_}
-use Prim.Native.Nat.{ℕ, zero, suc, _+_, _*_, _/_, _%_, _≤_, _<_}
+use Prim.Native.Nat.{ℕ, zero, suc, _+_, _*_, _/_, _%_, _<_}
 use native.Mathlib.Omega.{arith}
 use native.Mathlib.Decide.{decLt}
 use lib.Dec.{eqb}
@@ -21,26 +21,23 @@ use Rattle.levels.specs.declared.places.Kind.{Kind}
 use Rattle.levels.specs.declared.places.Kind.the-variants.{Word, Service, Control, Justification, Tributary}
 use Rattle.table.specs.Table.{levelOf}
 use Rattle.levels.specs.Table.{Shared}
-use Rattle.levels.specs.Sizes.{onLevel, framesRefusal, Accepted}
+use Rattle.levels.specs.Sizes.{onLevel, Accepted}
 use Rattle.levels.specs.Places.{kindAt, posOf, isOwn}
 use Rattle.levels.specs.Order.{stuffed, actions, carried, carries, countOf, countsOf}
-use Rattle.levels.specs.Judging.{faultOf}
 use Rattle.levels.proofs.Columns.{columns}
 use Rattle.levels.proofs.Judged.{fits-quarter, no-frames-refused, no-size-refused}
-use Rattle.levels.proofs.Refusals.{NotesFit}
-use Rattle.reading.specs.Notes.{notesOf}
 use Rattle.reading.specs.Reading.{notesAfter}
 use Rattle.extraction.specs.Quarters.{takenTo, quartersFrom}
 use Rattle.extraction.specs.Extract.{bufferAfter}
 use Rattle.multiplex.specs.Line.{lineDigit}
-use Rattle.promises.specs.Damage.{ownPlace, lineDigits}
+use Rattle.promises.specs.Damage.{lineDigits}
 use Rattle.promises.specs.Carried.{digitsRead, CameBack}
 use Rattle.promises.specs.Calls.{Lent, SendAccepted, sentLine, LentFor, LentAt}
-use Rattle.promises.specs.Extraction.{ExtractAccepted, extractCounts, extractDigits, SameOwn, SameOwnAt, bears, SameBearing, SameBearingAt}
+use Rattle.promises.specs.Extraction.{ExtractAccepted, extractDigits, SameOwn, SameOwnAt, bears, SameBearing, SameBearingAt}
 use Rattle.promises.specs.Extraction.{SameBit, ExtractsSame, Extracted, frameBefore, frameAfter, byNotes, Steady}
 use Rattle.promises.proofs.Order.{column-place, places-same, count-same, actions-same, digits-same}
 use Rattle.promises.proofs.RoundTrip.{round-trip}
-use Rattle.promises.proofs.Accepted.{call-level, send-level, shared, count-at, lent-accepted, call-accepted, tributary, found, unrefused, call-sizes, call-places}
+use Rattle.promises.proofs.Accepted.{call-level, send-level, shared, lent-accepted, call-accepted, tributary, found, unrefused, call-sizes, call-places}
 use Rattle.promises.proofs.Accepted.{call-counts, call-count, send-sizes, send-vote, send-places, send-sound, send-line}
 use Rattle.promises.proofs.Accepted.{send-counts, send-digits, quarter-taken}
 

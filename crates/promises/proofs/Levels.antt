@@ -12,7 +12,7 @@ use native.Mathlib.Nat.{add-mul, zero-mul, div-add-mod', div-lt-iff-lt-mul, mod-
 use lib.Dec.{eqb, leb, ltb}
 use lib.ListN.{length, getD}
 use lib.Arith.{digits-lt}
-use borrow.Author.Tests.{le-leb, lt-leb, leb-true, lt-ltb, le-ltb, ltb-true, ltb-false}
+use borrow.Author.Tests.{le-leb, leb-true, lt-ltb, ltb-true, ltb-false}
 use Rattle.digits.specs.Digits.{digitsOf, tab, differing}
 use Rattle.digits.proofs.Laws.{digits-binary, map-append, tab-at, tab-length}
 use Rattle.digits.proofs.Lists.{tab-more}
@@ -23,13 +23,13 @@ use Rattle.levels.specs.declared.order.Action.{Action}
 use Rattle.levels.specs.declared.order.Action.the-variants.{Stuffed, PositiveCarries, BothCarry}
 use Rattle.table.specs.Table.{levelOf, row2, row3, row4, row12, row14}
 use Rattle.levels.specs.Table.{Shared}
-use Rattle.levels.specs.Places.{isOwn, kindOf, kindAt, posOf}
+use Rattle.levels.specs.Places.{isOwn, kindOf, posOf}
 use Rattle.levels.specs.Order.{decisions, hasNegative, byOwn, byBoth, actionOf, actions, isStuffed, bothCarry, carried}
 use Rattle.levels.specs.Vote.{groupOf}
 use Rattle.levels.proofs.Positions.{stands, pos-of-sum, in-frame}
 use Rattle.levels.proofs.Columns.{frame-start, headOf, lastHead, head-first, head-last, head-between, place-carries}
 use Rattle.levels.proofs.Ways.{kind-word, kind-service, kind-first, kind-control, kind-fixed, kind-between, kind-negative, kind-positive, kind-after}
-use Rattle.promises.specs.Damage.{kept, liberty, libertyAt, groupAt, allowed, Damage, controlsChanged, ownPlace}
+use Rattle.promises.specs.Damage.{kept, libertyAt, groupAt, allowed, Damage, controlsChanged, ownPlace}
 use Rattle.promises.specs.Calls.{Lent, sentLine, readDissent, DamageAt, DissentAt}
 use Rattle.promises.specs.Plain.{Numbers, InFour, OutOfFours, digitsAfter, stuffs, negativeCarries, Changed, controlsDiffering, DemandThree}
 use Rattle.promises.proofs.Sent.{whose}

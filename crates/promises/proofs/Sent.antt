@@ -2,31 +2,26 @@
 use mathlib.Core.Path.{_≡_, refl, _∙_}
 use mathlib.Core.Bool.{cond, true}
 use mathlib.Core.List.{List}
-use Prim.Native.Nat.{ℕ, _+_, _*_, _-_, _/_, _%_, _^_, _≤_, _<_}
+use Prim.Native.Nat.{ℕ, _+_, _*_, _/_, _%_, _^_, _<_}
 use native.Mathlib.Omega.{arith}
 use native.Mathlib.Nat.{zero-add, add-mul}
 use lib.ListN.{getD, replicate}
 use lib.Arith.{digits-lt}
 use Rattle.digits.proofs.Laws.{tab-at}
-use Rattle.digits.proofs.Lists.{of-four}
 use Rattle.levels.proofs.Groups.{group-all}
 use Rattle.table.specs.declared.Row.{Row}
 use Rattle.levels.specs.declared.places.Kind.the-variants.{Tributary}
 use Rattle.levels.specs.Table.{Shared}
-use Rattle.levels.specs.Places.{notedDigit, notedOf, kindOf, kindAt, posOf}
+use Rattle.levels.specs.Places.{notedOf, kindOf, kindAt, posOf}
 use Rattle.levels.specs.Order.{decisions, actions, carries, before}
 use Rattle.levels.specs.Word.{wordDigit}
 use Rattle.levels.proofs.Positions.{pos-of-sum, in-frame}
 use Rattle.levels.proofs.Sentences.{set-start}
 use Rattle.levels.proofs.Columns.{frame-start}
 use Rattle.levels.proofs.Ways.{kind-word, kind-noted, kind-control}
-use Rattle.multiplex.specs.Line.{serviceBy, digitBy, lineDigit}
-use Rattle.multiplex.proofs.Own.{digit-carried}
+use Rattle.multiplex.specs.Line.{digitBy, lineDigit}
+use Rattle.multiplex.proofs.Own.{digit-carried, noted-bit}
 use Rattle.promises.specs.Damage.{lineDigits, groupAt}
-
--- the service digits of a note in the order of its bits
-service-bit : (note k : ℕ) → k < 4 → serviceBy note (notedDigit k) ≡ note / 2 ^ (4 + k) % 2
-service-bit note = of-four (λ (k : ℕ). serviceBy note (notedDigit k) ≡ note / 2 ^ (4 + k) % 2) refl refl refl refl
 
 module _ (row : Row) (sh : Shared row) where
   -- place r of set s of frame f is a place of a line of F frames; whose it is goes by r alone
@@ -72,7 +67,7 @@ module _ (row : Row) (sh : Shared row) where
         let r = row .len + k in
         let in-set : r < row .set = omega (arith, sh .room, sh .alarm-next, sh .national-next, sh .first-next) in
         sent f 0 r (r % 4) p hf (omega (arith, sh .later-set)) in-set refl (omega (arith, sh .alarm-next))
-        ∙ rw (kind-noted row sh k hk) (service-bit (getD notes f 0) k (omega (arith, sh .few-alarm, sh .few-national)))
+        ∙ rw (kind-noted row sh k hk) (noted-bit (getD notes f 0) k (omega (arith, sh .few-alarm, sh .few-national)))
 
     pub sent-control : (f s j p : ℕ) → f < F → 0 < s → s < row .sets → j < 4 → p ≡ f * row .digits + (s * row .set + j)
         → getD line p 0 ≡ cond (decisions notes j f) 1 0

@@ -4,7 +4,7 @@ use mathlib.Core.Path.{_≡_, refl, sym, _∙_, ap}
 use mathlib.Core.Logic.{_≢_}
 use mathlib.Core.Bool.{Bool, cond, true, false}
 use mathlib.Core.List.{List}
-use Prim.Native.Nat.{ℕ, _/_, _≤_, _<_}
+use Prim.Native.Nat.{ℕ, _≤_, _<_}
 use native.Mathlib.Omega.{arith}
 use native.Mathlib.Decide.{ℕ-discrete}
 use lib.Dec.{eqb, lit≤}
@@ -16,7 +16,6 @@ use Rattle.table.specs.declared.Row.{Row}
 use Rattle.table.specs.declared.Level.{Level}
 use Rattle.table.specs.declared.Level.the-variants.{Of, NoSuchLevel}
 use Rattle.table.specs.Table.{levelOf}
-use Rattle.levels.specs.Table.{Shared}
 use Rattle.levels.specs.Sizes.{badLine, badNotes, badBuffer, framesRefusal, sizeRefusal, Accepted}
 use Rattle.levels.specs.Judging.{fault, badEarlier, faultOf}
 use Rattle.levels.proofs.Choice.{cond-by}
@@ -24,7 +23,7 @@ use Rattle.levels.proofs.Rows.{shared-row}
 use Rattle.levels.proofs.Judged.{accepted}
 use Rattle.levels.proofs.Refusals.{NotesFit, fault-of-size, fault-of-earlier, fit-faultless}
 use Rattle.reading.specs.Notes.{noteOf, notesOf}
-use Rattle.promises.specs.Together.{Outcome, together, togetherOn, inTurn, Split}
+use Rattle.promises.specs.Together.{together, Split}
 use Rattle.promises.proofs.Reading.{note-fits}
 
 -- 2 and 3 are no 4

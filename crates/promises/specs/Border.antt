@@ -3,7 +3,7 @@ use mathlib.Core.Path.{_≡_}
 use mathlib.Core.Logic.{_≢_}
 use mathlib.Core.Bool.{Bool, cond, not}
 use mathlib.Core.List.{List, [], _∷_, _++_}
-use Prim.Native.Nat.{ℕ, _+_, _*_, _-_, _^_, _<_}
+use Prim.Native.Nat.{ℕ, _+_, _*_, _-_, _<_}
 use lib.Dec.{leb}
 use lib.ListN.{getD, replicate}
 use Rattle.digits.specs.Digits.{tab, digitsOf, differing}
@@ -11,11 +11,11 @@ use Rattle.digits.specs.Sums.{sumTo}
 use Rattle.table.specs.declared.Row.{Row}
 use Rattle.levels.specs.Places.{posOf}
 use Rattle.levels.specs.Order.{decisions}
+use Rattle.levels.specs.Judging.{nationalBits}
 use Rattle.reading.specs.Notes.{dissentTo}
 use Rattle.promises.specs.Damage.{Liberty, at-will, counted, kept, libertyAt, allowed, DamageUpTo, Damage, controlsChanged, lineDigits}
 use Rattle.promises.specs.Carried.{Sound}
 use Rattle.promises.specs.Calls.{Lent, SendAccepted, sentLine, outcome, DamageAt, SendReturned}
-use Rattle.promises.specs.Together.{Outcome}
 
 -- every digit that may be changed at will is inverted, and every control digit of the sets that change says
 abbrev pub inverted : Liberty → Bool → ℕ → ℕ
@@ -37,10 +37,6 @@ early row s = leb s (allowed row)
 
 abbrev pub late : Row → ℕ → Bool
 late row s = not (early row s)
-
--- the level's national bits, and no other
-abbrev pub nationalBits : Row → ℕ
-nationalBits row = 32 * (2 ^ row .nationals - 1)
 
 -- two sends of F frames, after one earlier vote, that differ in every decision: no frame stuffed, every frame stuffed for all four; all digits are 0
 abbrev pub noneStuffed : Row → ℕ → List ℕ

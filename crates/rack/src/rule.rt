@@ -1,6 +1,5 @@
 // What the calls on a rack decide without looking at a record.
 use crate::record::Kept;
-use crate::record::Record;
 ghost use mathlib.Core.Path.{_≡_};
 ghost use mathlib.Core.Bool.{cond};
 ghost use mathlib.Core.List.{[], _∷_};

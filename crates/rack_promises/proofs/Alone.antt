@@ -1,13 +1,13 @@
 -- "Feeding or resetting line k changes no other record, and in any order of calls each line answers as if alone."
-use mathlib.Core.Path.{_≡_, refl, sym, ap, subst, _∙_}
-use mathlib.Core.Bool.{Bool, cond, true, false, _||_}
+use mathlib.Core.Path.{_≡_, refl, sym, ap, _∙_}
+use mathlib.Core.Bool.{Bool, cond, true, false}
 use mathlib.Core.List.{List, [], _∷_}
-use Prim.Native.Nat.{ℕ, zero, suc, _+_, _-_, _<_, _≤_}
+use Prim.Native.Nat.{ℕ, _+_, _-_, _<_, _≤_}
 use native.Mathlib.Omega.{arith}
 use lib.Dec.{eqb, leb, ltb}
 use lib.ListN.{length, getD, set, length-set}
 use lib.Seq.{getD-set-same, getD-set-other}
-use borrow.Author.Tests.{eq-eqb, ne-eqb, lt-leb, le-leb, le-ltb, eqb-true, eqb-false}
+use borrow.Author.Tests.{ne-eqb, lt-leb, le-leb, le-ltb, eqb-true, eqb-false}
 use Rattle.digits.proofs.Tests.{cond-told}
 use Rattle.table.specs.declared.Row.{Row}
 use Rattle.table.specs.declared.Level.{Level}
@@ -19,14 +19,14 @@ use Rattle.receiver.specs.declared.Mode.the-variants.{Hunting, OneFound, TwoFou
 use Rattle.receiver.specs.declared.State.{State}
 use Rattle.receiver.specs.declared.Fed.{Fed}
 use Rattle.receiver.specs.Modes.{missed}
-use Rattle.receiver.specs.Feed.{freshState, freshOf, freshAt, feedOf, feedAt, feedRow, refused, refusalOf, runOf, pieceOf, coreOf, ValidState}
+use Rattle.receiver.specs.Feed.{freshState, freshOf, freshAt, feedOf, feedRow, refused, refusalOf, pieceOf, coreOf}
 use Rattle.receiver_promises.proofs.Pieces.{feed-valid, fresh-state, run-answer}
 use Rattle.rack.specs.declared.record.Record.{Record}
 use Rattle.rack.specs.declared.record.Kept.{Kept}
-use Rattle.rack.specs.Record.{modeNumber, modeOf, isYes, stateFrom, recordOf, fedBy, fedAnswer, fedRecord, keptAfter, keptReset}
-use Rattle.rack.specs.Rack.{at, listRefusal, refusalBy, listBy, fedAlone, feedAnswer, FeedMet, ResetMet}
+use Rattle.rack.specs.Record.{modeNumber, modeOf, isYes, recordOf, fedBy, fedRecord, keptReset}
+use Rattle.rack.specs.Rack.{at, listRefusal, listBy, fedAlone, FeedMet, ResetMet}
 use Rattle.rack.proofs.Lists.{blank}
-use Rattle.rack_promises.specs.Alone.{Call, Feed, Reset, Told, toldAlone, leftAlone, alone, aloneLeft, toldOne, leftOne, ofOne, oneLeft}
+use Rattle.rack_promises.specs.Alone.{Call, Feed, Reset, toldAlone, leftAlone, alone, aloneLeft, toldOne, leftOne, ofOne, oneLeft}
 use Rattle.rack_promises.specs.Alone.{toldBy, leftBy, rackTold, rackLeft, own, Sound}
 
 -- ---- the calls of which the lists are made are the calls of the rack: their statements say these answers and these lists

@@ -1,10 +1,10 @@
 -- The frame in hand. Document 01, "Finding frames in a stream": the array of 366 bytes changes only so; when it is handed
 -- over. Told in digits: digit p of the array is digit p of the frame.
 use mathlib.Core.Bool.{Bool, cond, true, false, _&&_}
-use mathlib.Core.List.{List, [], _∷_, _++_}
-use Prim.Native.Nat.{ℕ, zero, suc, _+_, _-_, _/_, _%_, _^_}
+use mathlib.Core.List.{List, _++_}
+use Prim.Native.Nat.{ℕ, _+_, _-_}
 use lib.Dec.{eqb, leb}
-use lib.ListN.{length, getD, set, replicate}
+use lib.ListN.{length, set, replicate}
 use Rattle.digits.specs.Digits.{digitsOf, bytesOf, written}
 use Rattle.table.specs.declared.Row.{Row}
 use Rattle.receiver.specs.declared.Mode.{Mode}

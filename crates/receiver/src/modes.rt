@@ -29,12 +29,6 @@ pub fn missed_of(mode: Mode) -> u8
     }
 }
 
-fn wide(d: u8) -> usize
-    ensures { λ r. ⌜ r ≡ d ⌝ }
-{
-    d as usize
-}
-
 // The largest number of L digits.
 pub fn mask_of(row: Row) -> usize
     requires { ⌜ Shared row ⌝ }
@@ -48,7 +42,7 @@ fn window_of(row: Row, mask: usize, window: usize, d: u8) -> usize
     requires { ⌜ Shared row × (mask ≡ 2 ^ row .len - 1) × (window < 2 ^ row .len) × (d < 2) ⌝ }
     ensures { λ r. ⌜ r ≡ windowOf row window d ⌝ }
 {
-    (window * 2 + wide(d)) & mask
+    (window * 2 + d as usize) & mask
 }
 
 // How many digits came, one more, stopping at L.

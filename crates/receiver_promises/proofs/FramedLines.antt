@@ -1,9 +1,9 @@
 -- A framed signal, of ones too, is no alarm indication: N digits in a row of a line of correct frames are never few, wherever they begin, because the
 -- word alone has more zeros than the limit.
 use mathlib.Core.Path.{_≡_, refl, sym, ap, _∙_}
-use mathlib.Core.Bool.{true, false}
+use mathlib.Core.Bool.{false}
 use mathlib.Core.List.{List}
-use Prim.Native.Nat.{ℕ, _+_, _-_, _*_, _%_, _≤_, _<_}
+use Prim.Native.Nat.{ℕ, _+_, _-_, _*_, _≤_, _<_}
 use native.Mathlib.Omega.{arith}
 use native.Mathlib.Decide.{decLt}
 use native.Mathlib.Nat.{mod-lt, mod-eq-of-lt, mod-add-mod, mod-self}
@@ -19,7 +19,7 @@ use Rattle.levels.specs.Table.{Shared}
 use Rattle.levels.proofs.Rows.{shared-row}
 use Rattle.receiver.specs.declared.State.{State}
 use Rattle.receiver.specs.declared.alarm.Stretch.{Stretch}
-use Rattle.receiver.specs.Alarm.{isFew, Counting}
+use Rattle.receiver.specs.Alarm.{Counting}
 use Rattle.receiver_promises.specs.Stretches.{EverywhereFew}
 use Rattle.receiver.specs.Feed.{freshState}
 use Rattle.receiver_promises.specs.History.{heard, since}

@@ -12,7 +12,7 @@ use Rattle.table.specs.declared.Row.{Row}
 use Rattle.table.specs.declared.Level.the-variants.{Of}
 use Rattle.table.specs.Table.{levelOf}
 use Rattle.levels.specs.declared.places.Kind.{Kind}
-use Rattle.levels.specs.declared.places.Kind.the-variants.{Service, Control, Justification, Tributary}
+use Rattle.levels.specs.declared.places.Kind.the-variants.{Control, Justification, Tributary}
 use Rattle.levels.specs.declared.places.Sign.the-variants.{Negative, Positive}
 use Rattle.levels.specs.Table.{Shared}
 use Rattle.levels.specs.Places.{kindOf, kindAt, posOf}

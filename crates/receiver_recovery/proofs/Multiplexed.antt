@@ -2,7 +2,7 @@
 -- before them, it sends the words, 1 at the national places and at the service places that no note has, and 0 at every other place. So a line of correct
 -- frames of any number of frames is one that multiplexing makes.
 use mathlib.Core.Path.{_≡_, refl, sym, _∙_}
-use mathlib.Core.Bool.{cond, true, false, not, true≢false}
+use mathlib.Core.Bool.{cond, true, false, not}
 use mathlib.Core.List.{List, _∷_}
 use Prim.Native.Nat.{ℕ, zero, suc, _+_, _*_, _-_, _/_, _%_, _^_, _≤_, _<_}
 use native.Mathlib.Omega.{arith}
@@ -15,20 +15,20 @@ use Rattle.digits.specs.Digits.{digitsOf, Binary, written, tab}
 use Rattle.digits.proofs.Laws.{digits-of-bytes, tab-length, tab-at, tab-of, tab-binary}
 use Rattle.digits.proofs.Lists.{of-four}
 use Rattle.digits.proofs.Tests.{cond-told}
-use Rattle.digits.proofs.Written.{written-length, written-binary}
+use Rattle.digits.proofs.Written.{written-length, written-digit}
 use Rattle.table.specs.declared.Row.{Row}
 use Rattle.table.specs.declared.Level.the-variants.{Of}
 use Rattle.levels.specs.declared.places.Kind.{Kind}
 use Rattle.levels.specs.declared.order.Action.{Action}
 use Rattle.levels.specs.declared.places.Sign.the-variants.{Negative, Positive}
 use Rattle.levels.specs.declared.places.ServiceDigit.{ServiceDigit}
-use Rattle.levels.specs.declared.places.ServiceDigit.the-variants.{RemoteAlarm, FirstNational, SecondNational, ThirdNational, Fixed}
 use Rattle.levels.specs.declared.places.Kind.the-variants.{Word, Service, Control, Justification, Tributary}
 use Rattle.table.specs.Table.{levelOf}
 use Rattle.levels.specs.Table.{Shared}
 use Rattle.levels.specs.Places.{notedDigit, notedOf, serviceDigit, firstSet, middleSet, lastSet, kindOf, posOf, kindAt}
 use Rattle.levels.specs.Order.{stuffed, hasNegative, actionOf, isStuffed, actions, before}
 use Rattle.levels.specs.Word.{wordDigit}
+use Rattle.levels.specs.Judging.{nationalBits}
 use Rattle.levels.proofs.Choice.{cond-by}
 use Rattle.levels.proofs.Rows.{shared-row}
 use Rattle.levels.proofs.Positions.{stands}
@@ -40,23 +40,7 @@ use Rattle.receiver_promises.proofs.Alarms.{some-digits}
 use Rattle.receiver_recovery.proofs.ZeroLines.{one-zero, past-end}
 use Rattle.receiver_recovery.proofs.IdleLines.{idle-bits, idle-correct}
 
--- ---- the word as a list
-
-written-at : (k w i : ℕ) → i < k → getD (written k w) i 0 ≡ w / 2 ^ (k - 1 - i) % 2
-unfolding written
-written-at zero w i h = omega arith
-written-at (suc k) w zero h =
-    let e : suc k - 1 - 0 ≡ k = omega arith in
-    rw e
-written-at (suc k) w (suc i) h =
-    let e : suc k - 1 - suc i ≡ k - 1 - i = omega arith in
-    rw e (written-at k w i (omega arith))
-
 -- ---- what stands at a place
-
--- a note of the level's national bits and nothing else
-abbrev nationalBits : Row → ℕ
-nationalBits row = 32 * (2 ^ row .nationals - 1)
 
 -- the word's digit at a place of the word, a service place's by such a note, and 0 at any other
 abbrev idleBy : ℕ → Kind → ℕ → ℕ
@@ -189,7 +173,7 @@ module _ (row : Row) (sh : Shared row) where
       word : x < row .len → idleBy (nationalBits row) kind (wordDigit row (x % row .set)) ≡ cond (isOne kind) 1 (zeroDigit row x)
       word h =
           let in-set : x < row .set = omega (arith, sh .room, sh .alarm-next, sh .national-next, sh .first-next) in
-          rw (div-eq-of-lt in-set, mod-eq-of-lt in-set, kind-word row sh x h) (sym (written-at (row .len) (row .word) x h))
+          rw (div-eq-of-lt in-set, mod-eq-of-lt in-set, kind-word row sh x h) (sym (written-digit (row .len) (row .word) x (row .len - 1 - x) (omega arith)))
 
       other : row .len ≤ x → idleBy (nationalBits row) kind (wordDigit row (x % row .set)) ≡ cond (isOne kind) 1 (zeroDigit row x)
       other h =

@@ -1,6 +1,5 @@
 -- Products of which one factor is bounded by a number: what `omega` needs to see that they are small.
-use mathlib.Core.Path.{_≡_}
-use Prim.Native.Nat.{ℕ, _+_, _*_, _≤_}
+use Prim.Native.Nat.{ℕ, _*_, _≤_}
 use native.Mathlib.Omega.{arith}
 use native.Mathlib.Nat.{mul-le-mul, le-refl, mul-comm}
 use Rattle.table.specs.declared.Row.{Row}

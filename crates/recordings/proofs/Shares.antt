@@ -1,7 +1,7 @@
 -- What is said of a share is every change of alignment, and of the alarm, that falls in it. Outside hunting the mode is the same at every digit of it
 -- but the last. A share that begins hunting stops with the first frame handed over, before a word could be judged that loses what was found. The
 -- alarm is the same at every digit of a stretch but the last.
-use mathlib.Core.Path.{_≡_, refl, sym, ap, ap₂, _∙_}
+use mathlib.Core.Path.{_≡_, refl, sym, ap, _∙_}
 use mathlib.Core.Bool.{Bool, true, false}
 use mathlib.Core.List.{List, [], _∷_, _++_, append-nil}
 use Prim.Native.Nat.{ℕ, zero, suc, _+_, _-_, _≤_, _<_}

@@ -6,7 +6,6 @@ use levels::order;
 use levels::order::Action;
 use table::Row;
 ghost use mathlib.Core.Path.{_≡_};
-ghost use mathlib.Core.Bool.{cond};
 ghost use Prim.Native.Nat.{_<_, _≤_};
 ghost use lib.ListN.{length, getD};
 ghost use Rattle.levels.specs.Order.{actions, isStuffed};

@@ -20,7 +20,7 @@ use Rattle.levels.specs.declared.places.Kind.{Kind}
 use Rattle.levels.specs.declared.places.Kind.the-variants.{Justification}
 use Rattle.levels.specs.Sizes.{framesOf}
 use Rattle.levels.specs.Places.{kindOf}
-use Rattle.levels.specs.Order.{stuffed, actionOf, actions, carried}
+use Rattle.levels.specs.Order.{stuffed, actsBy, actions, carried}
 use Rattle.levels.proofs.Positions.{in-frame, pos-of-sum}
 use Rattle.levels.proofs.Judged.{short-line}
 use Rattle.reading.specs.Notes.{voteAt, noteOf, notesOf}
@@ -100,12 +100,12 @@ module _ {row : Row} {earlier : ℕ} {old : List ℕ} (wh : Whole row old) {f pr
   voted : (j : ℕ) → j < 4 → voteAt row (digitsOf old) f j .stuffed ≡ stuffed note j
   voted j h = sym (note-decision row (digitsOf old) (digits-binary old) f j h) ∙ ap (λ (k : ℕ). stuffed k j) (sym (a .own))
 
-  acted : (j : ℕ) → actions row earlier (notesOf row (digitsOf old) F) j f ≡ actionOf row (stuffed preceding j) (stuffed note j)
+  acted : (j : ℕ) → actions row earlier (notesOf row (digitsOf old) F) j f ≡ actsBy row preceding note j
   acted j = rw (noted, ← a .before)
 
   pub becomes-here : (national : Bool) (s r p : ℕ) → s < row .sets → r < row .set → p ≡ f * row .digits + (s * row .set + r)
       → becomes row earlier national old p
-      ≡ repairedBy row national (stuffed note (p % 4)) (actionOf row (stuffed preceding (p % 4)) (stuffed note (p % 4))) r (getD (digitsOf old) p 0) (kindOf row s r)
+      ≡ repairedBy row national (stuffed note (p % 4)) (actsBy row preceding note (p % 4)) r (getD (digitsOf old) p 0) (kindOf row s r)
   unfolding repairedDigit
   becomes-here national s r p hs hr e = rw (pos-of-sum row (wh .shared) p f s r e hs hr, voted (p % 4) (omega arith), acted (p % 4))
 
@@ -124,7 +124,7 @@ place-asks at b hs hr =
 
 module _ {row : Row} {national : Bool} {at : At} {preceding note : ℕ} {mid sums : List ℕ} (hs : at .set < row .sets) (hr : at .place < row .set) {came j d : ℕ} {kind : Kind}
     (ec : came ≡ getD (digitsOf mid) (placeOf row at) 0) (ek : kind ≡ kindOf row (at .set) (at .place)) (ej : j ≡ placeOf row at % 4)
-    (ed : d ≡ repairedBy row national (stuffed note j) (actionOf row (stuffed preceding j) (stuffed note j)) (at .place) came kind)
+    (ed : d ≡ repairedBy row national (stuffed note j) (actsBy row preceding note j) (at .place) came kind)
     (earlier : ℕ) (old : List ℕ) (a : Acts row earlier old (at .frame) preceding note) (m : Mended row earlier national old (placeOf row at) mid sums) where
   as-came : came ≡ getD (digitsOf old) (placeOf row at) 0
   as-came = ec ∙ m .rest (placeOf row at) (omega arith)

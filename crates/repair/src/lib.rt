@@ -19,7 +19,7 @@ ghost use Prim.Native.Nat.{_+_, _*_, _<_};
 ghost use lib.ListN.{length, replicate};
 ghost use Rattle.levels.specs.declared.places.Kind.the-variants.{Word, Justification};
 ghost use Rattle.levels.specs.Table.{Shared};
-ghost use Rattle.levels.specs.Order.{stuffed, actionOf};
+ghost use Rattle.levels.specs.Order.{stuffed, actsBy};
 ghost use Rattle.repair.specs.Repair.{repairedBy, repairedService, refusedWith, repairedOn, lineOn, RepairMet};
 ghost use Rattle.repair.specs.Mending.{placeOf, Begun, Onward, Whole, Mended};
 
@@ -81,7 +81,7 @@ fn justification_digit(row: Row, sign: Sign, rule: Rule, j: usize, came: u8) -> 
     requires { ⌜ (j < 4) × (came < 2) ⌝ }
     ensures { λ d. ⌜
         (d
-        ≡ repairedBy row (rule .national) (stuffed (rule .note) j) (actionOf row (stuffed (rule .preceding) j) (stuffed (rule .note) j)) 0 came
+        ≡ repairedBy row (rule .national) (stuffed (rule .note) j) (actsBy row (rule .preceding) (rule .note) j) 0 came
         (Justification sign))
         × (d < 2)
         ⌝ }
@@ -96,7 +96,7 @@ fn justification_digit(row: Row, sign: Sign, rule: Rule, j: usize, came: u8) -> 
 fn repaired_digit(row: Row, kind: Kind, rule: Rule, j: usize, r: usize, came: u8) -> u8
     requires { ⌜ Shared row × (j < 4) × (kind ≡ Word → r < row .len) × (came < 2) ⌝ }
     ensures { λ d. ⌜
-        (d ≡ repairedBy row (rule .national) (stuffed (rule .note) j) (actionOf row (stuffed (rule .preceding) j) (stuffed (rule .note) j)) r came kind)
+        (d ≡ repairedBy row (rule .national) (stuffed (rule .note) j) (actsBy row (rule .preceding) (rule .note) j) r came kind)
         × (d < 2)
         ⌝ }
 {

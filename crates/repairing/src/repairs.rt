@@ -4,6 +4,7 @@ use crate::runs;
 use crate::said;
 use crate::said::Sums;
 use console::files;
+use levels::order;
 use recordings::lengths;
 use table::Row;
 ghost use Prim.Native.Nat.{_≤_};
@@ -72,11 +73,7 @@ fn last_vote(row: Row, level: u64, line: &[u8]) -> u64 {
     let start = lengths::minus(end, row.bytes);
     let mut note = [0u8; 1];
     reading::read_notes(level, &line[start..end], &mut note);
-    wide(note[0])
-}
-
-fn wide(b: u8) -> u64 {
-    b as u64
+    order::note_of(&note, 0) as u64
 }
 
 // The file that failed first, where this one did if not ok.

@@ -1,10 +1,10 @@
 -- The C face: how answers and states pass as numbers in fixed arrays, and the whole statement of each call. The definitions of the calls
 -- behind the face say what the numbers are.
 use mathlib.Core.Path.{_≡_}
-use mathlib.Core.Bool.{Bool, cond, true, false, not, _||_}
+use mathlib.Core.Bool.{cond}
 use mathlib.Core.List.{List, [], _∷_}
-use Prim.Native.Nat.{ℕ, zero, suc, _+_, _-_}
-use lib.Dec.{eqb, leb, ltb}
+use Prim.Native.Nat.{ℕ}
+use lib.Dec.{eqb}
 use lib.ListN.{length, getD}
 use Rattle.levels.specs.declared.judging.Counted.{Counted}
 use Rattle.reading.specs.declared.Noted.{Noted}

@@ -284,7 +284,7 @@ fn given(c: Stretched) {
     say::counted(b" zeros ", c.zeros);
     say::counted(b" few ", c.few);
     say::counted(b" alarm ", c.alarm);
-    say::counted(b" fill ", stream::wide(c.fill));
+    say::byte(b" fill ", c.fill);
     say::counted(b" first ", c.first);
     say::counted(b" count ", c.count);
 }

@@ -336,12 +336,8 @@ fn ready(size: u64, digits: u64, no: u64, state: [u64; 9], answer: [u64; 4], fra
     say::text(b" frame");
     let mut i: usize = 0;
     while i < 106 {
-        say::counted(b" ", wide(frame[i]));
+        say::byte(b" ", frame[i]);
         i += 1;
     }
     say::text(b"\n");
-}
-
-pub fn wide(b: u8) -> u64 {
-    b as u64
 }

@@ -2,17 +2,17 @@
 use mathlib.Core.Path.{_≡_, refl, sym, _∙_, ap}
 use mathlib.Core.Bool.{Bool, cond, true, false, _||_, true≢false}
 use mathlib.Core.List.{List}
-use Prim.Native.Nat.{ℕ, _*_, _-_, _≤_, _<_}
+use Prim.Native.Nat.{ℕ, _*_, _≤_, _<_}
 use native.Mathlib.Omega.{arith}
 use native.Mathlib.Decide.{ℕ-discrete}
 use lib.Dec.{eqb, ltb}
 use lib.ListN.{length}
-use borrow.Author.Tests.{eqb-true, eq-eqb, ltb-false}
-use Rattle.digits.specs.Digits.{digitsOf, bytesOf, tab}
+use borrow.Author.Tests.{eq-eqb, ltb-false}
+use Rattle.digits.specs.Digits.{digitsOf, tab}
 use Rattle.digits.proofs.Laws.{bytes-of-digits, digits-length, tab-of}
 use Rattle.table.specs.declared.Row.{Row}
 use Rattle.levels.specs.Table.{Shared}
-use Rattle.levels.specs.Sizes.{framesOf, framesRefusal, Framed, Fits}
+use Rattle.levels.specs.Sizes.{framesOf, framesRefusal, Fits}
 use Rattle.levels.specs.Order.{actions, countOf}
 use Rattle.levels.specs.Judging.{badEarlier}
 use Rattle.levels.proofs.Counts.{count-of}

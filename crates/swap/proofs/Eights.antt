@@ -2,7 +2,7 @@
 -- columns after columns.
 use mathlib.Core.Path.{_≡_, refl, sym, _∙_, ap}
 use mathlib.Core.Bool.{Bool, cond, true, false, _&&_}
-use mathlib.Core.List.{List, _++_, append-assoc}
+use mathlib.Core.List.{List, _++_}
 use Prim.Native.Nat.{ℕ, zero, suc, _+_, _*_, _-_, _/_, _%_, _^_, _≤_, _<_}
 use native.Mathlib.Omega.{arith}
 use native.Mathlib.Decide.{decLt, ℕ-discrete}
@@ -18,7 +18,7 @@ use Rattle.digits.proofs.Below.{all, all-at}
 use Rattle.digits.proofs.Laws.{digits-append, digits-drop, digits-length, digits-take, digits-binary}
 use Rattle.digits.proofs.Lists.{of-four}
 use Rattle.digits.proofs.Windows.{window-first}
-use Rattle.digits.proofs.Written.{written-length}
+use Rattle.digits.proofs.Written.{written-length, written-digit}
 use Rattle.words.specs.Words.{four}
 use Rattle.words.proofs.Writing.{four-written}
 use Rattle.weave.specs.Weave.{spreadOf}
@@ -128,16 +128,6 @@ unfolding windowAt
 window-digit ds bin p n c m e =
     let size : n ≡ suc c + m = omega arith in
     rw (size, window-first ds bin p (suc c) m) (low (windowAt ds p c) 1 (bin (p + c)))
-
--- digit q of a number of k digits
-written-digit : (k w q m : ℕ) → q + 1 + m ≡ k → getD (written k w) q 0 ≡ w / 2 ^ m % 2
-unfolding written
-written-digit zero w q m e = absurd (nothing e)
-  where
-    nothing : q + 1 + m ≡ 0 → ⊥
-    nothing z = omega arith
-written-digit (suc k) w zero m e = let s : k ≡ m = omega arith in rw s
-written-digit (suc k) w (suc q) m e = written-digit k w q m (omega arith)
 
 module _ (old ds : List ℕ) (bin : Binary ds) (at i j : ℕ) (jh : j < 4) where
   -- the columns with the tributary's digits from i on

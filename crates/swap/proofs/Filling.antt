@@ -20,13 +20,12 @@ use Rattle.levels.specs.declared.places.Kind.the-variants.{Tributary}
 use Rattle.levels.specs.Places.{isOwn, kindOf, kindAt, posOf}
 use Rattle.levels.specs.Table.{Shared}
 use Rattle.levels.specs.Sizes.{Fits}
-use Rattle.levels.specs.Order.{stuffed, actionOf, actions, carried, carries, before}
+use Rattle.levels.specs.Order.{actsBy, actions, carried, carries, before}
 use Rattle.levels.proofs.Positions.{Stands, stands-at, pos-of-sum}
 use Rattle.levels.proofs.Runs.{past-head}
 use Rattle.levels.proofs.Walk.{Walking, walk-start, walk-next, Column, column}
 use Rattle.multiplex.specs.Line.{digitBy, lineDigit}
 use Rattle.multiplex.proofs.Running.{set-in-line, before-room}
-use Rattle.swap.specs.Swap.{swappedDigit}
 use Rattle.swap.specs.Filling.{among, Ran, Ahead, Put, Filled}
 use Rattle.swap.proofs.Eights.{among-none, by-columns}
 
@@ -176,7 +175,7 @@ module _ {row : Row} {earlier : ℕ} {notes ds old : List ℕ} {j q x i : ℕ} {
     -- the notes that were read are the frame's own and the preceding one
     module _ (preceding note : ℕ) (before-own : preceding ≡ getD (earlier ∷ notes) (at .frame) 0) (own : note ≡ getD notes (at .frame) 0) where
       abbrev act : Action
-      act = actionOf row (stuffed preceding j) (stuffed note j)
+      act = actsBy row preceding note j
 
       acts : act ≡ actions row earlier notes j (at .frame)
       acts = rw (before-own, own)

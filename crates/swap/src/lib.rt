@@ -15,13 +15,13 @@ use table::Row;
 use weave::table::spread_table;
 ghost use mathlib.Core.Path.{_≡_};
 ghost use mathlib.Core.Bool.{true};
-ghost use Prim.Native.Nat.{ℕ, _+_, _/_, _*_, _^_, _<_, _≤_};
+ghost use Prim.Native.Nat.{ℕ, _+_, _/_, _*_, _<_, _≤_};
 ghost use lib.ListN.{length};
 ghost use Rattle.digits.specs.Digits.{digitsOf};
 ghost use Rattle.levels.specs.Table.{Shared};
 ghost use Rattle.levels.specs.Sizes.{Fits};
 ghost use Rattle.levels.specs.Places.{kindOf, posOf};
-ghost use Rattle.levels.specs.Order.{stuffed, actionOf, carried};
+ghost use Rattle.levels.specs.Order.{actsBy, carried};
 ghost use Rattle.swap.specs.Filling.{Ahead, Put, Filled};
 ghost use Rattle.swap.specs.Swap.{badTributary, badRoom, numberOf, refusedWith, swappedOn, lineOn, SwapMet};
 
@@ -54,10 +54,10 @@ fn put_one(
         × (p .0 < 8 * length (now line))
         × (j < 4)
         × (i .0 < 65536)
-        × (carried (kindOf row (at .set) (at .place)) (actionOf row (stuffed preceding j) (stuffed note j)) ≡ true → i .0 < 8 * length (now buffer))
+        × (carried (kindOf row (at .set) (at .place)) (actsBy row preceding note j) ≡ true → i .0 < 8 * length (now buffer))
         ⌝ }
     ensures { λ r. ⌜
-        Put row at (now (line .entry)) (p .0) (digitsOf (now (buffer .entry))) (i .0) note (actionOf row (stuffed preceding j) (stuffed note j)) j (r .0)
+        Put row at (now (line .entry)) (p .0) (digitsOf (now (buffer .entry))) (i .0) note (actsBy row preceding note j) j (r .0)
         (now (line .exit))
         ⌝ }
 {

@@ -11,7 +11,7 @@ use native.Mathlib.Nat.{zero-add}
 use lib.Dec.{eqb, ltb}
 use lib.ListN.{length, getD, take, drop, replicate, length-append, length-replicate, length-take, List·getD-append, List·getD-eq-default}
 use lib.Seq.{length-take-le, take-take, take-append-le, getD-append-add, getD-take, getD-drop}
-use lib.Pow.{pow-add, pow-pos}
+use lib.Pow.{pow-add}
 use borrow.Author.Tests.{eq-eqb, ne-eqb, le-ltb, ltb-false}
 use Rattle.digits.specs.Digits.{digitsOf, Bytes, tab, withDigit}
 use Rattle.digits.proofs.Bits.{digit-same, digit-other, with-digit-fits}
@@ -20,17 +20,15 @@ use Rattle.digits.proofs.Lists.{of-four}
 use Rattle.table.specs.declared.Row.{Row}
 use Rattle.table.specs.declared.Level.the-variants.{Of}
 use Rattle.table.specs.Table.{levelOf}
-use Rattle.levels.specs.Table.{Shared}
 use Rattle.levels.specs.Sizes.{framesOf, quarterOf, Accepted}
 use Rattle.levels.specs.Places.{notedOf}
-use Rattle.levels.specs.Order.{hasNegative, actions, countOf}
+use Rattle.levels.specs.Order.{hasNegative, actions}
 use Rattle.levels.proofs.Buffers.{quarter-at, quarter-length}
 use Rattle.levels.proofs.Choice.{cond-by}
 use Rattle.levels.proofs.Counts.{count-room}
 use Rattle.levels.proofs.Judged.{no-size-refused}
 use Rattle.levels.proofs.Refusals.{EarlierFits, NotesFit, NationalsSet}
 use Rattle.promises.specs.Calls.{Lent, SendAccepted, sentLine, sentCounts, sentDigits}
-use Rattle.promises.specs.Extraction.{SameBit}
 use Rattle.promises.proofs.Accepted.{shared, send-sizes, send-vote, send-sound, send-accepted, send-bytes, send-count}
 use Rattle.swap_promises.specs.Swapping.{Swap, SwapAccepted, swapCount, swapDigits, from0, Mixed, NewFour, mixed, fitted, newPart, newVote, newFour, NewFourSent}
 use Rattle.swap_promises.proofs.Places.{swap-level, swap-small, swap-noted, swap-fits, swap-count}

@@ -1,6 +1,6 @@
 -- A place of each kind and tributary, and which sum it counts in: level 2, the national places of level 4, and what levels 12 and 14 add.
 use mathlib.Core.Path.{_≡_, refl}
-use Prim.Native.Nat.{_*_, _+_}
+use Prim.Native.Nat.{_+_}
 use Rattle.table.specs.Table.{row2, row4, row12, row14}
 use Rattle.levels.specs.Places.{kindOf, firstSet, middleSet, lastSet, posOf}
 use Rattle.tally.specs.Tally.{numberAt}

@@ -41,10 +41,6 @@ fn note_of(f: usize, before: u8, note: u8, from: usize) -> u8 {
     note
 }
 
-fn wide(b: u8) -> u64 {
-    b as u64
-}
-
 // Byte i counts i + 1 times: the sum, from the last byte to the first, of the bytes from there on.
 pub fn sum(s: &[u8]) -> u64 {
     let mut i = s.len();
@@ -52,7 +48,7 @@ pub fn sum(s: &[u8]) -> u64 {
     let mut total: u64 = 0;
     while 0 < i {
         i -= 1;
-        after = std::num::wrapping_add_u64(after, wide(s[i]));
+        after = std::num::wrapping_add_u64(after, s[i] as u64);
         total = std::num::wrapping_add_u64(total, after);
     }
     total

@@ -25,15 +25,16 @@ pub fn four(label: &[u8], counts: [usize; 4]) {
     labelled(b" ", counts[3]);
 }
 
-fn wide(b: u8) -> u64 {
-    b as u64
+// A label and a byte, as a number.
+pub fn byte(label: &[u8], b: u8) {
+    counted(label, b as u64);
 }
 
 // All bytes of a slice, as numbers, and the end of the line.
 pub fn bytes(s: &[u8]) {
     let mut i: usize = 0;
     while i < s.len() {
-        counted(b" ", wide(s[i]));
+        byte(b" ", s[i]);
         i += 1;
     }
     text(b"\n");

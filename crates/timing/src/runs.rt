@@ -9,7 +9,6 @@ use passages::passage;
 use recordings::lengths;
 use table::Row;
 ghost use Prim.Native.Nat.{_*_, _<_, _≤_};
-ghost use lib.ListN.{length};
 ghost use Rattle.levels.specs.Table.{Shared};
 ghost use Rattle.recordings.specs.Lengths.{longest};
 

@@ -1,11 +1,11 @@
 -- Laws of lanes: bytes joined, the digits of a lane, and four writers in one buffer.
-use mathlib.Core.Path.{_≡_, refl, sym, ap, ap₂, _∙_}
+use mathlib.Core.Path.{_≡_, refl, sym, ap, _∙_}
 use mathlib.Core.List.{List, [], _∷_, _++_, append-assoc, append-nil}
 use Prim.Native.Nat.{ℕ, zero, suc, _+_, _-_, _*_, _/_, _%_, _^_, _≤_, _<_}
 use native.Mathlib.Omega.{arith}
 use native.Mathlib.Nat.{pow-suc, add-zero, add-suc, zero-add, suc-add, zero-div, div-one}
-use lib.ListN.{length, getD}
-use lib.Pow.{high, low, pow-add, pow-mono, shr-shr, field}
+use lib.ListN.{getD}
+use lib.Pow.{low, pow-add, pow-mono, shr-shr}
 use Rattle.digits.specs.Digits.{Binary, windowAt, written}
 use Rattle.digits.proofs.Lists.{of-four}
 use Rattle.digits.proofs.Written.{written-cat, low-digit}

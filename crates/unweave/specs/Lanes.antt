@@ -12,7 +12,7 @@ use Rattle.levels.specs.declared.places.Sign.the-variants.{Negative, Positive}
 use Rattle.levels.specs.declared.places.Kind.{Kind}
 use Rattle.levels.specs.declared.places.Kind.the-variants.{Justification}
 use Rattle.levels.specs.Places.{kindOf, headEnd}
-use Rattle.levels.specs.Order.{stuffed, hasNegative, actionOf, carried}
+use Rattle.levels.specs.Order.{hasNegative, carried}
 
 -- every fourth digit from place p on, k of them
 unfoldable pub picked : ℕ → List ℕ → ℕ → List ℕ
@@ -22,10 +22,6 @@ picked (suc k) ds p = picked k ds p ++ (getD ds (p + 4 * k) 0 ∷ [])
 -- what a run of n columns from place p on hands to tributary j
 abbrev pub runDigits : List ℕ → ℕ → ℕ → ℕ → List ℕ
 runDigits ds p n j = picked n ds (p + j)
-
--- what a frame with this note, after one with the preceding note, does for tributary j
-abbrev pub actsBy : Row → ℕ → ℕ → ℕ → Action
-actsBy row preceding note j = actionOf row (stuffed preceding j) (stuffed note j)
 
 -- what a column from place p on hands to tributary j, whose place in it carries or not: its digit, or none
 abbrev pub columnDigits : List ℕ → ℕ → Bool → ℕ → List ℕ

@@ -16,8 +16,9 @@ ghost use Prim.Native.Nat.{ℕ, _+_, _*_, _-_, _/_, _%_, _^_, _<_, _≤_};
 ghost use lib.ListN.{length};
 ghost use Rattle.digits.specs.Digits.{digitsOf, tab, written};
 ghost use Rattle.levels.specs.Table.{Shared};
-ghost use Rattle.unweave.specs.Lanes.{lanesOf, runDigits, actsBy, columnDigits, kindDigits, headDigits, setDigits};
-ghost use Rattle.unweave.specs.Quarters.{writerOf, numberOf, Below, Numbered, Within, Roomy, Put, Grown};
+ghost use Rattle.levels.specs.Order.{actsBy};
+ghost use Rattle.unweave.specs.Lanes.{lanesOf, runDigits, columnDigits, kindDigits, headDigits, setDigits};
+ghost use Rattle.unweave.specs.Quarters.{writerOf, numberOf, Below, Numbered, Within, Roomy, RunAsked, Put, Grown};
 
 // The tributaries' writers, in order.
 pub struct Writers {
@@ -127,11 +128,7 @@ fn receive_many(
     w: Writers,
 ) -> Writers
     requires { ⌜
-        (now table ≡ tab 256 0 (lanesOf 2))
-        × (p + 128 ≤ 8 * length (now line))
-        × (p < 2 ^ 31)
-        × (4 * q ≤ length (now buffer))
-        × Roomy q (λ (j : ℕ). 32) w
+        RunAsked (now table) (now line) p (now buffer) q w 32
         ⌝ }
     ensures { λ r. ⌜ Grown q (now (buffer .entry)) (now (buffer .exit)) w r (runDigits (digitsOf (now (line .entry))) p 32) ⌝ }
 {
@@ -158,12 +155,7 @@ fn receive_wide(
     columns: usize,
 ) -> Writers
     requires { ⌜
-        (now table ≡ tab 256 0 (lanesOf 2))
-        × (p + 4 * columns ≤ 8 * length (now line))
-        × (p + 4 * columns < 2 ^ 31)
-        × (4 * q ≤ length (now buffer))
-        × (columns % 32 ≡ 0)
-        × Roomy q (λ (j : ℕ). columns) w0
+        (columns % 32 ≡ 0) × RunAsked (now table) (now line) p (now buffer) q w0 columns
         ⌝ }
     ensures { λ r. ⌜ Grown q (now (buffer .entry)) (now (buffer .exit)) w0 r (runDigits (digitsOf (now (line .entry))) p columns) ⌝ }
 {
@@ -187,12 +179,7 @@ fn receive_narrow(
     columns: usize,
 ) -> Writers
     requires { ⌜
-        (now table ≡ tab 256 0 (lanesOf 2))
-        × (p + 4 * columns ≤ 8 * length (now line))
-        × (p + 4 * columns < 2 ^ 31)
-        × (4 * q ≤ length (now buffer))
-        × (columns ≤ 32)
-        × Roomy q (λ (j : ℕ). columns) w
+        (columns ≤ 32) × RunAsked (now table) (now line) p (now buffer) q w columns
         ⌝ }
     ensures { λ r. ⌜ Grown q (now (buffer .entry)) (now (buffer .exit)) w r (runDigits (digitsOf (now (line .entry))) p columns) ⌝ }
 {
@@ -211,11 +198,7 @@ fn receive_columns(
     columns: usize,
 ) -> Writers
     requires { ⌜
-        (now table ≡ tab 256 0 (lanesOf 2))
-        × (p + 4 * columns ≤ 8 * length (now line))
-        × (p + 4 * columns < 2 ^ 31)
-        × (4 * q ≤ length (now buffer))
-        × Roomy q (λ (j : ℕ). columns) w
+        RunAsked (now table) (now line) p (now buffer) q w columns
         ⌝ }
     ensures { λ r. ⌜ Grown q (now (buffer .entry)) (now (buffer .exit)) w r (runDigits (digitsOf (now (line .entry))) p columns) ⌝ }
 {

@@ -1,12 +1,10 @@
 // The decisions of a recording, in at most 240 cells of equally many frames: which decisions each tributary has in a cell.
 use console::files;
 use levels::order;
-use passages::passage;
 use recordings::lengths;
 use table::Row;
 use timing::timed::From;
 ghost use Prim.Native.Nat.{_*_, _<_, _≤_};
-ghost use lib.ListN.{length};
 ghost use Rattle.levels.specs.Table.{Shared};
 ghost use Rattle.recordings.specs.Lengths.{longest};
 

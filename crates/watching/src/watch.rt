@@ -9,7 +9,6 @@ use rack::record::Record;
 use recordings::lengths;
 use table::Level;
 use table::Row;
-ghost use mathlib.Core.Path.{_≡_};
 ghost use Prim.Native.Nat.{_<_, _≤_};
 ghost use lib.ListN.{length};
 ghost use Rattle.levels.specs.Table.{Shared};

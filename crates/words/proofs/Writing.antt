@@ -1,14 +1,14 @@
 -- Laws of writing: a number's digits cut in two, four bytes stored, and what a writer has put out after n digits more.
-use mathlib.Core.Path.{_≡_, refl, sym, ap, ap₂, _∙_}
+use mathlib.Core.Path.{_≡_, refl, sym, ap, _∙_}
 use mathlib.Core.List.{List, [], _∷_, _++_, append-assoc, append-nil}
 use Prim.Native.Nat.{ℕ, zero, suc, _+_, _-_, _*_, _/_, _%_, _^_, _≤_, _<_}
 use native.Mathlib.Omega.{arith}
 use native.Mathlib.Nat.{add-zero, zero-add, suc-add}
-use lib.ListN.{length, getD, set, take, drop, length-append}
+use lib.ListN.{length, set, take, drop, length-append}
 use lib.Seq.{sets, sets-eq, length-take-le, take-at, drop-at, take-take, take-nil, drop-drop, drop-append-le}
 use lib.Arith.{digits-lt}
 use lib.Bits.{bitOr, bitAnd, or-shifted, and-mask, mask-lt}
-use lib.Pow.{shr-shr, field, mod-mod-pow, pow-pos, pow-add, high, low, shl-exact}
+use lib.Pow.{pow-add, shl-exact}
 use Rattle.digits.specs.Digits.{digitsOf, written}
 use Rattle.digits.proofs.Laws.{digits-append}
 use Rattle.digits.proofs.Written.{written-zero, written-mod, written-split, written-cat, byte-written}

@@ -1,7 +1,7 @@
 -- Digits by the word: a number's digits, and what a writer has put out.
 use mathlib.Core.Path.{_≡_}
 use mathlib.Core.List.{List, [], _∷_, _++_}
-use Prim.Native.Nat.{ℕ, zero, suc, _+_, _*_, _-_, _/_, _%_, _^_, _<_, _≤_}
+use Prim.Native.Nat.{ℕ, _+_, _*_, _-_, _/_, _%_, _^_, _<_, _≤_}
 use lib.ListN.{take, drop, replicate}
 use Rattle.digits.specs.Digits.{digitsOf, written}
 use Rattle.words.specs.declared.Writer.{Writer}

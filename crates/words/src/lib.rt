@@ -16,18 +16,12 @@ pub struct Writer {
     pub fill: usize,
 }
 
-fn wide(b: u8) -> u64
-    ensures { λ r. ⌜ (r ≡ b) × (r < 256) ⌝ }
-{
-    b as u64
-}
-
 // One byte more.
 fn join(hi: u64, b: u8) -> u64
     requires { ⌜ hi < 2 ^ 56 ⌝ }
     ensures { λ r. ⌜ r ≡ hi * 256 + b ⌝ }
 {
-    (hi << 8) | wide(b)
+    (hi << 8) | b as u64
 }
 
 // The 32 digits of four bytes as a number. Joined by shifts and `|`, the four loads become one.
@@ -35,7 +29,7 @@ pub fn load4(s: &[u8], at: usize) -> u64
     requires { ⌜ at + 4 ≤ length (now s) ⌝ }
     ensures { λ r. ⌜ (r ≡ windowAt (digitsOf (now (s .entry))) (8 * at) 32) × (r < 2 ^ 32) ⌝ }
 {
-    join(join(join(wide(s[at]), s[at + 1]), s[at + 2]), s[at + 3])
+    join(join(join(s[at] as u64, s[at + 1]), s[at + 2]), s[at + 3])
 }
 
 // The 64 digits of eight bytes.
@@ -54,7 +48,7 @@ fn read_short(s: &[u8], p: usize, n: usize) -> u64
     let mut r: u64 = 0;
     let mut k: usize = 0;
     while k < n {
-        r = r * 2 + wide(digits::digit_at(s, p + k));
+        r = r * 2 + digits::digit_at(s, p + k) as u64;
         k += 1;
     }
     r

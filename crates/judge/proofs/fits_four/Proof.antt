@@ -1,5 +1,4 @@
 -- `fits_four`: each tributary's own readings.
-use mathlib.Core.Path.{_≡_}
 use borrow.Author.Needs.{needs}
 use Rattle.judge.proofs.fits_four.Statement.{statement}
 use Rattle.judge.proofs.fits_four.Tie as tie

@@ -1,5 +1,4 @@
 -- `judge_by`: the readings, which of them fit, and the changes.
-use mathlib.Core.Path.{_≡_}
 use Rattle.judge.specs.Verdict.{judgement}
 use borrow.Author.Needs.{needs}
 use Rattle.judge.proofs.judge_by.Statement.{statement}

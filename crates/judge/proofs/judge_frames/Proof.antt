@@ -1,5 +1,4 @@
 -- `judge_frames`: the votes are read, and the room is lent.
-use mathlib.Core.Path.{_≡_}
 use native.Mathlib.Omega.{arith}
 use lib.ListN.{length}
 use Rattle.judge.proofs.Quartered.{lent-length}

@@ -1,5 +1,5 @@
 -- `judge_on`: refused by its number, or judged.
-use mathlib.Core.Path.{_≡_, sym, _∙_}
+use mathlib.Core.Path.{sym, _∙_}
 use borrow.Author.Tests.{ne-eqb}
 use Rattle.judge.proofs.Accepted.{judgeable}
 use borrow.Author.Needs.{needs}

@@ -1,6 +1,6 @@
 -- `read_votes`: the notes of the line, read into the places behind the first.
-use mathlib.Core.Path.{_≡_, _∙_}
-use Prim.Native.Nat.{_+_, _-_, _/_, _≤_}
+use mathlib.Core.Path.{_≡_}
+use Prim.Native.Nat.{_+_, _-_, _/_}
 use native.Mathlib.Omega.{arith}
 use lib.ListN.{length, take, drop}
 use Rattle.judge.proofs.Quartered.{lent-length, votes-read}

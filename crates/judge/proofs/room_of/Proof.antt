@@ -1,8 +1,6 @@
 -- `room_of`: F frames carry at most 47,360 digits of a tributary.
-use Prim.Native.Nat.{_≤_}
 use native.Mathlib.Omega.{arith}
 use Rattle.levels.proofs.Judged.{room-small}
-use borrow.Author.Needs.{needs}
 use Rattle.judge.proofs.room_of.Statement.{statement}
 use Rattle.judge.proofs.room_of.Tie as tie
 

@@ -44,11 +44,11 @@ idle-digit-requires c κs = (c .before .before .before .pre .0, c .before .loop-
 
 add-word : tie.Need-add-word Inv-loop μ-loop
 add-word c =
-    let l = c .before .before .before .before .loop in
-    omega (arith, l .inv .1, c .wide .ensures, c .before .idle-digit .ensures .1, pow-mono {i = l .j} {j = 4} (l .inv .0))
+    let l = c .before .before .before .loop in
+    omega (arith, l .inv .1, c .idle-digit .ensures .1, pow-mono {i = l .j} {j = 4} (l .inv .0))
 
 loop-less : tie.Need-loop-less Inv-loop μ-loop
-loop-less c = omega (arith, c .before .before .before .loop-test .taken)
+loop-less c = omega (arith, c .before .before .loop-test .taken)
 
 loop-again : tie.Need-loop-again Inv-loop μ-loop
 loop-again c =
@@ -56,19 +56,17 @@ loop-again c =
     let c2 = c1 .before in
     let c3 = c2 .before in
     let c4 = c3 .before in
-    let c5 = c4 .before in
-    let row = c5 .args .row in
-    let r = c5 .args .r in
-    let l = c4 .loop in
-    let d = c1 .idle-digit .ensures in
-    let idle = rw (c2 .kind-of .ensures) at (d .0) in
-    let none : (act : Action) → _ = first-idle row (c5 .pre .0) (r + l .j) (omega (arith, c3 .loop-test .taken, c5 .pre .1)) in
-    rw (c .wide .ensures) (
-      omega (arith, c3 .loop-test .taken),
+    let row = c4 .args .row in
+    let r = c4 .args .r in
+    let l = c3 .loop in
+    let d = c .idle-digit .ensures in
+    let idle = rw (c1 .kind-of .ensures) at (d .0) in
+    let none : (act : Action) → _ = first-idle row (c4 .pre .0) (r + l .j) (omega (arith, c2 .loop-test .taken, c4 .pre .1)) in (
+      omega (arith, c2 .loop-test .taken),
       window-more (l .j) (l .word) _ (l .inv .1) (d .1),
       λ acts buffer next.
-          placed-more row (c5 .args .note) acts 0 r buffer next (l .j) (l .word) next (l .inv .2 acts buffer next) (c3 .loop-test .taken) _ next
-          (placed-idle row (c5 .args .note) (acts (l .j)) _ (l .j) (r + l .j) buffer next _ (none (acts (l .j))) idle (d .1)),
+          placed-more row (c4 .args .note) acts 0 r buffer next (l .j) (l .word) next (l .inv .2 acts buffer next) (c2 .loop-test .taken) _ next
+          (placed-idle row (c4 .args .note) (acts (l .j)) _ (l .j) (r + l .j) buffer next _ (none (acts (l .j))) idle (d .1)),
     )
 
 returns : tie.Need-returns Inv-loop μ-loop
@@ -80,5 +78,5 @@ returns c acts buffer next =
 pub first-column-spec : {M : Type 1} → statement M
 first-column-spec =
     tie.close
-    (tie.spec Inv-loop μ-loop loop-holds add-place kind-of-requires mul-word idle-digit-requires (λ c κs. search needs) add-word (λ c. search needs)
+    (tie.spec Inv-loop μ-loop loop-holds add-place kind-of-requires mul-word idle-digit-requires (λ c. search needs) add-word (λ c. search needs)
     loop-less loop-again returns)

@@ -10,7 +10,7 @@ first-column-requires : tie.Need-first-column-requires
 unfolding headEnd
 first-column-requires c κs =
     let c2 = c .before .before in
-    (c2 .pre .0, omega (arith, rw (c .if1 .taken) at (c2 .pre .4), c2 .pre .3, c2 .pre .0 .first-fours))
+    (c2 .pre .1 .shared, omega (arith, rw (c .if1 .taken) at (c2 .pre .0), c2 .pre .1 .column, c2 .pre .1 .shared .first-fours))
 
 returns : tie.Need-returns
 returns c =
@@ -20,7 +20,7 @@ returns c =
 later-column-requires : tie.Need-later-column-requires
 later-column-requires c κs =
     let c3 = c .before .before .before in
-    (c3 .pre .0, c3 .pre .1, c3 .pre .2, omega (arith, c .before .if1 .left), c3 .pre .3, omega (arith, c3 .pre .4, head-end-short _ (c3 .pre .0) (c3 .args .set)), c3 .pre .5)
+    (omega (arith, c .before .if1 .left), omega (arith, c3 .pre .0, head-end-short _ (c3 .pre .1 .shared) (c3 .args .set)), c3 .pre .1)
 
 pub head-column-spec : {M : Type 1} → statement M
 head-column-spec = tie.close (tie.spec first-column-requires returns later-column-requires (λ c. search needs))

@@ -1,10 +1,10 @@
 -- `later_column`: the places so far, all of one kind (Placing).
 use mathlib.Core.Path.{_≡_, sym, _∙_}
-use Prim.Native.Nat.{ℕ, _+_, _-_, _≤_}
+use Prim.Native.Nat.{_+_, _-_, _≤_}
 use native.Mathlib.Omega.{arith}
 use borrow.Author.Needs.{needs}
 use lib.Pow.{pow-mono}
-use Rattle.levels.specs.Order.{stuffed, actionOf}
+use Rattle.levels.specs.Order.{actsBy}
 use Rattle.multiplex.specs.Sending.{PlacedTo}
 use Rattle.multiplex.proofs.Own.{word-within}
 use Rattle.multiplex.proofs.Placing.{placed-none, placed-now, placed-more, one-kind}
@@ -13,13 +13,13 @@ use Rattle.multiplex.proofs.later_column.Tie as tie
 
 abbrev Inv-loop : tie.InvT-loop
 Inv-loop row buffer next₀ preceding note set r kind word₀ j₀ next word j =
-    (j ≤ 4) × PlacedTo row note (λ (k : ℕ). actionOf row (stuffed preceding k) (stuffed note k)) set r buffer next₀ j word next
+    (j ≤ 4) × PlacedTo row note (actsBy row preceding note) set r buffer next₀ j word next
 
 abbrev μ-loop : tie.MeasureT-loop
 μ-loop row buffer next₀ preceding note set r kind word₀ j₀ next word j = 4 - j
 
 kind-of-requires : tie.Need-kind-of-requires Inv-loop μ-loop
-kind-of-requires c κs = c .before .pre .0
+kind-of-requires c κs = c .before .pre .2 .shared
 
 loop-holds : tie.Need-loop-holds Inv-loop μ-loop
 loop-holds c = (omega arith, placed-none _ _ _ _ _ _ _)
@@ -30,7 +30,7 @@ mul-word c =
     omega (arith, l .inv .1 .few, pow-mono {i = l .j} {j = 4} (l .inv .0))
 
 add-place-digit : tie.Need-add-place-digit Inv-loop μ-loop
-add-place-digit c = omega (arith, c .before .loop-test .taken, c .before .before .before .before .before .pre .5)
+add-place-digit c = omega (arith, c .before .loop-test .taken, c .before .before .before .before .before .pre .1)
 
 place-digit-requires : tie.Need-place-digit-requires Inv-loop μ-loop
 place-digit-requires c κs =
@@ -41,12 +41,12 @@ place-digit-requires c κs =
     let b = c5 .args in
     let l = c2 .loop in
     let j = l .j in
-    let same = c3 .kind-of .ensures ∙ sym (one-kind (b .row) (c5 .pre .0) (b .set) (b .r) j (c5 .pre .3) (c5 .pre .4) (c1 .loop-test .taken)) in
+    let same = c3 .kind-of .ensures ∙ sym (one-kind (b .row) (c5 .pre .2 .shared) (b .set) (b .r) j (c5 .pre .0) (c5 .pre .2 .column) (c1 .loop-test .taken)) in
     let now = placed-now _ _ _ _ _ _ _ j (l .word) (l .next) (l .inv .1) (c1 .loop-test .taken) in
-    let rely = c5 .pre .6 j (c1 .loop-test .taken) in (
-      c5 .pre .0,
-      c5 .pre .1,
-      l .inv .1 .kept ∙ c5 .pre .2,
+    let rely = c5 .pre .2 .rely j (c1 .loop-test .taken) in (
+      c5 .pre .2 .shared,
+      c5 .pre .2 .quarters,
+      l .inv .1 .kept ∙ c5 .pre .2 .four,
       c1 .loop-test .taken,
       λ e. word-within (b .row) (b .set) (b .r + j) (sym same ∙ e),
       rw now (rely .0),
@@ -55,24 +55,22 @@ place-digit-requires c κs =
 
 add-word : tie.Need-add-word Inv-loop μ-loop
 add-word c =
-    let l = c .before .before .before .before .loop in
-    omega (arith, l .inv .1 .few, c .wide .ensures, c .before .place-digit .ensures .binary, pow-mono {i = l .j} {j = 4} (l .inv .0))
+    let l = c .before .before .before .loop in
+    omega (arith, l .inv .1 .few, c .place-digit .ensures .binary, pow-mono {i = l .j} {j = 4} (l .inv .0))
 
 loop-less : tie.Need-loop-less Inv-loop μ-loop
-loop-less c = omega (arith, c .before .before .before .loop-test .taken)
+loop-less c = omega (arith, c .before .before .loop-test .taken)
 
 loop-again : tie.Need-loop-again Inv-loop μ-loop
 loop-again c =
-    let c1 = c .before in
-    let c3 = c1 .before .before in
+    let c2 = c .before .before in
+    let c3 = c2 .before in
     let c4 = c3 .before in
-    let c5 = c4 .before in
-    let c7 = c5 .before .before in
-    let b = c7 .args in
-    let l = c4 .loop in
-    let same = c5 .kind-of .ensures ∙ sym (one-kind (b .row) (c7 .pre .0) (b .set) (b .r) (l .j) (c7 .pre .3) (c7 .pre .4) (c3 .loop-test .taken)) in
-    rw (c .wide .ensures)
-    (omega (arith, c3 .loop-test .taken), placed-more _ _ _ _ _ _ _ (l .j) (l .word) (l .next) (l .inv .1) (c3 .loop-test .taken) _ _ (rw same at (c1 .place-digit .ensures)))
+    let c6 = c4 .before .before in
+    let b = c6 .args in
+    let l = c3 .loop in
+    let same = c4 .kind-of .ensures ∙ sym (one-kind (b .row) (c6 .pre .2 .shared) (b .set) (b .r) (l .j) (c6 .pre .0) (c6 .pre .2 .column) (c2 .loop-test .taken)) in
+    (omega (arith, c2 .loop-test .taken), placed-more _ _ _ _ _ _ _ (l .j) (l .word) (l .next) (l .inv .1) (c2 .loop-test .taken) _ _ (rw same at (c .place-digit .ensures)))
 
 returns : tie.Need-returns Inv-loop μ-loop
 returns c =
@@ -83,5 +81,5 @@ returns c =
 pub later-column-spec : {M : Type 1} → statement M
 later-column-spec =
     tie.close
-    (tie.spec Inv-loop μ-loop kind-of-requires loop-holds mul-word add-place-digit place-digit-requires (λ c κs. search needs) add-word (λ c. search needs)
+    (tie.spec Inv-loop μ-loop kind-of-requires loop-holds mul-word add-place-digit place-digit-requires (λ c. search needs) add-word (λ c. search needs)
     loop-less loop-again returns)

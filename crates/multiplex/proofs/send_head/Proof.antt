@@ -58,8 +58,10 @@ head-column-requires c κs =
     let rely =
     column-rely (b .row) (h .fits .shared) (b .f) (b .set) (l .r) (b .f * b .row .digits + b .set * b .row .set + l .r) (omega arith) (c9 .pre .1) (l .inv .5) inside
     (b .earlier) (b .notes .now) (preceding-of .result) (note-of .result) (l .inv .3) (l .inv .2) _ _ (h .fits) (c9 .pre .0) (b .buffer .now) (l .next) _
-    (l .inv .4 .sent) in
-    (h .fits .shared, c9 .pre .2, l .inv .4 .sent .four, l .inv .5, omega (arith, c1 .loop-test .taken, l .inv .1), rely)
+    (l .inv .4 .sent) in (
+      omega (arith, c1 .loop-test .taken, l .inv .1),
+      record { shared = h .fits .shared; quarters = c9 .pre .2; four = l .inv .4 .sent .four; column = l .inv .5; rely = rely },
+    )
 
 add-word : tie.Need-add-word Inv-loop μ-loop
 add-word c =

@@ -2,7 +2,7 @@
 use borrow.Author.Needs.{needs}
 use mathlib.Core.List.{List}
 use Prim.Native.Nat.{ℕ}
-use mathlib.Core.Path.{_≡_, refl, sym, _∙_, ap₂}
+use mathlib.Core.Path.{refl, sym, _∙_, ap₂}
 use borrow.Author.Tests.{eq-eqb, ne-eqb}
 use Rattle.plain.proofs.Judged.{readable}
 use Rattle.plain.proofs.read_notes_on.Statement.{statement}

@@ -1,10 +1,9 @@
 -- `swap_on`: refused by its number, or the tributary is written.
-use mathlib.Core.Path.{_≡_, refl, sym, _∙_, ap}
-use Prim.Native.Nat.{ℕ, _-_}
+use mathlib.Core.Path.{refl, sym, _∙_, ap}
+use Prim.Native.Nat.{ℕ}
 use native.Mathlib.Omega.{arith}
 use borrow.Author.Needs.{needs}
-use borrow.Author.Tests.{eq-eqb, ne-eqb}
-use Rattle.swap.specs.Swap.{refusedWith}
+use borrow.Author.Tests.{ne-eqb}
 use Rattle.swap.proofs.Accepted.{one-of-four, fits, line-left, digits-taken}
 use Rattle.swap.proofs.swap_on.Statement.{statement}
 use Rattle.swap.proofs.swap_on.Tie as tie

@@ -5,7 +5,6 @@ use native.Mathlib.Omega.{arith}
 use Rattle.digits.specs.Digits.{written}
 use Rattle.unweave.specs.Quarters.{numberOf}
 use Rattle.unweave.proofs.Four.{grown}
-use borrow.Author.Needs.{needs}
 use Rattle.unweave.proofs.put_four.Statement.{statement}
 use Rattle.unweave.proofs.put_four.Tie as tie
 

@@ -3,7 +3,8 @@ use mathlib.Core.Path.{_∙_, ap}
 use mathlib.Core.Bool.{Bool}
 use native.Mathlib.Omega.{arith}
 use Rattle.digits.specs.Digits.{digitsOf}
-use Rattle.unweave.specs.Lanes.{actsBy, columnDigits, kindDigits}
+use Rattle.levels.specs.Order.{actsBy}
+use Rattle.unweave.specs.Lanes.{columnDigits, kindDigits}
 use Rattle.unweave.proofs.Four.{put-as, grown}
 use borrow.Author.Needs.{needs}
 use Rattle.unweave.proofs.receive_column.Statement.{statement}

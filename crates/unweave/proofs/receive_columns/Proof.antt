@@ -11,8 +11,16 @@ use Rattle.unweave.proofs.receive_columns.Tie as tie
 
 receive-wide-requires : tie.Need-receive-wide-requires
 receive-wide-requires c κs =
-    let c3 = c .before .before .before in
-    (c3 .pre .0, omega (arith, c3 .pre .1), omega (arith, c3 .pre .2), c3 .pre .3, omega arith, roomy-less _ (c3 .pre .4) (λ j h. omega arith))
+    let c3 = c .before .before .before in (
+      omega arith,
+      record {
+        lanes = c3 .pre .lanes;
+        inside = omega (arith, c3 .pre .inside);
+        small = omega (arith, c3 .pre .small);
+        quarters = c3 .pre .quarters;
+        roomy = roomy-less _ (c3 .pre .roomy) (λ j h. omega arith);
+      },
+    )
 
 receive-narrow-requires : tie.Need-receive-narrow-requires
 receive-narrow-requires c κs =
@@ -20,12 +28,14 @@ receive-narrow-requires c κs =
     let c7 = c3 .before .before .before .before in
     let rest = c7 .args .columns % 32 in
     let many = c7 .args .columns - rest in (
-      c7 .pre .0,
-      omega (arith, c7 .pre .1),
-      omega (arith, c7 .pre .2),
-      omega (arith, c7 .pre .3, c3 .receive-wide .kept .1 .1 .1 .0),
       omega arith,
-      roomy-after (λ (j : ℕ). rest) (c3 .receive-wide .ensures) (c7 .pre .4) (λ j h. omega (arith, picked-length many (digitsOf (c7 .args .line .now)) (c7 .args .p + j))),
+      record {
+        lanes = c7 .pre .lanes;
+        inside = omega (arith, c7 .pre .inside);
+        small = omega (arith, c7 .pre .small);
+        quarters = omega (arith, c7 .pre .quarters, c3 .receive-wide .kept .1 .1 .1 .0);
+        roomy = roomy-after (λ (j : ℕ). rest) (c3 .receive-wide .ensures) (c7 .pre .roomy) (λ j h. omega (arith, picked-length many (digitsOf (c7 .args .line .now)) (c7 .args .p + j)));
+      },
     )
 
 same-length : tie.Need-same-length

@@ -3,7 +3,8 @@
 use Prim.Native.Nat.{_-_}
 use native.Mathlib.Omega.{arith}
 use Rattle.digits.specs.Digits.{digitsOf}
-use Rattle.unweave.specs.Lanes.{actsBy, headDigits}
+use Rattle.levels.specs.Order.{actsBy}
+use Rattle.unweave.specs.Lanes.{headDigits}
 use Rattle.unweave.proofs.Four.{grown-as, grown-none}
 use Rattle.unweave.proofs.Runs.{head-none, Heading, heading-none, heading-more, heading-room, heading-all}
 use borrow.Author.Needs.{needs}

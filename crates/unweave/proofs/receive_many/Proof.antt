@@ -21,7 +21,7 @@ put-four-requires c κs =
     let c4 = c3 .before in
     let c15 = c4 .before .before .before .before .before .before .before .before .before .before .before in
     let below = of-four (λ (j : ℕ). numberOf _ j < 2 ^ 32) (c4 .both .ensures .1) (c3 .both2 .ensures .1) (c2 .both3 .ensures .1) (c1 .both4 .ensures .1) in
-    (c15 .pre .3, omega arith, below, c15 .pre .4)
+    (c15 .pre .quarters, omega arith, below, c15 .pre .roomy)
 
 returns : tie.Need-returns
 returns c =

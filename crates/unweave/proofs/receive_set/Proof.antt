@@ -5,7 +5,8 @@ use lib.ListN.{length-append}
 use Rattle.digits.specs.Digits.{digitsOf}
 use Rattle.levels.specs.Places.{headEnd}
 use Rattle.levels.proofs.Runs.{head-end-in, head-end-short}
-use Rattle.unweave.specs.Lanes.{runDigits, actsBy, headDigits}
+use Rattle.levels.specs.Order.{actsBy}
+use Rattle.unweave.specs.Lanes.{runDigits, headDigits}
 use Rattle.unweave.proofs.Four.{roomy-less, roomy-after, grown-more}
 use Rattle.unweave.proofs.Runs.{picked-length, set-short}
 use borrow.Author.Needs.{needs}
@@ -48,14 +49,14 @@ receive-columns-requires c κs =
     let end = headEnd (c9 .args .row) (c9 .args .s) in
     let head = headDigits (c9 .args .row) ds (c9 .args .p) (c9 .args .s) (actsBy (c9 .args .row) (c9 .args .preceding) (c9 .args .note)) in
     let run = (c9 .args .row .set - end) / 4 in
-    rw (c6 .head-end .ensures) (
-      c9 .pre .0,
-      omega (arith, c9 .pre .2, head-end-in (c9 .args .row) (c9 .pre .1) (c9 .args .s)),
-      omega (arith, c9 .pre .3, head-end-in (c9 .args .row) (c9 .pre .1) (c9 .args .s), set-short (c9 .args .row) (c9 .pre .1)),
-      omega (arith, c9 .pre .4, c4 .receive-head .kept .1 .1 .1 .1 .1 .1 .0),
-      roomy-after (λ (j : ℕ). run) (c4 .receive-head .ensures) (c9 .pre .5)
-          (λ j h. omega (arith, length-append (head j) (runDigits ds (c9 .args .p + end) run j), picked-length run ds (c9 .args .p + end + j))),
-    )
+    rw (c6 .head-end .ensures) (record {
+      lanes = c9 .pre .0;
+      inside = omega (arith, c9 .pre .2, head-end-in (c9 .args .row) (c9 .pre .1) (c9 .args .s));
+      small = omega (arith, c9 .pre .3, head-end-in (c9 .args .row) (c9 .pre .1) (c9 .args .s), set-short (c9 .args .row) (c9 .pre .1));
+      quarters = omega (arith, c9 .pre .4, c4 .receive-head .kept .1 .1 .1 .1 .1 .1 .0);
+      roomy = roomy-after (λ (j : ℕ). run) (c4 .receive-head .ensures) (c9 .pre .5)
+          (λ j h. omega (arith, length-append (head j) (runDigits ds (c9 .args .p + end) run j), picked-length run ds (c9 .args .p + end + j)));
+    })
 
 returns : tie.Need-returns
 returns c =

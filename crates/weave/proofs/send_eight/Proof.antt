@@ -1,5 +1,4 @@
 -- `send_eight` puts out what the table weaves of eight digits of each.
-use Prim.Native.Nat.{_-_}
 use native.Mathlib.Omega.{arith}
 use borrow.Author.Needs.{needs}
 use Rattle.weave.proofs.send_eight.Statement.{statement}

@@ -1,6 +1,5 @@
 -- `send_many` puts out four times eight columns; the line keeps its length from one to the next.
 use mathlib.Core.Path.{_≡_, _∙_}
-use Prim.Native.Nat.{_-_}
 use native.Mathlib.Omega.{arith}
 use borrow.Author.Needs.{needs}
 use lib.ListN.{length}

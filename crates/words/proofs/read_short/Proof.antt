@@ -30,7 +30,7 @@ digit-at-requires : tie.Need-digit-at-requires Inv-loop μ-loop
 digit-at-requires c κs = omega arith
 
 add-r : tie.Need-add-r Inv-loop μ-loop
-add-r c = omega (arith, pow-mono {i = c .before .before .before .loop .k} {j = 32} (omega arith))
+add-r c = omega (arith, pow-mono {i = c .before .before .loop .k} {j = 32} (omega arith))
 
 add-k : tie.Need-add-k Inv-loop μ-loop
 add-k c = omega arith
@@ -41,9 +41,9 @@ loop-less c = omega arith
 loop-again : tie.Need-loop-again Inv-loop μ-loop
 unfolding windowAt
 loop-again c =
-    let l = c .before .before .before .loop in
-    let d = c .before .digit-at .ensures in
-    (omega arith, rw (add-one (l .k), c .wide .ensures .0, d .0, l .inv .1) refl, rw (c .wide .ensures .0) (window-more (l .k) (l .r) (c .before .digit-at .result) (l .inv .2) (d .1)))
+    let l = c .before .before .loop in
+    let d = c .digit-at .ensures in
+    (omega arith, rw (add-one (l .k), d .0, l .inv .1) refl, window-more (l .k) (l .r) (c .digit-at .result) (l .inv .2) (d .1))
 
 returns : tie.Need-returns Inv-loop μ-loop
 returns c =
@@ -54,5 +54,5 @@ returns c =
 pub read-short-spec : {M : Type 1} → statement M
 read-short-spec =
     tie.close
-    (tie.spec Inv-loop μ-loop loop-holds mul-r add-digit-at digit-at-requires (λ c κs. search needs) add-r add-k loop-less loop-again
+    (tie.spec Inv-loop μ-loop loop-holds mul-r add-digit-at digit-at-requires (λ c. search needs) add-r add-k loop-less loop-again
     returns)

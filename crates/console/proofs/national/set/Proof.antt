@@ -1,7 +1,6 @@
 -- What is written keeps its length, and a note below 32 with the bits over it is a byte.
 use mathlib.Core.Path.{_≡_}
 use Prim.Native.Nat.{_-_}
-use native.Mathlib.Omega.{arith}
 use borrow.Author.Needs.{needs}
 use lib.ListN.{length}
 use Rattle.console.proofs.national.set.Statement.{statement}

@@ -1,7 +1,7 @@
 -- `zeros_by_digit` meets its contract: the zeros so far are those of the part so far.
 use borrow.Author.Needs.{needs}
 use native.Mathlib.Omega.{arith}
-use mathlib.Core.Path.{_≡_, sym}
+use mathlib.Core.Path.{_≡_}
 use Prim.Native.Nat.{_-_, _≤_}
 use Rattle.digits.specs.Digits.{between, zerosIn}
 use Rattle.digits.proofs.ZeroLaws.{zeros-none, zeros-one, zeros-join}
@@ -21,10 +21,10 @@ digit-at-requires : tie.Need-digit-at-requires Inv-loop μ-loop
 digit-at-requires c κs = omega arith
 
 sub-zeros : tie.Need-sub-zeros Inv-loop μ-loop
-sub-zeros c = omega (arith, c .wide .ensures, c .before .digit-at .ensures .1)
+sub-zeros c = omega (arith, c .digit-at .ensures .1)
 
 add-zeros : tie.Need-add-zeros Inv-loop μ-loop
-add-zeros c = omega (arith, c .before .before .before .loop .inv .3)
+add-zeros c = omega (arith, c .before .before .loop .inv .3)
 
 add-p : tie.Need-add-p Inv-loop μ-loop
 add-p c = omega arith
@@ -34,9 +34,8 @@ loop-less c = omega arith
 
 loop-again : tie.Need-loop-again Inv-loop μ-loop
 loop-again c =
-    let l = c .before .before .before .loop in
-    let d = rw (sym (c .wide .ensures)) at (c .before .digit-at .ensures .0) in
-    (omega arith, omega arith, zeros-join _ _ (l .p) _ _ _ (l .inv .0) (omega arith) (l .inv .2) (zeros-one _ (l .p) _ (omega arith) d), omega (arith, l .inv .3, l .inv .0))
+    let l = c .before .before .loop in
+    (omega arith, omega arith, zeros-join _ _ (l .p) _ _ _ (l .inv .0) (omega arith) (l .inv .2) (zeros-one _ (l .p) _ (omega arith) (c .digit-at .ensures .0)), omega (arith, l .inv .3, l .inv .0))
 
 returns : tie.Need-returns Inv-loop μ-loop
 returns c =
@@ -46,4 +45,4 @@ returns c =
 
 pub zeros-by-digit-spec : {M : Type 1} → statement M
 zeros-by-digit-spec =
-    tie.close (tie.spec Inv-loop μ-loop loop-holds digit-at-requires (λ c κs. search needs) sub-zeros add-zeros add-p loop-less loop-again returns)
+    tie.close (tie.spec Inv-loop μ-loop loop-holds digit-at-requires (λ c. search needs) sub-zeros add-zeros add-p loop-less loop-again returns)

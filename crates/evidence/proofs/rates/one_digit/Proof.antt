@@ -1,6 +1,5 @@
 -- A product of numbers that are bounded, and a part of it.
 use native.Mathlib.Omega.{arith}
-use borrow.Author.Needs.{needs}
 use borrow.Author.Tests.{lt-leb, le-leb}
 use Rattle.evidence.proofs.Division.{product-at-most}
 use Rattle.evidence.proofs.rates.one_digit.Statement.{statement}

@@ -1,5 +1,4 @@
 -- Ten times what is left is divided, and the quotient of that is a digit.
-use mathlib.Core.Path.{_≡_}
 use Prim.Native.Nat.{_*_}
 use native.Mathlib.Omega.{arith}
 use native.Mathlib.Nat.{mod-lt}

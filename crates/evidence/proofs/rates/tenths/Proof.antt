@@ -1,8 +1,8 @@
 -- Seven times ten times the quotient and what is left, from the first on.
-use Prim.Native.Nat.{ℕ, _*_, _+_}
-use mathlib.Core.Path.{_≡_, sym, _∙_, ap}
+use Prim.Native.Nat.{ℕ, _*_}
+use mathlib.Core.Path.{_≡_, _∙_, ap}
 use native.Mathlib.Omega.{arith}
-use native.Mathlib.Nat.{mod-lt, div-add-mod', div-le-of-le-mul}
+use native.Mathlib.Nat.{mod-lt, div-add-mod'}
 use borrow.Author.Needs.{needs}
 use Rattle.evidence.proofs.Division.{quotient-is, at-most-one}
 use Rattle.evidence.proofs.rates.tenths.Statement.{statement}

@@ -1,9 +1,6 @@
 -- Off by more than all of it, off nothing, or a part of it.
-use mathlib.Core.Path.{_≡_, refl, sym, _∙_, ap}
-use native.Mathlib.Omega.{arith}
+use mathlib.Core.Path.{_∙_}
 use borrow.Author.Needs.{needs}
-use borrow.Author.Tests.{lt-ltb, le-ltb}
-use Rattle.evidence.specs.Rates.{tenthsOff}
 use Rattle.evidence.proofs.Division.{off-all, off-none, off-part}
 use Rattle.evidence.proofs.rates.tenths_off.Statement.{statement}
 use Rattle.evidence.proofs.rates.tenths_off.Tie as tie

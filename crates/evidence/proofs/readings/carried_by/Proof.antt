@@ -1,5 +1,4 @@
 -- What the frame does is told.
-use mathlib.Core.Path.{_∙_}
 use borrow.Author.Needs.{needs}
 use Rattle.evidence.proofs.readings.carried_by.Statement.{statement}
 use Rattle.evidence.proofs.readings.carried_by.Tie as tie

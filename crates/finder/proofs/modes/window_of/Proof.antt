@@ -7,7 +7,7 @@ use Rattle.finder.proofs.modes.window_of.Tie as tie
 
 returns : tie.Need-returns
 unfolding windowOf
-returns c = rw (c .wide .ensures) (and-mask _ 7)
+returns c = and-mask _ 7
 
 pub window-of-spec : {M : Type 1} → statement M
-window-of-spec = tie.close (tie.spec (λ c. search needs) (λ c κs. search needs) (λ c. search needs) returns)
+window-of-spec = tie.close (tie.spec (λ c. search needs) (λ c. search needs) returns)

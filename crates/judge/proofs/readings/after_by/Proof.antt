@@ -1,6 +1,5 @@
 -- `after_by`: the votes moved towards the beginning, the unknown one behind them.
 use mathlib.Core.Path.{_≡_, _∙_, ap}
-use mathlib.Core.List.{List}
 use Prim.Native.Nat.{ℕ, _+_, _-_, _/_}
 use native.Mathlib.Omega.{arith}
 use lib.ListN.{length, set, take, drop}
@@ -32,7 +31,7 @@ returns c =
     let e : F + 2 - 2 ≡ F = omega arith in
     let moved = set (a .votes) (F + 1) (a .unknown) in
     let notes = ap (λ (n : ℕ). take n (drop 2 moved)) e ∙ early-votes (s .pre .1) (a .unknown) few in
-    let first = c .before .before .before .before .before .before .wide .ensures ∙ early-first (s .pre .1) (a .unknown) few in
+    let first = c .before .before .before .before .before .before .as-earlier .ensures ∙ early-first (s .pre .1) (a .unknown) few in
     c .before .before .wrong-by .ensures
     ∙ by-votes (a .row) line (a .pattern) (a .buffer .now) (afterVotes (majorities (a .row) line) (a .unknown)) first notes
 

@@ -1,6 +1,5 @@
 -- `before_by`: the votes moved towards the end, the vote before them first.
 use mathlib.Core.Path.{_≡_, refl, _∙_, ap}
-use mathlib.Core.List.{List}
 use Prim.Native.Nat.{ℕ, _-_, _/_}
 use native.Mathlib.Omega.{arith}
 use lib.ListN.{length, set, take}

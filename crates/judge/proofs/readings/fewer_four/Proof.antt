@@ -1,5 +1,4 @@
 -- `fewer_four`: each tributary's own counts.
-use mathlib.Core.Path.{_≡_}
 use borrow.Author.Needs.{needs}
 use Rattle.judge.proofs.readings.fewer_four.Statement.{statement}
 use Rattle.judge.proofs.readings.fewer_four.Tie as tie

@@ -1,5 +1,5 @@
 -- `vote_before`: the earlier vote, which is at most 15 where the level looks at it, or the unknown one.
-use mathlib.Core.Path.{_≡_, sym, _∙_}
+use mathlib.Core.Path.{sym, _∙_}
 use native.Mathlib.Omega.{arith}
 use Prim.Native.Nat.{_≤_}
 use borrow.Author.Needs.{needs}

@@ -1,5 +1,4 @@
 -- `wrong_of` lends the quarters of a tributary.
-use mathlib.Core.Path.{_≡_, _∙_, ap}
 use native.Mathlib.Omega.{arith}
 use lib.ListN.{length}
 use Rattle.levels.proofs.Buffers.{quarter-in, quarter-part, quarter-length}

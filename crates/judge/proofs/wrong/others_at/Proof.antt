@@ -1,6 +1,4 @@
 -- `others_at` counts ones of a difference; that these are the places at which the digits differ is a law of Differing.
-use mathlib.Core.Path.{_≡_}
-use Prim.Native.Nat.{_≤_}
 use native.Mathlib.Omega.{arith}
 use borrow.Author.Needs.{needs}
 use Rattle.digits.specs.Digits.{digitsOf}

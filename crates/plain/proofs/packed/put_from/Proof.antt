@@ -1,5 +1,4 @@
 -- `put_from`: the changed byte changes one digit of the slice, and every element is still a byte.
-use mathlib.Core.Path.{_≡_}
 use borrow.Author.Needs.{needs}
 use native.Mathlib.Omega.{arith}
 use Prim.Native.Nat.{_+_, _/_}

@@ -1,5 +1,4 @@
 -- `quarter_digit` is `quarterDigit`: the digit lies in its quarter, or past the end.
-use mathlib.Core.Path.{_∙_}
 use borrow.Author.Needs.{needs}
 use native.Mathlib.Omega.{arith}
 use lib.ListN.{length}

@@ -1,6 +1,6 @@
 -- `count_vote`: a control digit is counted at its tributary and its value, any other digit nowhere.
 use borrow.Author.Needs.{needs}
-use mathlib.Core.Path.{_≡_, refl, sym, _∙_, ap}
+use mathlib.Core.Path.{sym, _∙_, ap}
 use native.Mathlib.Omega.{arith}
 use Prim.Native.Nat.{_+_, _*_, _%_}
 use lib.ListN.{getD, length-set}
@@ -11,20 +11,18 @@ use Rattle.plain.proofs.reading.count_vote.Tie as tie
 
 add-votes : tie.Need-add-votes
 add-votes c =
-    let c5 = c .before .before .before .before .before in
-    rw (c .before .wide .ensures) (omega (arith, c5 .pre .4))
+    omega (arith, c .before .before .before .before .pre .4)
 
 returns : tie.Need-returns
 returns c =
-    let c3 = c .before .before .before in
+    let c2 = c .before .before in
+    let c3 = c2 .before in
     let c4 = c3 .before in
-    let c5 = c4 .before in
-    let a = c5 .args in
+    let a = c4 .args in
     let at = 4 * a .d + a .q % 4 in
-    let yes = ap isControl (sym (c4 .place-in .ensures)) ∙ sym (c3 .is-control .ensures) ∙ c .before .before .if1 .taken in
-    rw (c .before .wide .ensures) (
-      length-set (a .votes .now) at (getD (a .votes .now) at 0 + 1) ∙ c5 .pre .3,
-      λ j v hj hv. vote-counted (a .votes .now) (c5 .pre .3) (a .q) (a .d) (c5 .pre .2) j v hj hv ∙ sym (rw (control-votes j v (a .q) (a .d) _, yes)),
+    let yes = ap isControl (sym (c3 .place-in .ensures)) ∙ sym (c2 .is-control .ensures) ∙ c .before .if1 .taken in (
+      length-set (a .votes .now) at (getD (a .votes .now) at 0 + 1) ∙ c4 .pre .3,
+      λ j v hj hv. vote-counted (a .votes .now) (c4 .pre .3) (a .q) (a .d) (c4 .pre .2) j v hj hv ∙ sym (rw (control-votes j v (a .q) (a .d) _, yes)),
     )
 
 returns-2 : tie.Need-returns-2
@@ -37,5 +35,5 @@ returns-2 c =
 pub count-vote-spec : {M : Type 1} → statement M
 count-vote-spec =
     tie.close
-    (tie.spec (λ c κs. search needs) (λ c κs. search needs) (λ c κs. search needs) (λ c. search needs) (λ c. search needs)
+    (tie.spec (λ c κs. search needs) (λ c κs. search needs) (λ c. search needs) (λ c. search needs)
     (λ c. search needs) (λ c. search needs) add-votes (λ c. search needs) returns returns-2)

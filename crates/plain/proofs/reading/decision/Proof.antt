@@ -1,6 +1,6 @@
 -- `decision`: more ones than zeros, or not.
 use borrow.Author.Needs.{needs}
-use mathlib.Core.Path.{_≡_, refl, sym, _∙_, ap}
+use mathlib.Core.Path.{refl}
 use native.Mathlib.Omega.{arith}
 use borrow.Author.Tests.{lt-ltb, le-ltb}
 use Rattle.plain.proofs.reading.decision.Statement.{statement}

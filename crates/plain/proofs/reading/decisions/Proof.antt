@@ -1,6 +1,5 @@
 -- `decisions`: the four decisions, each with its worth.
 use borrow.Author.Needs.{needs}
-use mathlib.Core.Path.{_≡_, refl, sym, _∙_, ap}
 use native.Mathlib.Omega.{arith}
 use Rattle.plain.specs.Walk.{decisionsOf}
 use Rattle.plain.proofs.reading.decisions.Statement.{statement}

@@ -1,8 +1,8 @@
 -- `hear_place`: one place of a frame, by the laws of Votes.
 use borrow.Author.Needs.{needs}
-use mathlib.Core.Path.{_≡_, refl, sym, _∙_, ap}
+use mathlib.Core.Path.{_∙_}
 use native.Mathlib.Omega.{arith}
-use Prim.Native.Nat.{_+_, _*_, _%_}
+use Prim.Native.Nat.{_%_}
 use Rattle.plain.proofs.Packing.{from-start}
 use Rattle.plain.proofs.Votes.{votes-most, voted-more}
 use Rattle.plain.proofs.reading.hear_place.Statement.{statement}

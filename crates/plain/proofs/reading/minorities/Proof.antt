@@ -1,6 +1,5 @@
 -- `minorities`: one for each tributary.
 use borrow.Author.Needs.{needs}
-use mathlib.Core.Path.{_≡_, refl, sym, _∙_, ap}
 use Rattle.plain.specs.Walk.{minoritiesOf}
 use Rattle.plain.proofs.reading.minorities.Statement.{statement}
 use Rattle.plain.proofs.reading.minorities.Tie as tie

@@ -1,6 +1,6 @@
 -- `said_by`: what the frame's votes and service digits say.
 use borrow.Author.Needs.{needs}
-use mathlib.Core.Path.{_≡_, refl, sym, _∙_, ap}
+use mathlib.Core.Path.{_∙_}
 use Rattle.plain.proofs.Votes.{voted-start, note-by, minorities-by}
 use Rattle.plain.proofs.reading.said_by.Statement.{statement}
 use Rattle.plain.proofs.reading.said_by.Tie as tie

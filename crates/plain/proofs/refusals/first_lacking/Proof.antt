@@ -1,11 +1,10 @@
 -- `first_lacking`: the notes passed have their bits for national use all 1, so what is left of the search is what is left of the list.
-use mathlib.Core.Path.{_≡_, sym}
-use Prim.Native.Nat.{ℕ, _≤_, _+_, _-_}
+use mathlib.Core.Path.{_≡_}
+use Prim.Native.Nat.{_≤_, _+_, _-_}
 use native.Mathlib.Omega.{arith}
 use borrow.Author.Needs.{needs}
 use borrow.Author.Tests.{lt-ltb, le-ltb}
 use lib.ListN.{length, drop}
-use Rattle.table.specs.declared.Row.{Row}
 use Rattle.plain.specs.Engine.{firstWith, tooFew}
 use Rattle.plain.proofs.Search.{found-here, not-here, none-left}
 use Rattle.plain.proofs.refusals.first_lacking.Statement.{statement}

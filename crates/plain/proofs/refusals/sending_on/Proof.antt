@@ -1,8 +1,6 @@
 -- `sending_on` is `sendingOn`: each return rewrites with the tests that lead to it.
-use mathlib.Core.Path.{_≡_, sym, _∙_, ap}
 use borrow.Author.Needs.{needs}
 use borrow.Author.Tests.{lt-ltb, le-ltb, eq-eqb, ne-eqb}
-use Rattle.plain.specs.declared.refusals.Verdict.{Verdict}
 use Rattle.plain.specs.Engine.{sendingOn}
 use Rattle.plain.proofs.refusals.sending_on.Statement.{statement}
 use Rattle.plain.proofs.refusals.sending_on.Tie as tie

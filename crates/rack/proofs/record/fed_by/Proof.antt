@@ -1,5 +1,4 @@
 -- `fed_by` is `fedBy`: refused, or fed.
-use mathlib.Core.Path.{_∙_, sym}
 use borrow.Author.Needs.{needs}
 use borrow.Author.Tests.{lt-ltb, le-ltb}
 use Rattle.rack.specs.Record.{fedBy}

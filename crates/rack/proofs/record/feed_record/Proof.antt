@@ -1,5 +1,4 @@
 -- The record kept and the answer are those of the receiver that the record keeps.
-use mathlib.Core.Path.{refl}
 use borrow.Author.Needs.{needs}
 use Rattle.rack.proofs.record.feed_record.Statement.{statement}
 use Rattle.rack.proofs.record.feed_record.Tie as tie

@@ -1,7 +1,6 @@
 -- The mode aligned has the numbers from 3 on.
 use mathlib.Core.Path.{sym}
 use Rattle.rack.proofs.Modes.{aligned-from-3}
-use borrow.Author.Needs.{needs}
 use Rattle.rack.proofs.record.is_aligned.Statement.{statement}
 use Rattle.rack.proofs.record.is_aligned.Tie as tie
 

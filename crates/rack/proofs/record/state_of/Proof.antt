@@ -1,5 +1,4 @@
 -- The state that a record keeps: its mode is as `mode_of` gives it.
-use mathlib.Core.Path.{refl}
 use borrow.Author.Needs.{needs}
 use Rattle.rack.proofs.record.state_of.Statement.{statement}
 use Rattle.rack.proofs.record.state_of.Tie as tie

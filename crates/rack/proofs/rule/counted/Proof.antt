@@ -1,7 +1,6 @@
 -- None of a list of more than 64, else all.
 use borrow.Author.Tests.{lt-ltb, le-ltb}
 use Rattle.rack.specs.Rack.{countedTo}
-use borrow.Author.Needs.{needs}
 use Rattle.rack.proofs.rule.counted.Statement.{statement}
 use Rattle.rack.proofs.rule.counted.Tie as tie
 

@@ -1,7 +1,6 @@
 -- 8 first, 2 next: each return rewrites with the tests that lead to it.
 use borrow.Author.Tests.{lt-ltb, le-ltb, le-leb, lt-leb}
 use Rattle.rack.specs.Rack.{listRefusal}
-use borrow.Author.Needs.{needs}
 use Rattle.rack.proofs.rule.list_refusal.Statement.{statement}
 use Rattle.rack.proofs.rule.list_refusal.Tie as tie
 

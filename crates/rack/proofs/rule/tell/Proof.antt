@@ -2,7 +2,6 @@
 use mathlib.Core.Path.{refl}
 use borrow.Author.Tests.{lt-ltb, le-ltb}
 use Rattle.rack.specs.Rack.{countRefusal}
-use borrow.Author.Needs.{needs}
 use Rattle.rack.proofs.rule.tell.Statement.{statement}
 use Rattle.rack.proofs.rule.tell.Tie as tie
 

@@ -16,7 +16,7 @@ use prog.Wp.{Heap, WpFn, Tables}
 use ghost.Atoms.{Atoms}
 use contract.Monad.{Fun, fact}
 use contract.Running.{givenOf, tables, tablesOf}
-use types.Kit.{Given, ‵, _⊛_, ⋆, _$_, _∵_, !, qed, by, move, keep, drop, use1, use2, split, join, rewrite, fsplit, fjoin, feqL, suffices, frame, done}
+use types.Kit.{Given, ‵, _⊛_, ⋆, _$_, _∵_, !, qed, by, move, drop, use1, use2, split, join, rewrite, fsplit, fjoin, feqL, suffices, frame, done}
 use types.Kit.{raw, some, later, pick, await}
 use types.Run.{look, init, forget, stop, hop, fld, from, load, addr, assigns, returns, enter, alloc1, alloc0, params1, pass1, pass0, free1, free0, and-then, no-more, land}
 use types.Part.{agg, whole, sub, look-in}

@@ -1,5 +1,5 @@
 -- `put_eight`: four bytes of the line, as they were but for the tributary's places.
-use mathlib.Core.Path.{_≡_, _∙_}
+use mathlib.Core.Path.{_∙_}
 use native.Mathlib.Omega.{arith}
 use borrow.Author.Needs.{needs}
 use Rattle.digits.specs.Digits.{Bytes}

@@ -1,21 +1,21 @@
--- `count_others` counts up to 32 digits a turn. The invariant: the count so far, which is no more than the digits behind it.
-use mathlib.Core.Path.{_≡_, refl, sym, _∙_}
+-- `count_wrong` counts up to 32 digits a turn. The invariant: the count so far, which is no more than the digits behind it.
+use mathlib.Core.Path.{_≡_, refl}
 use Prim.Native.Nat.{_≤_, _-_}
 use native.Mathlib.Omega.{arith}
 use Rattle.digits.specs.Digits.{digitsOf}
 use Rattle.digits.specs.Sums.{sumTo}
-use Rattle.judge.specs.Counting.{otherTo}
-use Rattle.judge.proofs.wrong.count_others.Statement.{statement}
-use Rattle.judge.proofs.wrong.count_others.Tie as tie
+use Rattle.judge.specs.Counting.{wrongTo}
+use Rattle.judge.proofs.wrong.count_wrong.Statement.{statement}
+use Rattle.judge.proofs.wrong.count_wrong.Tie as tie
 
 abbrev Inv-loop : tie.InvT-loop
-Inv-loop read sent n wrong₀ p₀ wrong p = (p ≤ n) × (wrong ≡ otherTo (digitsOf read) (digitsOf sent) p) × (wrong ≤ p)
+Inv-loop pattern sent read n wrong₀ p₀ wrong p = (p ≤ n) × (wrong ≡ wrongTo pattern (digitsOf sent) (digitsOf read) p) × (wrong ≤ p)
 
 abbrev μ-loop : tie.MeasureT-loop
-μ-loop read sent n wrong₀ p₀ wrong p = n - p
+μ-loop pattern sent read n wrong₀ p₀ wrong p = n - p
 
 loop-holds : tie.Need-loop-holds Inv-loop μ-loop
-unfolding otherTo sumTo
+unfolding wrongTo sumTo
 loop-holds c = (omega arith, refl, omega arith)
 
 sub-at-most : tie.Need-sub-at-most Inv-loop μ-loop
@@ -24,8 +24,10 @@ sub-at-most c = omega arith
 at-most-requires : tie.Need-at-most-requires Inv-loop μ-loop
 at-most-requires c κs = (omega arith, omega arith)
 
-others-at-requires : tie.Need-others-at-requires Inv-loop μ-loop
-others-at-requires c κs = (omega arith, omega arith, omega arith, omega arith)
+wrong-at-requires : tie.Need-wrong-at-requires Inv-loop μ-loop
+wrong-at-requires c κs =
+    let pre = c .before .before .before .before .before .pre in
+    (pre .0, λ e. omega (arith, pre .1 e), omega arith, omega arith, omega arith, omega arith)
 
 add-wrong : tie.Need-add-wrong Inv-loop μ-loop
 add-wrong c = omega arith
@@ -39,7 +41,7 @@ loop-less c = omega arith
 loop-again : tie.Need-loop-again Inv-loop μ-loop
 loop-again c =
     let l = c .before .before .before .loop in
-    let some = c .others-at .ensures in
+    let some = c .wrong-at .ensures in
     (omega arith, omega (arith, some .0, l .inv .1), omega arith)
 
 returns : tie.Need-returns Inv-loop μ-loop
@@ -48,7 +50,7 @@ returns c =
     let end : l .p ≡ c .before .before .before .before .args .n = omega arith in
     rw (← end) (l .inv .1)
 
-pub count-others-spec : {M : Type 1} → statement M
-count-others-spec =
+pub count-wrong-spec : {M : Type 1} → statement M
+count-wrong-spec =
     tie.close
-    (tie.spec Inv-loop μ-loop loop-holds sub-at-most at-most-requires others-at-requires add-wrong add-p loop-less loop-again returns)
+    (tie.spec Inv-loop μ-loop loop-holds sub-at-most at-most-requires wrong-at-requires add-wrong add-p loop-less loop-again returns)
