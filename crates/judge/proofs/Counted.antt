@@ -7,10 +7,10 @@ use lib.ListN.{length, take}
 use lib.Seq.{length-take-le, getD-take}
 use Rattle.digits.proofs.Sums.{sum-same}
 use Rattle.judge.specs.Wrong.{stageOf, dueAt, wrongAt, wrongIn}
-use Rattle.judge.specs.Counting.{wrongTo}
+use Rattle.judge.specs.Counting.{wrongAmong}
 
-pub wrong-counted : (pattern : ℕ) (ds sent : List ℕ) (n : ℕ) → n ≤ length ds → wrongTo pattern sent ds (n - pattern) ≡ wrongIn pattern sent (take n ds)
-unfolding wrongTo wrongIn dueAt
+pub wrong-counted : (pattern : ℕ) (ds sent : List ℕ) (n : ℕ) → n ≤ length ds → wrongAmong pattern sent ds (n - pattern) ≡ wrongIn pattern sent (take n ds)
+unfolding wrongAmong wrongIn dueAt
 wrong-counted pattern ds sent n h =
     rw (length-take-le n ds h)
     (sum-same (n - pattern) (λ (k : ℕ). wrongAt pattern sent ds (pattern + k)) (λ (k : ℕ). wrongAt pattern sent (take n ds) (pattern + k)) same)

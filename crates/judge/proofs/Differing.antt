@@ -19,7 +19,7 @@ use Rattle.digits.proofs.Laws.{by-digit}
 use Rattle.digits.proofs.Windows.{window-lt}
 use Rattle.levels.proofs.Windows.{differs, xor-more}
 use Rattle.judge.specs.Wrong.{stageOf, dueAt}
-use Rattle.judge.specs.Counting.{wrongTo}
+use Rattle.judge.specs.Counting.{wrongAmong}
 
 no-ones : ones (bitXor 0 0) ≡ 0
 unfolding ones onesIn
@@ -29,8 +29,8 @@ module _ (ds es : List ℕ) (bd : Binary ds) (be : Binary es) (p : ℕ) where
   pub others-few : (n : ℕ) → ones (bitXor (windowAt ds p n) (windowAt es p n)) ≤ n
   others-few n = ones-le n (bitXor (windowAt ds p n) (windowAt es p n)) (xor-lt n (windowAt ds p n) (windowAt es p n) (window-lt ds bd p n) (window-lt es be p n))
 
-  pub others-more : (n : ℕ) → wrongTo 0 es ds (p + n) ≡ wrongTo 0 es ds p + ones (bitXor (windowAt ds p n) (windowAt es p n))
-  unfolding windowAt wrongTo dueAt sumTo
+  pub others-more : (n : ℕ) → wrongAmong 0 es ds (p + n) ≡ wrongAmong 0 es ds p + ones (bitXor (windowAt ds p n) (windowAt es p n))
+  unfolding windowAt wrongAmong dueAt sumTo
   others-more zero = rw (add-zero p) (omega (arith, no-ones))
   others-more (suc n) =
       rw (add-suc p n, zero-add (p + n), xor-more (windowAt ds p n) (windowAt es p n) (getD ds (p + n) 0) (getD es (p + n) 0) (bd (p + n)) (be (p + n)))
@@ -71,8 +71,8 @@ module _ (pattern : ℕ) (ds : List ℕ) (bd : Binary ds) (some : pattern ≢ 0)
       let stages = xor-lt n (windowAt ds (pattern + p - stageOf pattern) n) (windowAt ds p n) (window-lt ds bd (pattern + p - stageOf pattern) n) (window-lt ds bd p n) in
       ones-le n (sums n) (xor-lt n (windowAt ds (pattern + p) n) _ (window-lt ds bd (pattern + p) n) stages)
 
-  pub unmade-more : (n : ℕ) → wrongTo pattern sent ds (p + n) + ones (sums n) ≡ wrongTo pattern sent ds p + n
-  unfolding windowAt wrongTo dueAt sumTo
+  pub unmade-more : (n : ℕ) → wrongAmong pattern sent ds (p + n) + ones (sums n) ≡ wrongAmong pattern sent ds p + n
+  unfolding windowAt wrongAmong dueAt sumTo
   unmade-more zero = rw (add-zero p) (omega (arith, no-ones))
   unmade-more (suc n) =
       let one = three-more (windowAt ds (pattern + p) n) (windowAt ds (pattern + p - stageOf pattern) n) (windowAt ds p n) in

@@ -14,8 +14,8 @@ use Rattle.judge.specs.Readings.{majorities}
 use Rattle.judge.specs.Wrong.{stageOf, wrongAt}
 
 -- how many of the n digits behind a pattern's first are wrong; pattern 0 has no first digits
-unfoldable pub wrongTo : ℕ → List ℕ → List ℕ → ℕ → ℕ
-wrongTo pattern sent ds n = sumTo n (λ (k : ℕ). wrongAt pattern sent ds (pattern + k))
+unfoldable pub wrongAmong : ℕ → List ℕ → List ℕ → ℕ → ℕ
+wrongAmong pattern sent ds n = sumTo n (λ (k : ℕ). wrongAt pattern sent ds (pattern + k))
 
 -- a pattern that is not refused: the stage that it feeds back lies before its last one
 pub record Known (pattern : ℕ) : Type 0 where

@@ -6,14 +6,14 @@ ghost use Prim.Native.Nat.{ℕ, _+_, _*_, _<_, _≤_};
 ghost use lib.ListN.{length, take};
 ghost use Rattle.digits.specs.Digits.{digitsOf};
 ghost use Rattle.judge.specs.Wrong.{stageOf, wrongIn};
-ghost use Rattle.judge.specs.Counting.{wrongTo, Known};
+ghost use Rattle.judge.specs.Counting.{wrongAmong, Known};
 
 // In how many of n places from p on, at most 32, a reading has another digit than was sent.
 fn others_at(read: &[u8], sent: &[u8], p: usize, n: usize) -> usize
     requires { ⌜ (p + n ≤ 8 * length (now read)) × (p + n ≤ 8 * length (now sent)) × (0 < n) × (n ≤ 32) ⌝ }
     ensures { λ r. ⌜
-        (wrongTo 0 (digitsOf (now (sent .entry))) (digitsOf (now (read .entry))) (p + n)
-        ≡ wrongTo 0 (digitsOf (now (sent .entry))) (digitsOf (now (read .entry))) p + r)
+        (wrongAmong 0 (digitsOf (now (sent .entry))) (digitsOf (now (read .entry))) (p + n)
+        ≡ wrongAmong 0 (digitsOf (now (sent .entry))) (digitsOf (now (read .entry))) p + r)
         × (r ≤ n)
         ⌝ }
 {
@@ -36,7 +36,7 @@ fn stage_of(pattern: usize) -> usize
 fn unmade_at(read: &[u8], pattern: usize, p: usize, n: usize) -> usize
     requires { ⌜ (pattern ≢ 0) × Known pattern × (p ≤ 65536) × (pattern + p + n ≤ 8 * length (now read)) × (0 < n) × (n ≤ 32) ⌝ }
     ensures { λ r. ⌜
-        ((sent : List ℕ) → wrongTo pattern sent (digitsOf (now (read .entry))) (p + n) ≡ wrongTo pattern sent (digitsOf (now (read .entry))) p + r)
+        ((sent : List ℕ) → wrongAmong pattern sent (digitsOf (now (read .entry))) (p + n) ≡ wrongAmong pattern sent (digitsOf (now (read .entry))) p + r)
         × (r ≤ n)
         ⌝ }
 {
@@ -57,8 +57,8 @@ fn wrong_at(pattern: usize, sent: &[u8], read: &[u8], p: usize, n: usize) -> usi
         × (n ≤ 32)
         ⌝ }
     ensures { λ r. ⌜
-        (wrongTo pattern (digitsOf (now (sent .entry))) (digitsOf (now (read .entry))) (p + n)
-        ≡ wrongTo pattern (digitsOf (now (sent .entry))) (digitsOf (now (read .entry))) p + r)
+        (wrongAmong pattern (digitsOf (now (sent .entry))) (digitsOf (now (read .entry))) (p + n)
+        ≡ wrongAmong pattern (digitsOf (now (sent .entry))) (digitsOf (now (read .entry))) p + r)
         × (r ≤ n)
         ⌝ }
 {
@@ -76,7 +76,7 @@ fn count_wrong(pattern: usize, sent: &[u8], read: &[u8], n: usize) -> usize
         × (pattern + n ≤ 8 * length (now read))
         × (n ≤ 65536)
         ⌝ }
-    ensures { λ r. ⌜ r ≡ wrongTo pattern (digitsOf (now (sent .entry))) (digitsOf (now (read .entry))) n ⌝ }
+    ensures { λ r. ⌜ r ≡ wrongAmong pattern (digitsOf (now (sent .entry))) (digitsOf (now (read .entry))) n ⌝ }
 {
     let mut wrong: usize = 0;
     let mut p: usize = 0;

@@ -4,18 +4,18 @@ use Prim.Native.Nat.{_≤_, _-_}
 use native.Mathlib.Omega.{arith}
 use Rattle.digits.specs.Digits.{digitsOf}
 use Rattle.digits.specs.Sums.{sumTo}
-use Rattle.judge.specs.Counting.{wrongTo}
+use Rattle.judge.specs.Counting.{wrongAmong}
 use Rattle.judge.proofs.wrong.count_wrong.Statement.{statement}
 use Rattle.judge.proofs.wrong.count_wrong.Tie as tie
 
 abbrev Inv-loop : tie.InvT-loop
-Inv-loop pattern sent read n wrong₀ p₀ wrong p = (p ≤ n) × (wrong ≡ wrongTo pattern (digitsOf sent) (digitsOf read) p) × (wrong ≤ p)
+Inv-loop pattern sent read n wrong₀ p₀ wrong p = (p ≤ n) × (wrong ≡ wrongAmong pattern (digitsOf sent) (digitsOf read) p) × (wrong ≤ p)
 
 abbrev μ-loop : tie.MeasureT-loop
 μ-loop pattern sent read n wrong₀ p₀ wrong p = n - p
 
 loop-holds : tie.Need-loop-holds Inv-loop μ-loop
-unfolding wrongTo sumTo
+unfolding wrongAmong sumTo
 loop-holds c = (omega arith, refl, omega arith)
 
 sub-at-most : tie.Need-sub-at-most Inv-loop μ-loop

@@ -8,7 +8,7 @@ use lib.Count.{ones}
 use borrow.Author.Needs.{needs}
 use Rattle.digits.specs.Digits.{digitsOf}
 use Rattle.digits.proofs.Laws.{digits-binary}
-use Rattle.judge.specs.Counting.{wrongTo}
+use Rattle.judge.specs.Counting.{wrongAmong}
 use Rattle.judge.proofs.Differing.{unmade-more, unmade-few}
 use Rattle.judge.proofs.wrong.unmade_at.Statement.{statement}
 use Rattle.judge.proofs.wrong.unmade_at.Tie as tie
@@ -20,7 +20,7 @@ sum-ones c = ones (bitXor (c .read-digits3 .result) (bitXor (c .before .before .
 made : (c : tie.After-read-digits3) (sent : List ℕ) →
     let a = c .before .before .before .before .before .args in
     let ds = digitsOf (a .read .now) in
-    (sum-ones c ≤ a .n) × (wrongTo (a .pattern) sent ds (a .p + a .n) + sum-ones c ≡ wrongTo (a .pattern) sent ds (a .p) + a .n)
+    (sum-ones c ≤ a .n) × (wrongAmong (a .pattern) sent ds (a .p + a .n) + sum-ones c ≡ wrongAmong (a .pattern) sent ds (a .p) + a .n)
 made c sent =
     let s = c .before .before .before .before .before in
     let a = s .args in

@@ -6,14 +6,14 @@ use lib.ListN.{length}
 use Rattle.digits.specs.Digits.{digitsOf}
 use Rattle.digits.specs.Sums.{sumTo}
 use Rattle.digits.proofs.Laws.{digits-length}
-use Rattle.judge.specs.Counting.{wrongTo}
+use Rattle.judge.specs.Counting.{wrongAmong}
 use Rattle.judge.proofs.Counted.{wrong-counted}
 use borrow.Author.Needs.{needs}
 use Rattle.judge.proofs.wrong.wrong_in.Statement.{statement}
 use Rattle.judge.proofs.wrong.wrong_in.Tie as tie
 
 returns : tie.Need-returns
-unfolding wrongTo sumTo
+unfolding wrongAmong sumTo
 returns c =
     let s = c .before .before .before in
     let a = s .args in
