@@ -1,5 +1,6 @@
 // Pieces fed to the finder of 2048 kbit/s frames: each refusal at its border, and frames that are found, lost and found again, whole and in
 // pieces of 1, 7 and 1,000 digits.
+use telling::inputs;
 use telling::say;
 ghost use mathlib.Core.Path.{_≡_};
 ghost use lib.ListN.{length};
@@ -260,7 +261,7 @@ fn follow(line: &[u8; 640], size: u64) {
         if 5120 <= first {
             return;
         }
-        let count = least(size, 5120 - first);
+        let count = inputs::least(size, 5120 - first);
         let no = spritbobbin::finder_face::spritbobbin_finder_feed(
             &mut state,
             line,
@@ -282,11 +283,4 @@ fn turned(size: u64, digits: u64, no: u64, state: [u64; 4], answer: [u64; 2], be
     say::counted(b"frames pieces ", size);
     say::counted(b" digits ", digits);
     hunted(no, state, answer);
-}
-
-fn least(a: u64, b: u64) -> u64 {
-    if a < b {
-        return a;
-    }
-    b
 }

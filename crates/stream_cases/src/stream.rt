@@ -1,4 +1,5 @@
 // Pieces fed to receivers: each refusal of a piece at its border, and worked case 11 whole and in pieces of 1, 7 and 1,000 digits.
+use telling::inputs;
 use telling::say;
 ghost use mathlib.Core.Path.{_≡_};
 ghost use lib.ListN.{length};
@@ -305,7 +306,7 @@ fn walk(line: &[u8; 424], size: u64) {
         if 3392 <= first {
             return;
         }
-        let count = least(size, 3392 - first);
+        let count = inputs::least(size, 3392 - first);
         let no = spritbobbin::spritbobbin_receiver_feed(
             &mut state,
             &mut frame,
@@ -320,13 +321,6 @@ fn walk(line: &[u8; 424], size: u64) {
         }
         turns += 1;
     }
-}
-
-fn least(a: u64, b: u64) -> u64 {
-    if a < b {
-        return a;
-    }
-    b
 }
 
 fn ready(size: u64, digits: u64, no: u64, state: [u64; 9], answer: [u64; 4], frame: &[u8; 366]) {

@@ -53,3 +53,11 @@ pub fn sum(s: &[u8]) -> u64 {
     }
     total
 }
+
+// The smaller of two numbers.
+pub fn least(a: u64, b: u64) -> u64 {
+    if a < b {
+        return a;
+    }
+    b
+}
