@@ -1,5 +1,5 @@
-// The digits of what a call is lent. A line is read and written at a place in a frame, a quarter at a place in a tributary, so
-// that neither number can be used for the other.
+// The digits of what a call is lent. A line is read and written at a place in a frame, a quarter is read at a place in a tributary,
+// so that neither number can be used for the other.
 use crate::places::FramePlace;
 use crate::places::TributaryPlace;
 ghost use mathlib.Core.Path.{_≡_};
