@@ -15,7 +15,7 @@ const LABELS: [Option<usize>; 6] = [None, Some(0), Some(1), Some(31), Some(32), 
 
 pub fn part(run: &mut Run) {
     borders(run);
-    for _ in 0..20_000 {
+    for _ in 0..run.often(20_000) {
         any_write(run);
     }
     for frames in [0, 1] {
@@ -23,7 +23,7 @@ pub fn part(run: &mut Run) {
             hostile_files(run, frames, label);
         }
     }
-    for _ in 0..60_000 {
+    for _ in 0..run.often(60_000) {
         let file = any_file(&mut run.random);
         run.compare(&Call::CaptureRead(file));
     }

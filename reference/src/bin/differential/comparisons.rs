@@ -19,10 +19,10 @@ pub fn part(run: &mut Run) {
             all_places(run, row, frames);
         }
     }
-    for _ in 0..4_000 {
+    for _ in 0..run.often(4_000) {
         any_pair(run);
     }
-    for _ in 0..20_000 {
+    for _ in 0..run.often(20_000) {
         let (one, other) = (any_file(&mut run.random), any_file(&mut run.random));
         run.compare(&Call::Compare(one, other));
     }

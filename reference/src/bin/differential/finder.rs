@@ -7,13 +7,13 @@ use reference::random::Random;
 use reference::{FinderState, FRAME_DIGITS, SECOND_PLACE, WORD, WORD_PLACE};
 
 pub fn part(run: &mut Run) {
-    for _ in 0..100 {
+    for _ in 0..run.often(100) {
         run.compare(&Call::FinderFresh);
     }
-    for _ in 0..60_000 {
+    for _ in 0..run.often(60_000) {
         any_piece(run);
     }
-    for _ in 0..200 {
+    for _ in 0..run.often(200) {
         stream(run);
     }
 }

@@ -36,7 +36,7 @@ pub fn part(run: &mut Run) {
         }
         every_border(run, row);
     }
-    for _ in 0..600 {
+    for _ in 0..run.often(600) {
         let row = any_row(&mut run.random);
         let (frames, pattern) = (run.random.index(7), run.random.pick(&PATTERNS));
         one_line(run, row, frames, pattern);

@@ -2,10 +2,11 @@
 //!
 //! ```text
 //! cargo run --release --features face --bin differential -- \
-//!     [seed=N] [times=N] [part=NAME] [lent-only] [trace]
+//!     [seed=N] [times=N] [tenth] [part=NAME] [lent-only] [trace]
 //! ```
 //!
-//! `seed` chooses the run, `times` makes it so many times longer. `part` makes one of its parts alone,
+//! `seed` chooses the run, `times` makes it so many times longer, `tenth` makes only a tenth of
+//! the calls at random, and all of those at an edge: for an archive in an emulator. `part` makes one of its parts alone,
 //! such as `multiplexing` or `judging`, and no lengths. `lent-only` leaves out the
 //! last part, whose pointers are null or whose lengths no memory holds. `trace` names every
 //! call before it is made, for a face that does not return. The first disagreement is
@@ -34,6 +35,7 @@ use std::process::exit;
 pub struct Run {
     seed: u64,
     times: u64,
+    tenth: bool,
     part: Option<String>,
     lent_only: bool,
     trace: bool,
@@ -42,6 +44,15 @@ pub struct Run {
 }
 
 impl Run {
+    /// How often a call at random is made, where a whole run makes it so often.
+    pub fn often(&self, whole: usize) -> usize {
+        if self.tenth {
+            (whole + 9) / 10
+        } else {
+            whole
+        }
+    }
+
     /// Makes the call both ways. What they agree on is given back; if they do not agree,
     /// the run ends here.
     pub fn compare(&mut self, call: &Call) -> Outcome {
@@ -110,7 +121,8 @@ fn arguments() -> Run {
     let (seed, calls) = (1, [0; NAMES.len()]);
     let random = Random::new(seed);
     let (times, part) = (1, None);
-    let mut run = Run { seed, times, part, lent_only: false, trace: false, random, calls };
+    let mut run =
+        Run { seed, times, tenth: false, part, lent_only: false, trace: false, random, calls };
     for argument in std::env::args().skip(1) {
         let number = |name| argument.strip_prefix(name).and_then(|text| text.parse().ok());
         let part = argument.strip_prefix("part=");
@@ -121,12 +133,14 @@ fn arguments() -> Run {
             run.times = times;
         } else if let Some((part, _)) = PARTS.iter().find(|(name, _)| part == Some(*name)) {
             run.part = Some(part.to_string());
+        } else if argument == "tenth" {
+            run.tenth = true;
         } else if argument == "lent-only" {
             run.lent_only = true;
         } else if argument == "trace" {
             run.trace = true;
         } else {
-            eprintln!("unknown: {argument}; known: seed=N times=N part=NAME lent-only trace");
+            eprintln!("unknown: {argument}; known: seed=N times=N tenth part=NAME lent-only trace");
             let names: Vec<&str> = PARTS.iter().map(|(name, _)| *name).collect();
             eprintln!("parts: {}", names.join(" "));
             exit(2);

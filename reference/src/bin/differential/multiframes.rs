@@ -12,7 +12,7 @@ pub fn part(run: &mut Run) {
     borders(run);
     silent(run);
     single_digits(run);
-    for _ in 0..2_000 {
+    for _ in 0..run.often(2_000) {
         both_ways(run);
     }
 }

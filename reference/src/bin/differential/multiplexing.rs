@@ -184,7 +184,7 @@ fn every_set_of_faults(run: &mut Run) {
 }
 
 fn anything(run: &mut Run) {
-    for _ in 0..8_000 {
+    for _ in 0..run.often(8_000) {
         let level = any_row(&mut run.random).level;
         let most = run.random.pick(&[2, 4, 8, 65]);
         let frames = run.random.index(most);

@@ -22,7 +22,7 @@ const ALIGNED: usize = 15;
 const WORDS: usize = 9 + 46;
 
 pub fn part(run: &mut Run) {
-    for _ in 0..1_500 {
+    for _ in 0..run.often(1_500) {
         let mut records = any_records(&mut run.random);
         for _ in 0..8 {
             any_call(run, &mut records);

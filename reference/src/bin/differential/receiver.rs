@@ -10,17 +10,17 @@ use reference::random::Random;
 use reference::{fresh, multiplex, State};
 
 pub fn part(run: &mut Run) {
-    for _ in 0..5_000 {
+    for _ in 0..run.often(5_000) {
         let level = any_level(&mut run.random);
         run.compare(&Call::Fresh(level));
     }
-    for _ in 0..70_000 {
+    for _ in 0..run.often(70_000) {
         any_digit(run);
     }
-    for _ in 0..60_000 {
+    for _ in 0..run.often(60_000) {
         any_piece(run);
     }
-    for _ in 0..120 {
+    for _ in 0..run.often(120) {
         stream_from_fresh(run);
     }
 }

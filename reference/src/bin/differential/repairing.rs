@@ -19,7 +19,7 @@ pub fn part(run: &mut Run) {
             sent_and_worn(run, row, frames);
         }
     }
-    for _ in 0..2_000 {
+    for _ in 0..run.often(2_000) {
         let row = any_row(&mut run.random);
         let frames = run.random.index(6);
         sent_and_worn(run, row, frames);

@@ -36,7 +36,7 @@ pub fn part(run: &mut Run) {
             }
         }
     }
-    for _ in 0..2_000 {
+    for _ in 0..run.often(2_000) {
         let row = any_row(&mut run.random);
         let (frames, faults) = (run.random.index(5), run.random.below(ALL_FAULTS));
         let faults = if run.random.once_in(3) { faults } else { 0 };
