@@ -492,10 +492,10 @@ uint64_t spritbobbin_repair(uint64_t level, uint64_t earlier, uint64_t national,
  * and 23) before it. A reading without wrong digits fits.
  *
  * A line that multiplexing made of these digits fits by its own frame, with any alignment, service and
- * stuffing digits damaged and fewer than half of each control group. Where a decision never changes,
- * all three readings fit and nothing can be told; where it alternates from frame to frame all the time,
- * the frames before and after decide alike, and late cannot be told from early. A line without frames
- * fits by all.
+ * stuffing digits damaged and fewer than half of each control group. Where a decision never changes
+ * (nor, at levels 12 and 14, differs from earlier), what fits by its own frame fits by all three and
+ * nothing can be told; where it alternates from frame to frame all the time, the frames before and
+ * after decide alike, and late cannot be told from early. A line without frames fits by all.
  *
  * answer: for each tributary which readings fit (1 own, 2 before, 4 after, added up), wrong digits by
  * its own frame, by the frame before, by the frame after, and in how many frames the decision differs
