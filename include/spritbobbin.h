@@ -3,10 +3,10 @@
  * 8448 and 139264 kbit/s with positive/zero/negative justification, built, taken apart, found in a
  * stream of digits, repaired, judged, kept in files and compared.
  *
- * Link with libspritbobbin.a, which is for x86-64 Linux and asks for memcpy, memset and the like
- * and nothing else.
+ * Link with libspritbobbin.a or the shared library, as `pkg-config --cflags --libs spritbobbin`
+ * says. Both ask for memcpy, memset and the like and nothing else.
  *
- * Nothing checks this header against the library's source: change the two together. The tests
+ * No proof reaches this header: a test holds its prototypes to the library's source, and others
  * call every function through it and compare every answer.
  *
  *
@@ -147,8 +147,8 @@
  *             if (spritbobbin_receiver_feed(state, frame, bytes, length,
  *                                           first, digits - first, answer) != 0)
  *                 return;
- *             first += answer[SPRITBOBBIN_TAKEN];
- *             if (answer[SPRITBOBBIN_READY])
+ *             first += answer[SPRITBOBBIN_RECEIVER_TAKEN];
+ *             if (answer[SPRITBOBBIN_RECEIVER_READY])
  *                 printf("a frame ends after digit %u\n", (unsigned)first);
  *         }
  *     }
@@ -171,7 +171,7 @@
  *         if (spritbobbin_extract(2, 0, line, sizeof line, notes, sizeof notes,
  *                                 buffer, sizeof buffer, taken) != SPRITBOBBIN_ACCEPTED)
  *             return 1;
- *         printf("%u alignment digits differ\n", (unsigned)noted[SPRITBOBBIN_ALIGNMENT]);
+ *         printf("%u alignment digits differ\n", (unsigned)noted[SPRITBOBBIN_READ_NOTES_ALIGNMENT]);
  *
  *         for (i = 0; i < 4; i++)
  *             memcpy(stream + i * FRAME, line, FRAME);
@@ -277,34 +277,80 @@ enum {
 #define SPRITBOBBIN_JUSTIFICATION_DIFFERS(tributary) (3 + 3 * (tributary))
 #define SPRITBOBBIN_ORDINARY_DIFFERS(tributary) (4 + 3 * (tributary))
 
-/* What stands where in the answers. The four digit counts, of tributaries 1 to 4, are elements 0
-   to 3 of the answers of multiplexing and of extraction. */
+/* How many numbers the answer of each call has. */
+#define SPRITBOBBIN_MULTIPLEX_ANSWER 5
+#define SPRITBOBBIN_READ_NOTES_ANSWER 5
+#define SPRITBOBBIN_EXTRACT_ANSWER 5
+#define SPRITBOBBIN_SWAP_ANSWER 1
+#define SPRITBOBBIN_REPAIR_ANSWER 10
+#define SPRITBOBBIN_JUDGE_ANSWER 20
+#define SPRITBOBBIN_RECEIVER_ANSWER 4
+#define SPRITBOBBIN_RACK_ALIGNED_ANSWER 1
+#define SPRITBOBBIN_FINDER_ANSWER 2
+#define SPRITBOBBIN_CAPTURE_WRITE_ANSWER 2
+#define SPRITBOBBIN_CAPTURE_READ_ANSWER 7
+#define SPRITBOBBIN_COMPARE_ANSWER 19
+#define SPRITBOBBIN_COMPARE_PLACES 128
+#define SPRITBOBBIN_MULTIFRAME_BUILD_ANSWER 1
+/* And how many the states of a receiver and of a finder have. */
+#define SPRITBOBBIN_RECEIVER_STATE 9
+#define SPRITBOBBIN_FINDER_STATE 4
+
+/* What stands where in the answers, by the call; tributary is 1 to 4. */
+#define SPRITBOBBIN_MULTIPLEX_DIGITS(tributary) ((tributary) - 1)
+#define SPRITBOBBIN_EXTRACT_DIGITS(tributary) ((tributary) - 1)
+#define SPRITBOBBIN_READ_NOTES_DISSENT(tributary) (tributary) /* its dissenting digits */
+#define SPRITBOBBIN_REPAIR_CONTROL(tributary) (tributary)
+#define SPRITBOBBIN_REPAIR_STUFFING(tributary) (4 + (tributary))
 enum {
-    SPRITBOBBIN_NAMED_FRAME = 4, /* multiplexing and extraction: under 5, and multiplexing under 10 */
-    SPRITBOBBIN_ALIGNMENT = 0,   /* reading notes: alignment digits that differ from the word */
-    SPRITBOBBIN_DISSENT = 1,     /* reading notes: dissenting digits of tributary 1; then of 2, 3, 4 */
-    SPRITBOBBIN_SWAPPED = 0,     /* a swap: digits taken from the buffer */
-    SPRITBOBBIN_WORD_REPAIRED = 0, /* a repair: alignment digits changed; then see below */
-    SPRITBOBBIN_NATIONAL_REPAIRED = 9, /* a repair: national digits changed */
-    SPRITBOBBIN_TAKEN = 0,       /* receiver: digits taken */
-    SPRITBOBBIN_READY = 1,       /* receiver: 1 if a frame is ready */
-    SPRITBOBBIN_ALARM = 2,       /* receiver: 1 if alarm indication stands at the end */
-    SPRITBOBBIN_WORDS = 3,       /* receiver: words tested */
-    SPRITBOBBIN_FILE_BYTES = 0,  /* writing a capture: bytes of the file; then the named byte, 0 */
-    SPRITBOBBIN_FILE_LEVEL = 0,  /* reading a capture: the level */
-    SPRITBOBBIN_LINE_START = 1,  /* the line's first byte in the file */
-    SPRITBOBBIN_LINE_BYTES = 2,  /* how many it has */
-    SPRITBOBBIN_LABELLED = 3,    /* 1 if there is a label */
-    SPRITBOBBIN_LABEL_START = 4, /* the label's first byte in the file */
-    SPRITBOBBIN_LABEL_BYTES = 5, /* how many it has */
-    SPRITBOBBIN_RACK_ALIGNED = 0, /* a rack: lines in mode aligned */
-    SPRITBOBBIN_NAMED_CHANNEL = 0, /* building a multiframe: under 11 */
-    SPRITBOBBIN_NAMED_BYTE = 6   /* under 9: where the field at fault begins or should begin */
+    SPRITBOBBIN_MULTIPLEX_NAMED_FRAME = 4, /* under 5 and 10 */
+    SPRITBOBBIN_EXTRACT_NAMED_FRAME = 4,   /* under 5 */
+    SPRITBOBBIN_READ_NOTES_ALIGNMENT = 0,  /* alignment digits that differ from the word */
+    SPRITBOBBIN_SWAP_TAKEN = 0,            /* digits taken from the buffer */
+    SPRITBOBBIN_REPAIR_WORD = 0,           /* alignment digits changed */
+    SPRITBOBBIN_REPAIR_NATIONAL = 9,       /* national digits changed */
+    SPRITBOBBIN_RECEIVER_TAKEN = 0,        /* digits taken; so in a rack's feed, as the next three */
+    SPRITBOBBIN_RECEIVER_READY = 1,        /* 1 if a frame is ready */
+    SPRITBOBBIN_RECEIVER_ALARM = 2,        /* 1 if alarm indication stands at the end */
+    SPRITBOBBIN_RECEIVER_WORDS = 3,        /* words tested */
+    SPRITBOBBIN_RACK_ALIGNED_LINES = 0,    /* lines in mode aligned */
+    SPRITBOBBIN_CAPTURE_WRITE_BYTES = 0,   /* bytes of the file */
+    SPRITBOBBIN_CAPTURE_WRITE_NAMED_BYTE = 1, /* 0, under 9 too */
+    SPRITBOBBIN_CAPTURE_READ_LEVEL = 0,
+    SPRITBOBBIN_CAPTURE_READ_LINE_START = 1, /* the line's first byte in the file */
+    SPRITBOBBIN_CAPTURE_READ_LINE_BYTES = 2, /* how many it has */
+    SPRITBOBBIN_CAPTURE_READ_LABELLED = 3,   /* 1 if there is a label */
+    SPRITBOBBIN_CAPTURE_READ_LABEL_START = 4, /* the label's first byte in the file */
+    SPRITBOBBIN_CAPTURE_READ_LABEL_BYTES = 5, /* how many it has */
+    SPRITBOBBIN_CAPTURE_READ_NAMED_BYTE = 6, /* under 9: where the field at fault begins or should begin */
+    SPRITBOBBIN_MULTIFRAME_BUILD_NAMED_CHANNEL = 0 /* under 11 */
 };
 
-/* What else stands where in the answer of a repair, tributary being 1 to 4. */
-#define SPRITBOBBIN_CONTROL_REPAIRED(tributary) (tributary)
-#define SPRITBOBBIN_STUFFING_REPAIRED(tributary) (4 + (tributary))
+/* The same by their names of version 0.1, some of which do not say whose they are. They stay. */
+#define SPRITBOBBIN_CONTROL_REPAIRED SPRITBOBBIN_REPAIR_CONTROL
+#define SPRITBOBBIN_STUFFING_REPAIRED SPRITBOBBIN_REPAIR_STUFFING
+enum {
+    SPRITBOBBIN_NAMED_FRAME = SPRITBOBBIN_MULTIPLEX_NAMED_FRAME,
+    SPRITBOBBIN_ALIGNMENT = SPRITBOBBIN_READ_NOTES_ALIGNMENT,
+    SPRITBOBBIN_DISSENT = SPRITBOBBIN_READ_NOTES_DISSENT(1),
+    SPRITBOBBIN_SWAPPED = SPRITBOBBIN_SWAP_TAKEN,
+    SPRITBOBBIN_WORD_REPAIRED = SPRITBOBBIN_REPAIR_WORD,
+    SPRITBOBBIN_NATIONAL_REPAIRED = SPRITBOBBIN_REPAIR_NATIONAL,
+    SPRITBOBBIN_TAKEN = SPRITBOBBIN_RECEIVER_TAKEN,
+    SPRITBOBBIN_READY = SPRITBOBBIN_RECEIVER_READY,
+    SPRITBOBBIN_ALARM = SPRITBOBBIN_RECEIVER_ALARM,
+    SPRITBOBBIN_WORDS = SPRITBOBBIN_RECEIVER_WORDS,
+    SPRITBOBBIN_FILE_BYTES = SPRITBOBBIN_CAPTURE_WRITE_BYTES,
+    SPRITBOBBIN_FILE_LEVEL = SPRITBOBBIN_CAPTURE_READ_LEVEL,
+    SPRITBOBBIN_LINE_START = SPRITBOBBIN_CAPTURE_READ_LINE_START,
+    SPRITBOBBIN_LINE_BYTES = SPRITBOBBIN_CAPTURE_READ_LINE_BYTES,
+    SPRITBOBBIN_LABELLED = SPRITBOBBIN_CAPTURE_READ_LABELLED,
+    SPRITBOBBIN_LABEL_START = SPRITBOBBIN_CAPTURE_READ_LABEL_START,
+    SPRITBOBBIN_LABEL_BYTES = SPRITBOBBIN_CAPTURE_READ_LABEL_BYTES,
+    SPRITBOBBIN_RACK_ALIGNED = SPRITBOBBIN_RACK_ALIGNED_LINES,
+    SPRITBOBBIN_NAMED_CHANNEL = SPRITBOBBIN_MULTIFRAME_BUILD_NAMED_CHANNEL,
+    SPRITBOBBIN_NAMED_BYTE = SPRITBOBBIN_CAPTURE_READ_NAMED_BYTE
+};
 
 /* What was sent into the tributaries of a line that is judged. */
 enum {
@@ -359,7 +405,7 @@ enum {
  */
 uint64_t spritbobbin_multiplex(uint64_t level, uint64_t earlier, uint8_t *line, size_t line_bytes,
                                const uint8_t *notes, size_t notes_bytes,
-                               const uint8_t *buffer, size_t buffer_bytes, uint64_t answer[5]);
+                               const uint8_t *buffer, size_t buffer_bytes, uint64_t answer[SPRITBOBBIN_MULTIPLEX_ANSWER]);
 
 /*
  * Reads the notes of a line, from a known start: the line begins with a frame.
@@ -373,7 +419,7 @@ uint64_t spritbobbin_multiplex(uint64_t level, uint64_t earlier, uint8_t *line, 
  * group, over all frames. Returns 0, 1, 2 or 3.
  */
 uint64_t spritbobbin_read_notes(uint64_t level, const uint8_t *line, size_t line_bytes, uint8_t *notes, size_t notes_bytes,
-                                uint64_t answer[5]);
+                                uint64_t answer[SPRITBOBBIN_READ_NOTES_ANSWER]);
 
 /*
  * Takes the tributaries out of a line by the notes that are given: those that were read from it, or
@@ -388,7 +434,7 @@ uint64_t spritbobbin_read_notes(uint64_t level, const uint8_t *line, size_t line
  */
 uint64_t spritbobbin_extract(uint64_t level, uint64_t earlier, const uint8_t *line, size_t line_bytes,
                              const uint8_t *notes, size_t notes_bytes,
-                             uint8_t *buffer, size_t buffer_bytes, uint64_t answer[5]);
+                             uint8_t *buffer, size_t buffer_bytes, uint64_t answer[SPRITBOBBIN_EXTRACT_ANSWER]);
 
 /*
  * Swaps one tributary of a line in place: rewrites its control, justification and ordinary places,
@@ -407,7 +453,7 @@ uint64_t spritbobbin_extract(uint64_t level, uint64_t earlier, const uint8_t *li
  */
 uint64_t spritbobbin_swap(uint64_t level, uint64_t earlier, uint64_t tributary, uint8_t *line, size_t line_bytes,
                           const uint8_t *notes, size_t notes_bytes,
-                          const uint8_t *buffer, size_t buffer_bytes, uint64_t answer[1]);
+                          const uint8_t *buffer, size_t buffer_bytes, uint64_t answer[SPRITBOBBIN_SWAP_ANSWER]);
 
 /*
  * Repairs a worn line in place: sets alignment digits to the word, the control digits of each group
@@ -427,7 +473,7 @@ uint64_t spritbobbin_swap(uint64_t level, uint64_t earlier, uint64_t tributary, 
  * to 4, then the stuffing digits of tributaries 1 to 4, then national digits. Returns 0, 1, 2 or 5.
  */
 uint64_t spritbobbin_repair(uint64_t level, uint64_t earlier, uint64_t national, uint8_t *line, size_t line_bytes,
-                            uint64_t answer[10]);
+                            uint64_t answer[SPRITBOBBIN_REPAIR_ANSWER]);
 
 /*
  * Judges a line by what was sent into its tributaries: did the clock move, or the frame index?
@@ -446,10 +492,10 @@ uint64_t spritbobbin_repair(uint64_t level, uint64_t earlier, uint64_t national,
  * and 23) before it. A reading without wrong digits fits.
  *
  * A line that multiplexing made of these digits fits by its own frame, with any alignment, service and
- * stuffing digits damaged and fewer than half of each control group. Where a decision never changes,
- * all three readings fit and nothing can be told; where it alternates from frame to frame all the time,
- * the frames before and after decide alike, and late cannot be told from early. A line without frames
- * fits by all.
+ * stuffing digits damaged and fewer than half of each control group. Where a decision never changes
+ * (nor, at levels 12 and 14, differs from earlier), what fits by its own frame fits by all three and
+ * nothing can be told; where it alternates from frame to frame all the time, the frames before and
+ * after decide alike, and late cannot be told from early. A line without frames fits by all.
  *
  * answer: for each tributary which readings fit (1 own, 2 before, 4 after, added up), wrong digits by
  * its own frame, by the frame before, by the frame after, and in how many frames the decision differs
@@ -457,7 +503,7 @@ uint64_t spritbobbin_repair(uint64_t level, uint64_t earlier, uint64_t national,
  * only: as for extraction) or 5.
  */
 uint64_t spritbobbin_judge(uint64_t level, uint64_t earlier, const uint8_t *line, size_t line_bytes, uint64_t pattern,
-                           const uint8_t *buffer, size_t buffer_bytes, uint64_t answer[20]);
+                           const uint8_t *buffer, size_t buffer_bytes, uint64_t answer[SPRITBOBBIN_JUDGE_ANSWER]);
 
 /*
  * The plain engine: a second engine that goes digit by digit and shares only the level table with
@@ -466,14 +512,14 @@ uint64_t spritbobbin_judge(uint64_t level, uint64_t earlier, const uint8_t *line
  */
 uint64_t spritbobbin_plain_multiplex(uint64_t level, uint64_t earlier, uint8_t *line, size_t line_bytes,
                                      const uint8_t *notes, size_t notes_bytes,
-                                     const uint8_t *buffer, size_t buffer_bytes, uint64_t answer[5]);
+                                     const uint8_t *buffer, size_t buffer_bytes, uint64_t answer[SPRITBOBBIN_MULTIPLEX_ANSWER]);
 
 uint64_t spritbobbin_plain_read_notes(uint64_t level, const uint8_t *line, size_t line_bytes, uint8_t *notes, size_t notes_bytes,
-                                      uint64_t answer[5]);
+                                      uint64_t answer[SPRITBOBBIN_READ_NOTES_ANSWER]);
 
 uint64_t spritbobbin_plain_extract(uint64_t level, uint64_t earlier, const uint8_t *line, size_t line_bytes,
                                    const uint8_t *notes, size_t notes_bytes,
-                                   uint8_t *buffer, size_t buffer_bytes, uint64_t answer[5]);
+                                   uint8_t *buffer, size_t buffer_bytes, uint64_t answer[SPRITBOBBIN_EXTRACT_ANSWER]);
 
 /*
  * Makes a fresh receiver: hunting, nothing seen, the frame in hand all zero.
@@ -482,7 +528,7 @@ uint64_t spritbobbin_plain_extract(uint64_t level, uint64_t earlier, const uint8
  * few before, alarm) and of frame. Returns 0, or 1 for a wrong level; the state is then all zero
  * and a feed refuses it with 6.
  */
-uint64_t spritbobbin_receiver_fresh(uint64_t level, uint64_t state[9], uint8_t frame[366]);
+uint64_t spritbobbin_receiver_fresh(uint64_t level, uint64_t state[SPRITBOBBIN_RECEIVER_STATE], uint8_t frame[366]);
 
 /*
  * Gives a receiver the digits first to first + count - 1 of a piece of a stream. The receiver
@@ -510,19 +556,26 @@ uint64_t spritbobbin_receiver_fresh(uint64_t level, uint64_t state[9], uint8_t f
  * answer: digits taken, 1 if a frame is ready, 1 if alarm indication stands at the end, words
  * tested. Returns 0, 6, 2 or 7.
  */
-uint64_t spritbobbin_receiver_feed(uint64_t state[9], uint8_t frame[366], const uint8_t *piece, size_t piece_bytes,
-                                   uint64_t first, uint64_t count, uint64_t answer[4]);
+uint64_t spritbobbin_receiver_feed(uint64_t state[SPRITBOBBIN_RECEIVER_STATE], uint8_t frame[366], const uint8_t *piece, size_t piece_bytes,
+                                   uint64_t first, uint64_t count, uint64_t answer[SPRITBOBBIN_RECEIVER_ANSWER]);
 
 /*
  * A rack: a list of up to 64 receivers, line 0 first, each kept as a record that has the state and
  * the frame of a receiver (above). A line answers as a receiver alone that gets its own calls.
  */
 struct spritbobbin_record {
-    uint64_t state[9];
-    uint8_t frame[366];
+    uint64_t state[SPRITBOBBIN_RECEIVER_STATE];
+    uint8_t frame[SPRITBOBBIN_FRAME_STORE_BYTES];
 };
 
 #define SPRITBOBBIN_MOST_RECORDS 64
+#define SPRITBOBBIN_RECORD_BYTES 440 /* of a record, with what stands idle at its end */
+
+#if defined(__cplusplus) && __cplusplus >= 201103L
+static_assert(sizeof(struct spritbobbin_record) == SPRITBOBBIN_RECORD_BYTES, "a record has the layout of the library");
+#elif defined(__STDC_VERSION__) && __STDC_VERSION__ >= 201112L
+_Static_assert(sizeof(struct spritbobbin_record) == SPRITBOBBIN_RECORD_BYTES, "a record has the layout of the library");
+#endif
 
 /*
  * Feeds a piece to one line of a rack, as spritbobbin_receiver_feed feeds it to one receiver; the
@@ -531,7 +584,7 @@ struct spritbobbin_record {
  */
 uint64_t spritbobbin_rack_feed(struct spritbobbin_record *records, size_t number, uint64_t line,
                                const uint8_t *piece, size_t piece_bytes,
-                               uint64_t first, uint64_t count, uint64_t answer[4]);
+                               uint64_t first, uint64_t count, uint64_t answer[SPRITBOBBIN_RECEIVER_ANSWER]);
 
 /*
  * Makes one line of a rack fresh, of a level, whatever its record holds. So a rack is set up: a
@@ -545,7 +598,7 @@ uint64_t spritbobbin_rack_reset(struct spritbobbin_record *records, size_t numbe
  * record. answer: how many. Returns 0, or 2, and then counts 0.
  */
 uint64_t spritbobbin_rack_aligned(const struct spritbobbin_record *records, size_t number,
-                                  uint64_t answer[1]);
+                                  uint64_t answer[SPRITBOBBIN_RACK_ALIGNED_ANSWER]);
 
 /* What stands where in the answer and the state of the finder of 2048 kbit/s frames, its mode
    numbers, and its places. */
@@ -568,7 +621,7 @@ enum {
  * Makes a fresh finder of the frames of a 2048 kbit/s line: hunting, nothing seen. Writes all of
  * state (window, digits seen, mode, place). Returns 0.
  */
-uint64_t spritbobbin_finder_fresh(uint64_t state[4]);
+uint64_t spritbobbin_finder_fresh(uint64_t state[SPRITBOBBIN_FINDER_STATE]);
 
 /*
  * Gives a finder the digits first to first + count - 1 of a piece of a 2048 kbit/s line. Frames are
@@ -586,8 +639,8 @@ uint64_t spritbobbin_finder_fresh(uint64_t state[4]);
  *
  * answer: digits taken, 1 if aligned at their end. Returns 0, 6, 2 or 7.
  */
-uint64_t spritbobbin_finder_feed(uint64_t state[4], const uint8_t *piece, size_t piece_bytes,
-                                 uint64_t first, uint64_t count, uint64_t answer[2]);
+uint64_t spritbobbin_finder_feed(uint64_t state[SPRITBOBBIN_FINDER_STATE], const uint8_t *piece, size_t piece_bytes,
+                                 uint64_t first, uint64_t count, uint64_t answer[SPRITBOBBIN_FINDER_ANSWER]);
 
 /* What spritbobbin_line_digit returns where the line has ended. */
 enum { SPRITBOBBIN_LINE_ENDED = 2 };
@@ -610,7 +663,7 @@ uint64_t spritbobbin_line_digit(const uint8_t *line, size_t line_bytes, uint64_t
  */
 uint64_t spritbobbin_capture_write(uint64_t level, const uint8_t *line, size_t line_bytes,
                                    const uint8_t *label, size_t label_bytes, uint64_t labelled,
-                                   uint8_t *file, size_t file_bytes, uint64_t answer[2]);
+                                   uint8_t *file, size_t file_bytes, uint64_t answer[SPRITBOBBIN_CAPTURE_WRITE_ANSWER]);
 
 /*
  * Reads a capture, which file must hold whole and with nothing after it. Nothing is copied: the
@@ -619,7 +672,7 @@ uint64_t spritbobbin_capture_write(uint64_t level, const uint8_t *line, size_t l
  * answer: level, first byte of the line, its bytes, 1 if there is a label, first byte of the
  * label, its bytes (both 0 without one), named byte. Returns 0, 9, 1 or 2.
  */
-uint64_t spritbobbin_capture_read(const uint8_t *file, size_t file_bytes, uint64_t answer[7]);
+uint64_t spritbobbin_capture_read(const uint8_t *file, size_t file_bytes, uint64_t answer[SPRITBOBBIN_CAPTURE_READ_ANSWER]);
 
 /*
  * Where two captures differ: how many digits in each kind of place, and where the first 64 are.
@@ -638,7 +691,7 @@ uint64_t spritbobbin_capture_read(const uint8_t *file, size_t file_bytes, uint64
  * written also under a refusal. Returns 0, 9, 1 or 2.
  */
 uint64_t spritbobbin_compare(const uint8_t *one, size_t one_bytes, const uint8_t *other,
-                             size_t other_bytes, uint64_t answer[19], uint64_t places[128]);
+                             size_t other_bytes, uint64_t answer[SPRITBOBBIN_COMPARE_ANSWER], uint64_t places[SPRITBOBBIN_COMPARE_PLACES]);
 
 /*
  * Builds a multiframe of 2048 kbit/s: sixteen frames of 32 bytes.
@@ -654,7 +707,7 @@ uint64_t spritbobbin_compare(const uint8_t *one, size_t one_bytes, const uint8_t
 uint64_t spritbobbin_multiframe_build(uint8_t *multiframe, size_t multiframe_bytes,
                                       const uint8_t *channels, size_t channels_bytes,
                                       const uint8_t *signalling, size_t signalling_bytes,
-                                      const uint8_t *spare, size_t spare_bytes, uint64_t answer[1]);
+                                      const uint8_t *spare, size_t spare_bytes, uint64_t answer[SPRITBOBBIN_MULTIFRAME_BUILD_ANSWER]);
 
 /*
  * Takes a multiframe apart into channels, signalling and spare digits, as above; the last four

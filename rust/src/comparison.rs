@@ -1,7 +1,6 @@
 //! Where two captures differ.
 
-use std::error::Error;
-use std::fmt;
+use core::fmt;
 
 use crate::raw::{self, count};
 use crate::{read_capture, Level, Refusal};
@@ -193,4 +192,5 @@ impl fmt::Display for NotCompared {
     }
 }
 
-impl Error for NotCompared {}
+#[cfg(feature = "std")]
+impl std::error::Error for NotCompared {}

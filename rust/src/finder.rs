@@ -1,7 +1,7 @@
 //! Finding the frames of a 2048 kbit/s line.
 
-use std::iter::FusedIterator;
-use std::slice::Chunks;
+use core::iter::FusedIterator;
+use core::slice::Chunks;
 
 use crate::level::MOST_BYTES;
 use crate::raw::{self, count};
@@ -48,15 +48,15 @@ pub enum FinderMode {
     },
 }
 
-/// A finder's state in numbers, to be looked at, or saved and resumed from.
+/// A finder's state, to be looked at, or saved and resumed from.
 #[derive(Clone, Copy, Debug, PartialEq, Eq)]
 pub struct FinderState {
     /// The last seven digits as a number: the newest digit is worth 1.
     pub window: u64,
     /// The digits since the finder was made, stopping at 7.
     pub seen: u64,
-    /// 0 hunting, 1 word found, 2 second digit seen, 3 + m aligned with m words missed.
-    pub mode: u64,
+    /// What it is doing.
+    pub mode: FinderMode,
     /// The digits since the word's last one; 0 while hunting.
     pub place: u64,
 }
@@ -119,7 +119,7 @@ impl Finder {
     /// ```
     pub fn resume(state: &FinderState) -> Result<Finder, Refusal> {
         let FinderState { window, seen, mode, place } = *state;
-        let mut finder = Finder { numbers: [window, seen, mode, place] };
+        let mut finder = Finder { numbers: [window, seen, mode.number(), place] };
         // A piece of no digits changes nothing, and the state is judged all the same.
         finder.take(&[], 0, 0)?;
         Ok(finder)
@@ -127,12 +127,7 @@ impl Finder {
 
     /// What it is doing.
     pub fn mode(&self) -> FinderMode {
-        match self.numbers[2] {
-            0 => FinderMode::Hunting,
-            1 => FinderMode::WordFound,
-            2 => FinderMode::SecondSeen,
-            aligned => FinderMode::Aligned { missed: (aligned - 3) as u8 },
-        }
+        FinderMode::of_number(self.numbers[2])
     }
 
     /// Whether it has found where frames begin.
@@ -140,10 +135,10 @@ impl Finder {
         matches!(self.mode(), FinderMode::Aligned { .. })
     }
 
-    /// Its state in numbers.
+    /// Its state.
     pub fn state(&self) -> FinderState {
         let [window, seen, mode, place] = self.numbers;
-        FinderState { window, seen, mode, place }
+        FinderState { window, seen, mode: FinderMode::of_number(mode), place }
     }
 
     /// Takes the stream's next bytes and says where in them alignment is found and lost.
@@ -198,6 +193,26 @@ impl Finder {
             6 => Err(Refusal::State),
             7 => Err(Refusal::Digits { first, count, bytes: piece.len() }),
             _ => Err(Refusal::Unknown { number }),
+        }
+    }
+}
+
+impl FinderMode {
+    fn of_number(number: u64) -> FinderMode {
+        match number {
+            0 => FinderMode::Hunting,
+            1 => FinderMode::WordFound,
+            2 => FinderMode::SecondSeen,
+            aligned => FinderMode::Aligned { missed: (aligned - 3) as u8 },
+        }
+    }
+
+    fn number(self) -> u64 {
+        match self {
+            FinderMode::Hunting => 0,
+            FinderMode::WordFound => 1,
+            FinderMode::SecondSeen => 2,
+            FinderMode::Aligned { missed } => 3 + u64::from(missed),
         }
     }
 }

@@ -51,8 +51,9 @@ pub struct Verdict {
     pub before: usize,
     /// Wrong digits, read by the decision of the frame after.
     pub after: usize,
-    /// In how many frames the decision differs from that of the frame before. Where it never does, the
-    /// readings cannot be told apart.
+    /// In how many frames the decision differs from that of the frame before, the first frame not
+    /// counted. Where it never does, nor the first one from the earlier vote at levels 12 and 14,
+    /// what fits by its own frame fits by the other two as well.
     pub changes: usize,
     fits: u64,
 }

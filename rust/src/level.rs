@@ -1,6 +1,6 @@
 //! The five levels and the sizes that a caller needs.
 
-use std::fmt;
+use core::fmt;
 
 use crate::Refusal;
 

@@ -5,6 +5,9 @@
 //! This crate is a thin, safe face of a library whose every answer is proved. It adds Rust's
 //! habits (slices, `Result`, iterators) and decides nothing itself.
 //!
+//! It allocates nothing and needs no standard library: without the feature `std`, which is on unless
+//! it is turned off, only [`FrameStream`] and `std::error::Error` of the errors are missing.
+//!
 //! - [`multiplex`] builds the frames of a line out of four tributaries; [`read_notes`] reads the
 //!   notes of a line, and [`extract`] takes the tributaries out again by notes. [`plain`] has the
 //!   same three by a second engine, digit by digit.
@@ -81,6 +84,7 @@
 //! # }
 //! ```
 
+#![cfg_attr(not(feature = "std"), no_std)]
 #![warn(missing_docs)]
 
 mod capture;
@@ -97,6 +101,7 @@ mod raw;
 mod receiver;
 mod refusal;
 mod repairing;
+#[cfg(feature = "std")]
 mod stream;
 mod swapping;
 
@@ -110,9 +115,10 @@ pub use level::{Level, MOST_BYTES, MOST_FRAMES};
 pub use line::{digits, line_digit, Digits};
 pub use multiframe::{Multiframe, MULTIFRAME_BYTES};
 pub use multiplexing::{extract, multiplex, read_notes, vote_after, Extracted, Noted, Sent};
-pub use rack::{Rack, MOST_LINES};
+pub use rack::{Rack, RackFrames, MOST_LINES};
 pub use receiver::{Frame, Frames, Mode, Receiver, State, Taken};
 pub use refusal::Refusal;
 pub use repairing::{repair, repair_capture, Repaired};
+#[cfg(feature = "std")]
 pub use stream::FrameStream;
 pub use swapping::swap;

@@ -1,6 +1,6 @@
 //! The digits of a line, one by one.
 
-use std::iter::FusedIterator;
+use core::iter::FusedIterator;
 
 use crate::raw;
 

@@ -1,10 +1,9 @@
 //! The library's C functions as declared here.
 //!
-//! Nothing checks these declarations against the library's source: a wrong one compiles, links
-//! and misbehaves. The tests make up for it. They call every function here and compare each answer
-//! with the worked cases, and the separate program's differential test compares the same archive
-//! over many more inputs. Change this file, `include/spritbobbin.h` and the exported functions
-//! together.
+//! No proof reaches these declarations: a wrong one compiles, links and misbehaves. A test holds
+//! them to the library's source and to `include/spritbobbin.h`, signature by signature; others call
+//! every function here and compare each answer with the worked cases, and the separate program's
+//! comparison does so over many more inputs.
 
 /// The bytes of the longest frame: a receiver's store has as many at every level.
 pub const STORE: usize = 366;

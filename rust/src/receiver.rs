@@ -1,7 +1,7 @@
 //! Finding frames in a stream of digits.
 
-use std::iter::FusedIterator;
-use std::slice::Chunks;
+use core::iter::FusedIterator;
+use core::slice::Chunks;
 
 use crate::level::MOST_BYTES;
 use crate::raw::{self, count, STORE};
@@ -52,27 +52,27 @@ pub enum Mode {
     },
 }
 
-/// A receiver's state in numbers, to be looked at, or saved and resumed from.
+/// A receiver's state, to be looked at, or saved and resumed from.
 #[derive(Clone, Debug, PartialEq, Eq)]
 pub struct State {
-    /// 2, 3, 4, 12 or 14.
-    pub level: u64,
+    /// The level that it was made for.
+    pub level: Level,
     /// The last digits, as many as the word has, as a number: the newest digit is worth 1.
     pub window: u64,
     /// The digits since the receiver was made, stopping at as many as the word has.
     pub seen: u64,
-    /// 0 hunting, 1 one found, 2 two found, 3 + m aligned with m missed.
-    pub mode: u64,
+    /// What it is doing.
+    pub mode: Mode,
     /// The digits since the end of the last word; 0 while hunting.
     pub place: u64,
     /// The digits of the stretch that is being cut, fewer than a frame has.
     pub stretch_digits: u64,
     /// The zeros among them.
     pub stretch_zeros: u64,
-    /// 1 if the stretch before had few zeros, else 0.
-    pub few_before: u64,
-    /// 1 if alarm indication stands, else 0.
-    pub alarm: u64,
+    /// Whether the stretch before had few zeros.
+    pub few_before: bool,
+    /// Whether alarm indication stands.
+    pub alarm: bool,
     /// The frame in hand.
     pub frame: [u8; STORE],
 }
@@ -115,19 +115,19 @@ impl Receiver {
     /// [`Refusal::State`] if the state is not valid.
     ///
     /// ```
-    /// use spritbobbin::{Level, Receiver, Refusal};
+    /// use spritbobbin::{Level, Mode, Receiver, Refusal};
     ///
     /// # fn main() -> Result<(), Refusal> {
     /// let mut state = Receiver::new(Level::Three).state();
     /// assert_eq!(Receiver::resume(&state)?, Receiver::new(Level::Three));
-    /// state.mode = 7;
+    /// state.mode = Mode::Aligned { missed: 4 }; // four missed words are lost alignment
     /// assert_eq!(Receiver::resume(&state), Err(Refusal::State));
     /// # Ok(())
     /// # }
     /// ```
     pub fn resume(state: &State) -> Result<Receiver, Refusal> {
-        let level = Level::try_from(state.level).map_err(|_| Refusal::State)?;
-        let mut receiver = Receiver { level, numbers: numbers(state), store: state.frame };
+        let (level, store) = (state.level, state.frame);
+        let mut receiver = Receiver { level, numbers: numbers(state), store };
         // A piece of no digits changes nothing, and the state is judged all the same.
         receiver.take(&[], 0, 0)?;
         Ok(receiver)
@@ -163,9 +163,9 @@ impl Receiver {
         self.numbers[8] == 1
     }
 
-    /// Its state in numbers.
+    /// Its state.
     pub fn state(&self) -> State {
-        State::of(&self.numbers, &self.store)
+        State::of(self.level, &self.numbers, &self.store)
     }
 
     /// Takes the stream's next bytes and hands out the frames that they complete.
@@ -244,22 +244,32 @@ impl Mode {
             aligned => Mode::Aligned { missed: (aligned - 3) as u8 },
         }
     }
+
+    fn number(self) -> u64 {
+        match self {
+            Mode::Hunting => 0,
+            Mode::OneFound => 1,
+            Mode::TwoFound => 2,
+            Mode::Aligned { missed } => 3 + u64::from(missed),
+        }
+    }
 }
 
 impl State {
-    pub(crate) fn of(numbers: &[u64; 9], frame: &[u8; STORE]) -> State {
-        let [level, window, seen, mode, place, stretch_digits, stretch_zeros, few_before, alarm] =
+    /// What the library's numbers say, of which the first is this level's.
+    pub(crate) fn of(level: Level, numbers: &[u64; 9], frame: &[u8; STORE]) -> State {
+        let [_, window, seen, mode, place, stretch_digits, stretch_zeros, few_before, alarm] =
             *numbers;
         State {
             level,
             window,
             seen,
-            mode,
+            mode: Mode::of_number(mode),
             place,
             stretch_digits,
             stretch_zeros,
-            few_before,
-            alarm,
+            few_before: few_before == 1,
+            alarm: alarm == 1,
             frame: *frame,
         }
     }
@@ -297,15 +307,15 @@ impl Frame {
 /// The numbers of a state, in the library's order.
 fn numbers(state: &State) -> [u64; 9] {
     [
-        state.level,
+        state.level.number(),
         state.window,
         state.seen,
-        state.mode,
+        state.mode.number(),
         state.place,
         state.stretch_digits,
         state.stretch_zeros,
-        state.few_before,
-        state.alarm,
+        u64::from(state.few_before),
+        u64::from(state.alarm),
     ]
 }
 

@@ -1,7 +1,6 @@
 //! Why a call was refused.
 
-use std::error::Error;
-use std::fmt;
+use core::fmt;
 
 use crate::capture::MOST_LABEL_BYTES;
 use crate::level::{Level, MOST_BYTES, MOST_FRAMES};
@@ -167,7 +166,8 @@ impl Refusal {
     }
 }
 
-impl Error for Refusal {}
+#[cfg(feature = "std")]
+impl std::error::Error for Refusal {}
 
 impl fmt::Display for Refusal {
     fn fmt(&self, out: &mut fmt::Formatter<'_>) -> fmt::Result {
@@ -249,8 +249,7 @@ impl fmt::Display for Refusal {
 }
 
 fn wrong_level(out: &mut fmt::Formatter<'_>, number: u64) -> fmt::Result {
-    let [a, b, c, d, e] =
-        Level::ALL.map(|it| format!("{} ({} kbit/s)", it.number(), it.kilobits()));
+    let [a, b, c, d, e] = Level::ALL.map(Offered);
     write!(
         out,
         "there is no level {number}: use {a}, {b}, {c}, or with positive/zero/negative \
@@ -306,6 +305,25 @@ fn wrong_buffer(
     )
 }
 
-fn counted(number: usize, what: &str) -> String {
-    format!("{number} {what}{}", if number == 1 { "" } else { "s" })
+/// A level as it is offered: its number and its rate.
+struct Offered(Level);
+
+impl fmt::Display for Offered {
+    fn fmt(&self, out: &mut fmt::Formatter<'_>) -> fmt::Result {
+        write!(out, "{} ({} kbit/s)", self.0.number(), self.0.kilobits())
+    }
+}
+
+/// So many of something, as it is said.
+struct Counted(usize, &'static str);
+
+fn counted(number: usize, what: &'static str) -> Counted {
+    Counted(number, what)
+}
+
+impl fmt::Display for Counted {
+    fn fmt(&self, out: &mut fmt::Formatter<'_>) -> fmt::Result {
+        let Counted(number, what) = *self;
+        write!(out, "{number} {what}{}", if number == 1 { "" } else { "s" })
+    }
 }

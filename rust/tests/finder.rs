@@ -75,17 +75,17 @@ fn turns_not_walked_are_taken_all_the_same() {
 
 #[test]
 fn refused() {
-    let valid = FinderState { window: 127, seen: 7, mode: 2, place: 250 };
+    let valid = FinderState { window: 127, seen: 7, mode: FinderMode::SecondSeen, place: 250 };
     assert!(Finder::resume(&valid).is_ok());
     for state in [
         FinderState { window: 128, ..valid },
         FinderState { seen: 8, ..valid },
         FinderState { seen: 6, ..valid },
-        FinderState { mode: 6, ..valid },
-        FinderState { mode: 1, ..valid },
+        FinderState { mode: FinderMode::Aligned { missed: 3 }, ..valid },
+        FinderState { mode: FinderMode::WordFound, ..valid },
         FinderState { place: 249, ..valid },
         FinderState { place: 512, ..valid },
-        FinderState { mode: 0, ..valid },
+        FinderState { mode: FinderMode::Hunting, ..valid },
     ] {
         assert_eq!(Finder::resume(&state), Err(Refusal::State), "{state:?}");
     }

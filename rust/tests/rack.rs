@@ -43,14 +43,16 @@ fn the_record_of_the_line_has_every_number_where_a_state_has_it() -> Result<(), 
     let before = (rack.state(0), rack.state(2));
     let ones = vec![0xFF; 3 * 192];
     for piece in [&stream(Level::Three, 3)[..], &ones, &[0xF4]] {
-        assert_eq!(rack.feed(1, piece)?, alone.feed(piece).collect::<Vec<_>>());
+        let frames = rack.feed(1, piece)?.collect::<Vec<_>>();
+        assert_eq!(frames, alone.feed(piece).collect::<Vec<_>>());
     }
     let state = alone.state();
     let State {
         window, seen, mode, place, stretch_digits, stretch_zeros, few_before, alarm, ..
     } = state;
-    assert!(window > 10 && seen == 10 && mode == 6 && place > 10);
-    assert_eq!([stretch_digits, stretch_zeros, few_before, alarm], [8, 3, 1, 1]);
+    assert!(window > 10 && seen == 10 && place > 10);
+    assert_eq!(mode, Mode::Aligned { missed: 3 });
+    assert_eq!((stretch_digits, stretch_zeros, few_before, alarm), (8, 3, true, true));
     assert_eq!(rack.state(1), Some(state));
     assert_eq!((rack.state(0), rack.state(2)), before);
     assert_eq!(rack.has_alarm(1), Some(true));
@@ -60,10 +62,10 @@ fn the_record_of_the_line_has_every_number_where_a_state_has_it() -> Result<(), 
 #[test]
 fn refusals_leave_every_line() -> Result<(), Refusal> {
     let mut rack = Rack::new(&[Level::Two; 3])?;
-    rack.feed(1, &stream(Level::Two, 4))?;
+    drop(rack.feed(1, &stream(Level::Two, 4))?);
     let before = rack.clone();
     assert_eq!(rack.take(3, &[0], 0, 9), Err(Refusal::RackLine { line: 3, lines: 3 }));
-    assert_eq!(rack.feed(3, &[]), Err(Refusal::RackLine { line: 3, lines: 3 }));
+    assert_eq!(rack.feed(3, &[]).err(), Some(Refusal::RackLine { line: 3, lines: 3 }));
     assert_eq!(rack.reset(3, Level::Two), Err(Refusal::RackLine { line: 3, lines: 3 }));
     assert_eq!(rack.take(1, &[0; 65_537], 0, 1), Err(Refusal::Slice { bytes: 65_537 }));
     assert_eq!(rack.take(1, &[0], 1, 8), Err(Refusal::Digits { first: 1, count: 8, bytes: 1 }));

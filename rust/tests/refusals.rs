@@ -1,6 +1,6 @@
 //! Every refusal: exactly when, in which order, what it prints, and that nothing is written.
 
-use spritbobbin::{extract, multiplex, read_notes, Level, Receiver, Refusal, State};
+use spritbobbin::{extract, multiplex, read_notes, Level, Mode, Receiver, Refusal, State};
 
 /// The refusals of multiplexing and of extraction, which are the same but for refusal 10, that are lent
 /// so many bytes and these notes; and that reading notes is refused for the line and the number of notes alone.
@@ -244,7 +244,7 @@ fn pieces() {
 
 fn aligned(level: Level) -> State {
     let seen = level.word_digits() as u64;
-    State { seen, mode: 6, place: 5, ..Receiver::new(level).state() }
+    State { seen, mode: Mode::Aligned { missed: 3 }, place: 5, ..Receiver::new(level).state() }
 }
 
 #[test]
@@ -256,21 +256,17 @@ fn states() {
         let window = (1 << seen) - 1;
         assert!(Receiver::resume(&State { window, place: last, ..good.clone() }).is_ok());
         let stretch = State { stretch_digits: last, stretch_zeros: last, ..good.clone() };
-        assert!(Receiver::resume(&State { few_before: 1, alarm: 1, ..stretch }).is_ok());
+        assert!(Receiver::resume(&State { few_before: true, alarm: true, ..stretch }).is_ok());
         let wrong = [
-            State { level: 5, ..good.clone() },
-            State { level: level.number() + (1 << 32), ..good.clone() },
             State { window: window + 1, ..good.clone() },
             State { seen: seen + 1, ..good.clone() },
             State { seen: seen - 1, ..good.clone() },
-            State { mode: 7, ..good.clone() },
-            State { mode: u64::MAX, ..good.clone() },
+            State { mode: Mode::Aligned { missed: 4 }, ..good.clone() },
+            State { mode: Mode::Aligned { missed: 255 }, ..good.clone() },
             State { place: last + 1, ..good.clone() },
-            State { mode: 0, ..good.clone() },
+            State { mode: Mode::Hunting, ..good.clone() },
             State { stretch_digits: last + 1, ..good.clone() },
             State { stretch_zeros: 1, ..good.clone() },
-            State { few_before: 2, ..good.clone() },
-            State { alarm: u64::MAX, ..good.clone() },
         ];
         for state in wrong {
             assert_eq!(Receiver::resume(&state), Err(Refusal::State), "{state:?}");
