@@ -6,3 +6,4 @@ pub mod Losses
 pub mod Calls
 pub mod Alarms
 pub mod FramedLines
+pub mod Standing
