@@ -3,3 +3,4 @@ pub mod Orders
 pub mod NewFour
 pub mod NewSend
 pub mod Returned
+pub mod OwnBit

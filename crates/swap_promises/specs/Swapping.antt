@@ -48,6 +48,19 @@ pub record OthersStay (level : ℕ) (line : List ℕ) (s : Swap) : Type 0 where
   pub size : length (swapLine level line s) ≡ length line
   pub digits : SameButAt level (from0 s) line (swapLine level line s)
 
+-- "notes of which only bit j−1 is looked at; levels 12 and 14 take the earlier vote as well, of which beyond its refusal only bit j−1 counts": two swaps of one
+-- tributary and one buffer that agree in that bit
+pub record SameToSwap (a b : Swap) : Type 0 where
+  pub tributary : a .tributary ≡ b .tributary
+  pub buffer : a .buffer ≡ b .buffer
+  pub bits : SameBit (from0 a) (a .earlier) (b .earlier) (a .notes) (b .notes)
+
+-- leave the same line and answer the same
+pub record SwapsSame (level : ℕ) (line : List ℕ) (a b : Swap) : Type 0 where
+  pub left : swapLine level line a ≡ swapLine level line b
+  pub answer : swapped level (a .earlier) (a .tributary) (length line) (a .notes) (length (a .buffer))
+      ≡ swapped level (b .earlier) (b .tributary) (length line) (b .notes) (length (b .buffer))
+
 -- a note, or a vote before the notes, with one's bit for tributary j and the other's bits beside it
 pub record Mixed (j one other mixed : ℕ) : Type 0 where
   pub own : mixed / 2 ^ j % 2 ≡ one / 2 ^ j % 2
