@@ -4,3 +4,4 @@ pub mod NewFour
 pub mod NewSend
 pub mod Returned
 pub mod OwnBit
+pub mod Votes
