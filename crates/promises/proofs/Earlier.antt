@@ -1,8 +1,8 @@
 -- Levels 2 to 4 do not look at the vote before frame 0: their frames act on their own votes alone, and 5 is not given for it. So each call answers and leaves
 -- the same whatever it is, and demand 3 holds with a vote of its own for each call.
 use mathlib.Core.Path.{_≡_, refl, sym, _∙_, ap, fun-ext}
-use mathlib.Core.Bool.{Bool, cond, true, false, _&&_}
-use mathlib.Core.List.{List, [], _∷_}
+use mathlib.Core.Bool.{cond, true, false}
+use mathlib.Core.List.{List, []}
 use Prim.Native.Nat.{ℕ, _+_, _*_, _-_, _/_, _%_, _<_}
 use native.Mathlib.Omega.{arith}
 use lib.Dec.{eqb}
@@ -15,16 +15,15 @@ use Rattle.table.specs.declared.Level.{Level}
 use Rattle.table.specs.declared.Level.the-variants.{Of, NoSuchLevel}
 use Rattle.table.specs.Table.{levelOf}
 use Rattle.levels.specs.declared.judging.Counted.{Counted}
-use Rattle.levels.specs.declared.order.Action.{Action}
 use Rattle.levels.specs.Sizes.{onLevel, quarterOf}
 use Rattle.levels.specs.Places.{posOf}
-use Rattle.levels.specs.Order.{hasNegative, actionOf, actions, countsOf, decisions}
-use Rattle.levels.specs.Judging.{fault, refusedWith, earlierFault, faultOf, sendFaultOf, answerOn, answered, sendAnswerOn, sendAnswered}
-use Rattle.multiplex.specs.Line.{lineDigit, lineOf}
+use Rattle.levels.specs.Order.{hasNegative, actionOf, actions, countsOf}
+use Rattle.levels.specs.Judging.{fault, refusedWith, earlierFault, faultOf, sendFaultOf, answerOn, sendAnswerOn}
+use Rattle.multiplex.specs.Line.{lineDigit}
 use Rattle.multiplex.specs.Multiplex as multiplex
 use Rattle.reading.specs.Reading.{notesAfter}
 use Rattle.extraction.specs.Quarters.{takenTo, quarterFrom, quartersFrom}
-use Rattle.extraction.specs.Extract.{bufferOn, bufferAfter}
+use Rattle.extraction.specs.Extract.{bufferOn}
 use Rattle.promises.specs.Together.{Outcome}
 use Rattle.promises.specs.Calls.{Lent, SendAccepted, sentLine, ReadAccepted}
 use Rattle.promises.specs.Plain.{Numbers, stuffs, Changed, controlsDiffering, DemandThree}

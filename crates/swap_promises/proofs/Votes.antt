@@ -13,11 +13,10 @@ use Rattle.table.specs.Table.{levelOf}
 use Rattle.levels.specs.declared.judging.Counted.{Counted}
 use Rattle.levels.specs.Sizes.{onLevel, quarterOf}
 use Rattle.levels.specs.Order.{hasNegative}
-use Rattle.multiplex.specs.Line.{lineDigit}
 use Rattle.promises.specs.Calls.{Lent, SendAccepted, sentLine, sentDigits}
 use Rattle.promises.proofs.Earlier.{Without, without, acts, digit-alike, not-looked-at}
 use Rattle.swap.specs.Swap.{numberOf, swappedDigit, refusedWith, swappedOn, lineOn}
-use Rattle.swap_promises.specs.Swapping.{Swap, SwapAccepted, swapLine, from0, SwapsSame, withVote, NewFour, NewFourAnyVotes, newVote}
+use Rattle.swap_promises.specs.Swapping.{Swap, SwapAccepted, swapLine, from0, SwapsSame, withVote, NewFourAnyVotes, newVote}
 use Rattle.swap_promises.proofs.NewFour.{becomes-new}
 use Rattle.swap_promises.proofs.NewSend.{is-mixed}
 
