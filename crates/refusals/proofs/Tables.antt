@@ -1,0 +1,187 @@
+-- Each call's refusal number is the first of its table that applies.
+use mathlib.Core.Path.{_≡_, refl, sym, _∙_, ap}
+use mathlib.Core.Bool.{Bool, cond, true, false, not, _||_, _&&_, true≢false}
+use mathlib.Core.List.{List, [], _∷_}
+use Prim.Native.Nat.{ℕ, suc, _+_, _*_, _<_}
+use native.Mathlib.Omega.{arith}
+use lib.Dec.{eqb, ltb, leb}
+use lib.ListN.{length}
+use borrow.Author.Tests.{lt-ltb, le-ltb, ltb-true, ltb-false, eqb-true}
+use Rattle.table.specs.declared.Row.{Row}
+use Rattle.table.specs.declared.Level.{Level}
+use Rattle.table.specs.declared.Level.the-variants.{Of, NoSuchLevel}
+use Rattle.table.specs.Table.{levelOf}
+use Rattle.levels.specs.Sizes.{onLevel, badLine, badNotes, badBuffer, framesRefusal, sizeRefusal}
+use Rattle.levels.specs.Judging.{firstWith, overfull, unset, badEarlier, faultOf, sendFaultOf, answered, sendAnswered}
+use Rattle.digits.proofs.Tests.{cond-told}
+use Rattle.reading.specs.Reading.{noted}
+use Rattle.swap.specs.Swap as swap
+use Rattle.swap.specs.Swap.{badTributary, badRoom, swapped}
+use Rattle.repair.specs.Repair as repair
+use Rattle.repair.specs.Repair.{repaired}
+use Rattle.captures.specs.declared.Reading.{Reading}
+use Rattle.captures.specs.Captures.{fileOf, writeRefusal, writtenOf, endAt, fieldAt, afterLine, fieldsOf, readOf}
+use Rattle.refusals.specs.First.{Given, FirstThatApplies}
+use Rattle.refusals.specs.Tables.{anyOf, extractTable, multiplexTable, readNotesTable, swapTable, repairTable, writeTable, readTable}
+use Rattle.refusals.proofs.First.{firstOf, is-first}
+
+abbrev Nine : Reading → Type 0
+Nine r = eqb (r .refusal) 0 ≡ false → r .refusal ≡ 9
+
+-- the first note that is so comes before the end exactly if one is so
+first-any : (test : ℕ → Bool) (notes : List ℕ) → ltb (firstWith test notes) (length notes) ≡ anyOf test notes
+unfolding firstWith anyOf
+first-any test [] = refl
+first-any test (note ∷ notes) = go (test note) (first-any test notes)
+  where
+    go : (t : Bool) → ltb (firstWith test notes) (length notes) ≡ anyOf test notes
+        → ltb (cond t 0 (suc (firstWith test notes))) (suc (length notes)) ≡ (t || anyOf test notes)
+    go true e = lt-ltb 0 (suc (length notes)) (omega arith)
+    go false e = next (firstWith test notes) (length notes) ∙ e
+      where
+        next : (a b : ℕ) → ltb (suc a) (suc b) ≡ ltb a b
+        next a b = by (ltb a b) refl
+          where
+            by : (t : Bool) → ltb a b ≡ t → ltb (suc a) (suc b) ≡ t
+            by true e = lt-ltb (suc a) (suc b) (omega (arith, ltb-true a b e))
+            by false e = le-ltb (suc a) (suc b) (omega (arith, ltb-false a b e))
+
+-- ---- lines
+
+module _ (level : ℕ) (row : Row) (e : levelOf level ≡ Of row) (earlier line : ℕ) (notes : List ℕ) (buffer : ℕ) where
+  extract-by : (a b c d v : Bool) → badLine row line ≡ a → badNotes row line (length notes) ≡ b → badBuffer row line buffer ≡ c → badEarlier row earlier ≡ d
+      → anyOf (overfull row) notes ≡ v → firstOf (extractTable level earlier line notes buffer) ≡ answered level earlier line notes buffer .refusal
+  unfolding framesRefusal sizeRefusal faultOf
+  extract-by true b c d v ea eb ec ed ev = rw (e, ea)
+  extract-by false true c d v ea eb ec ed ev = rw (e, ea, eb)
+  extract-by false false true d v ea eb ec ed ev = rw (e, ea, eb, ec)
+  extract-by false false false true v ea eb ec ed ev = rw (e, ea, eb, ec, ed)
+  extract-by false false false false true ea eb ec ed ev = rw (e, ea, eb, ec, ed, ev, first-any (overfull row) notes, ev)
+  extract-by false false false false false ea eb ec ed ev = rw (e, ea, eb, ec, ed, ev, first-any (overfull row) notes, ev)
+
+pub extract-order : (level earlier line : ℕ) (notes : List ℕ) (buffer : ℕ)
+    → FirstThatApplies (extractTable level earlier line notes buffer) (answered level earlier line notes buffer .refusal)
+extract-order level earlier line notes buffer = is-first (extractTable level earlier line notes buffer) (answered level earlier line notes buffer .refusal) (go (levelOf level) refl)
+  where
+    go : (l : Level) → levelOf level ≡ l → firstOf (extractTable level earlier line notes buffer) ≡ answered level earlier line notes buffer .refusal
+    go (Of row) e =
+        extract-by level row e earlier line notes buffer (badLine row line) (badNotes row line (length notes)) (badBuffer row line buffer) (badEarlier row earlier) (anyOf (overfull row) notes)
+        refl refl refl refl refl
+    go NoSuchLevel e = rw e
+
+-- multiplexing: the same, then 10
+module _ (level : ℕ) (row : Row) (e : levelOf level ≡ Of row) (earlier line : ℕ) (notes : List ℕ) (buffer : ℕ) where
+  multiplex-by : (a b c d v w : Bool) → badLine row line ≡ a → badNotes row line (length notes) ≡ b → badBuffer row line buffer ≡ c → badEarlier row earlier ≡ d
+      → anyOf (overfull row) notes ≡ v → anyOf (unset row) notes ≡ w
+      → firstOf (multiplexTable level earlier line notes buffer) ≡ sendAnswered level earlier line notes buffer .refusal
+  unfolding framesRefusal sizeRefusal faultOf sendFaultOf
+  multiplex-by true b c d v w ea eb ec ed ev ew = rw (e, ea)
+  multiplex-by false true c d v w ea eb ec ed ev ew = rw (e, ea, eb)
+  multiplex-by false false true d v w ea eb ec ed ev ew = rw (e, ea, eb, ec)
+  multiplex-by false false false true v w ea eb ec ed ev ew = rw (e, ea, eb, ec, ed)
+  multiplex-by false false false false true w ea eb ec ed ev ew = rw (e, ea, eb, ec, ed, ev, first-any (overfull row) notes, ev)
+  multiplex-by false false false false false true ea eb ec ed ev ew =
+      rw (e, ea, eb, ec, ed, ev, first-any (overfull row) notes, ev, ew, first-any (unset row) notes, ew)
+  multiplex-by false false false false false false ea eb ec ed ev ew =
+      rw (e, ea, eb, ec, ed, ev, first-any (overfull row) notes, ev, ew, first-any (unset row) notes, ew)
+
+pub multiplex-order : (level earlier line : ℕ) (notes : List ℕ) (buffer : ℕ)
+    → FirstThatApplies (multiplexTable level earlier line notes buffer) (sendAnswered level earlier line notes buffer .refusal)
+multiplex-order level earlier line notes buffer =
+    is-first (multiplexTable level earlier line notes buffer) (sendAnswered level earlier line notes buffer .refusal) (go (levelOf level) refl)
+  where
+    go : (l : Level) → levelOf level ≡ l → firstOf (multiplexTable level earlier line notes buffer) ≡ sendAnswered level earlier line notes buffer .refusal
+    go (Of row) e =
+        multiplex-by level row e earlier line notes buffer (badLine row line) (badNotes row line (length notes)) (badBuffer row line buffer) (badEarlier row earlier)
+        (anyOf (overfull row) notes) (anyOf (unset row) notes) refl refl refl refl refl refl
+    go NoSuchLevel e = rw e
+
+pub read-notes-order : (level : ℕ) (line : List ℕ) (notes : ℕ) → FirstThatApplies (readNotesTable level (length line) notes) (noted level line notes .refusal)
+unfolding framesRefusal
+read-notes-order level line notes = is-first (readNotesTable level (length line) notes) (noted level line notes .refusal) (go (levelOf level) refl)
+  where
+    go : (l : Level) → levelOf level ≡ l → firstOf (readNotesTable level (length line) notes) ≡ noted level line notes .refusal
+    go (Of row) e = by (badLine row (length line)) (badNotes row (length line) notes) refl refl
+      where
+        by : (a b : Bool) → badLine row (length line) ≡ a → badNotes row (length line) notes ≡ b → firstOf (readNotesTable level (length line) notes) ≡ noted level line notes .refusal
+        by true b ea eb = rw (e, ea)
+        by false true ea eb = rw (e, ea, eb)
+        by false false ea eb = rw (e, ea, eb)
+    go NoSuchLevel e = rw e
+
+pub swap-order : (level earlier tributary line : ℕ) (notes : List ℕ) (buffer : ℕ)
+    → FirstThatApplies (swapTable level earlier tributary line (length notes) buffer) (swapped level earlier tributary line notes buffer .refusal)
+unfolding framesRefusal swap.numberOf
+swap-order level earlier tributary line notes buffer =
+    is-first (swapTable level earlier tributary line (length notes) buffer) (swapped level earlier tributary line notes buffer .refusal) (go (levelOf level) refl)
+  where
+    go : (l : Level) → levelOf level ≡ l → firstOf (swapTable level earlier tributary line (length notes) buffer) ≡ swapped level earlier tributary line notes buffer .refusal
+    go (Of row) e =
+        by (badTributary tributary) (badLine row line) (badNotes row line (length notes)) (badRoom row line buffer) (badEarlier row earlier) refl refl refl refl refl
+      where
+        by : (j a b c d : Bool) → badTributary tributary ≡ j → badLine row line ≡ a → badNotes row line (length notes) ≡ b → badRoom row line buffer ≡ c → badEarlier row earlier ≡ d
+            → firstOf (swapTable level earlier tributary line (length notes) buffer) ≡ swapped level earlier tributary line notes buffer .refusal
+        by true a b c d ej ea eb ec ed = rw (e, ej)
+        by false true b c d ej ea eb ec ed = rw (e, ej, ea)
+        by false false true c d ej ea eb ec ed = rw (e, ej, ea, eb)
+        by false false false true d ej ea eb ec ed = rw (e, ej, ea, eb, ec)
+        by false false false false true ej ea eb ec ed = rw (e, ej, ea, eb, ec, ed)
+        by false false false false false ej ea eb ec ed = rw (e, ej, ea, eb, ec, ed)
+    go NoSuchLevel e = rw e
+
+pub repair-order : (level earlier : ℕ) (national : Bool) (line : List ℕ)
+    → FirstThatApplies (repairTable level earlier (length line)) (repaired level earlier national line .refusal)
+unfolding repair.numberOf repair.changed
+repair-order level earlier national line = is-first (repairTable level earlier (length line)) (repaired level earlier national line .refusal) (go (levelOf level) refl)
+  where
+    go : (l : Level) → levelOf level ≡ l → firstOf (repairTable level earlier (length line)) ≡ repaired level earlier national line .refusal
+    go (Of row) e = by (badLine row (length line)) (badEarlier row earlier) refl refl
+      where
+        by : (a d : Bool) → badLine row (length line) ≡ a → badEarlier row earlier ≡ d → firstOf (repairTable level earlier (length line)) ≡ repaired level earlier national line .refusal
+        by true d ea ed = rw (e, ea)
+        by false true ea ed = rw (e, ea, ed)
+        by false false ea ed = rw (e, ea, ed)
+    go NoSuchLevel e = rw e
+
+-- ---- captures
+
+pub write-order : (level : ℕ) (line label : List ℕ) (labelled : Bool) (room : ℕ)
+    → FirstThatApplies (writeTable level line label labelled room) (writtenOf level line label labelled room .refusal)
+unfolding writeRefusal
+write-order level line label labelled room = is-first (writeTable level line label labelled room) (writtenOf level line label labelled room .refusal) (go (levelOf level) refl)
+  where
+    go : (l : Level) → levelOf level ≡ l → firstOf (writeTable level line label labelled room) ≡ writtenOf level line label labelled room .refusal
+    go (Of row) e =
+        by (badLine row (length line)) (labelled && ltb 32 (length label)) (ltb room (length (fileOf level line label labelled))) refl refl refl
+      where
+        by : (a b c : Bool) → badLine row (length line) ≡ a → labelled && ltb 32 (length label) ≡ b → ltb room (length (fileOf level line label labelled)) ≡ c
+            → firstOf (writeTable level line label labelled room) ≡ writtenOf level line label labelled room .refusal
+        by true b c ea eb ec = rw (e, ea)
+        by false true c ea eb ec = rw (e, ea, eb)
+        by false false true ea eb ec = rw (e, ea, eb, ec)
+        by false false false ea eb ec = rw (e, ea, eb, ec)
+    go NoSuchLevel e = rw e
+
+-- a run of fields is at fault with 9, or with nothing
+nine-or-none : (file : List ℕ) → eqb (fieldsOf file .refusal) 0 ≡ false → fieldsOf file .refusal ≡ 9
+unfolding fieldsOf afterLine
+nine-or-none file =
+    cond-told Nine (fieldAt file 0 1 1 1)
+    (λ _. cond-told Nine (fieldAt file 4 2 0 65535)
+    (λ _. cond-told Nine (eqb (endAt file 4) (length file)) (λ _ e. absurd (true≢false e))
+    (λ _. cond-told Nine (fieldAt file (endAt file 4) 3 0 32)
+    (λ _. cond-told Nine (eqb (endAt file (endAt file 4)) (length file)) (λ _ e. absurd (true≢false e)) (λ _ _. refl)) (λ _ _. refl)))
+    (λ _ _. refl))
+    (λ _ _. refl)
+
+pub read-order : (file : List ℕ) → FirstThatApplies (readTable file) (readOf file .refusal)
+read-order file = is-first (readTable file) (readOf file .refusal) (go (eqb (fieldsOf file .refusal) 0) refl (levelOf (fieldsOf file .level)) refl)
+  where
+    go : (t : Bool) → eqb (fieldsOf file .refusal) 0 ≡ t → (l : Level) → levelOf (fieldsOf file .level) ≡ l → firstOf (readTable file) ≡ readOf file .refusal
+    go false none l e = rw none (sym (nine-or-none file none))
+    go true none NoSuchLevel e = rw (none, e)
+    go true none (Of row) e = by (badLine row (fieldsOf file .line .bytes)) refl
+      where
+        by : (a : Bool) → badLine row (fieldsOf file .line .bytes) ≡ a → firstOf (readTable file) ≡ readOf file .refusal
+        by true ea = rw (none, e, ea)
+        by false ea = rw (none, e, ea) (sym (eqb-true (fieldsOf file .refusal) 0 none))
