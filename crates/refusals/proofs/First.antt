@@ -1,11 +1,11 @@
 -- One law for every call: the first row of a table that applies, found from the front, is the first that applies; and there is no second such answer.
 use mathlib.Core.Path.{_≡_, refl, sym, _∙_}
-use mathlib.Core.Bool.{Bool, cond, true, false, true≢false}
+use mathlib.Core.Bool.{Bool, cond, true, false}
 use mathlib.Core.List.{List, [], _∷_}
 use Prim.Native.Nat.{ℕ, zero, suc, _<_}
 use native.Mathlib.Omega.{arith}
 use lib.ListN.{length}
-use Rattle.refusals.specs.First.{Given, given, rowAt, FirstThatApplies}
+use Rattle.refusals.specs.First.{Given, rowAt, FirstThatApplies}
 
 -- found from the front
 abbrev pub firstOf : List Given → ℕ

@@ -1,17 +1,17 @@
 -- Each call's refusal number is the first of its table that applies.
-use mathlib.Core.Path.{_≡_, refl, sym, _∙_, ap}
+use mathlib.Core.Path.{_≡_, refl, sym, _∙_}
 use mathlib.Core.Bool.{Bool, cond, true, false, not, _||_, _&&_, true≢false}
 use mathlib.Core.List.{List, [], _∷_}
-use Prim.Native.Nat.{ℕ, suc, _+_, _*_, _<_}
+use Prim.Native.Nat.{ℕ, zero, suc, _+_, _*_, _<_}
 use native.Mathlib.Omega.{arith}
 use lib.Dec.{eqb, ltb, leb}
 use lib.ListN.{length}
-use borrow.Author.Tests.{lt-ltb, le-ltb, ltb-true, ltb-false, eqb-true}
+use borrow.Author.Tests.{lt-ltb, le-ltb, ltb-true, ltb-false, eqb-true, ne-eqb}
 use Rattle.table.specs.declared.Row.{Row}
 use Rattle.table.specs.declared.Level.{Level}
 use Rattle.table.specs.declared.Level.the-variants.{Of, NoSuchLevel}
 use Rattle.table.specs.Table.{levelOf}
-use Rattle.levels.specs.Sizes.{onLevel, badLine, badNotes, badBuffer, framesRefusal, sizeRefusal}
+use Rattle.levels.specs.Sizes.{badLine, badNotes, badBuffer, framesRefusal, sizeRefusal}
 use Rattle.levels.specs.Judging.{firstWith, overfull, unset, badEarlier, faultOf, sendFaultOf, answered, sendAnswered}
 use Rattle.digits.proofs.Tests.{cond-told}
 use Rattle.reading.specs.Reading.{noted}
@@ -21,8 +21,23 @@ use Rattle.repair.specs.Repair as repair
 use Rattle.repair.specs.Repair.{repaired}
 use Rattle.captures.specs.declared.Reading.{Reading}
 use Rattle.captures.specs.Captures.{fileOf, writeRefusal, writtenOf, endAt, fieldAt, afterLine, fieldsOf, readOf}
-use Rattle.refusals.specs.First.{Given, FirstThatApplies}
+use Rattle.compare.specs.Compare as compare
+use Rattle.receiver.specs.declared.State.{State}
+use Rattle.receiver.specs.declared.Fed.{Fed}
+use Rattle.receiver.specs.Modes.{testedAt}
+use Rattle.receiver.specs.Frame.{readyOf}
+use Rattle.receiver.specs.Alarm.{uncounted}
+use Rattle.receiver.specs.Feed.{coreOf, freshOf, invalid, refusalOf, afterOf, runOf, pieceOf, feedRow, feedOf}
+use Rattle.rack.specs.declared.record.Record.{Record}
+use Rattle.rack.specs.declared.record.Kept.{Kept}
+use Rattle.rack.specs.Record.{stateFrom, fedBy, fedRecord, keptReset}
+use Rattle.rack.specs.Rack.{at, listRefusal, refusalBy, fedAlone, countRefusal}
+use Rattle.multiframe.specs.Calls.{lengthsRight, silentFrom, firstSilent, builtOf}
+use Rattle.finder.specs.declared.State as finder
+use Rattle.finder.specs.Feed as finding
+use Rattle.refusals.specs.First.{Given, given, FirstThatApplies}
 use Rattle.refusals.specs.Tables.{anyOf, extractTable, multiplexTable, readNotesTable, swapTable, repairTable, writeTable, readTable}
+use Rattle.refusals.specs.Tables.{noLevel, compareTable, freshTable, pieceTable, feedTable, badRecord, rackFeedTable, rackResetTable, rackCountTable, apartTable, silent, buildTable, finderTable}
 use Rattle.refusals.proofs.First.{firstOf, is-first}
 
 abbrev Nine : Reading → Type 0
@@ -185,3 +200,146 @@ read-order file = is-first (readTable file) (readOf file .refusal) (go (eqb (fie
         by : (a : Bool) → badLine row (fieldsOf file .line .bytes) ≡ a → firstOf (readTable file) ≡ readOf file .refusal
         by true ea = rw (none, e, ea)
         by false ea = rw (none, e, ea) (sym (eqb-true (fieldsOf file .refusal) 0 none))
+
+pub compare-order : (one other : List ℕ) → FirstThatApplies (compareTable one other) (compare.faultOf (readOf one) (readOf other) .refusal)
+unfolding compare.faultOf
+compare-order one other =
+    is-first (compareTable one other) (compare.faultOf (readOf one) (readOf other) .refusal)
+    (by (eqb (readOf one .refusal) 0) (eqb (readOf other .refusal) 0) (eqb (readOf one .level) (readOf other .level)) (eqb (readOf one .line .bytes) (readOf other .line .bytes)) refl refl refl refl)
+  where
+    by : (a b c d : Bool) → eqb (readOf one .refusal) 0 ≡ a → eqb (readOf other .refusal) 0 ≡ b → eqb (readOf one .level) (readOf other .level) ≡ c
+        → eqb (readOf one .line .bytes) (readOf other .line .bytes) ≡ d → firstOf (compareTable one other) ≡ compare.faultOf (readOf one) (readOf other) .refusal
+    by false b c d ea eb ec ed = rw ea
+    by true false c d ea eb ec ed = rw (ea, eb)
+    by true true false d ea eb ec ed = rw (ea, eb, ec)
+    by true true true false ea eb ec ed = rw (ea, eb, ec, ed)
+    by true true true true ea eb ec ed = rw (ea, eb, ec, ed)
+
+-- ---- streams
+
+pub fresh-order : (level : ℕ) → FirstThatApplies (freshTable level) (freshOf level .refusal)
+fresh-order level = is-first (freshTable level) (freshOf level .refusal) (go (levelOf level) refl)
+  where
+    go : (l : Level) → levelOf level ≡ l → firstOf (freshTable level) ≡ freshOf level .refusal
+    go (Of row) e = rw e
+    go NoSuchLevel e = rw e
+
+-- a call that is run is not refused
+run-accepted : (row : Row) (ds : List ℕ) (taken words : ℕ) (s : State) → runOf row ds taken words s .refusal ≡ 0
+unfolding runOf
+run-accepted row [] taken words s = refl
+run-accepted row (d ∷ ds) taken words s =
+    cond-told (λ (f : Fed). f .refusal ≡ 0) (readyOf row (coreOf (afterOf row s d))) (λ _. refl)
+    (λ _. run-accepted row ds (suc taken) (words + testedAt row (coreOf s)) (afterOf row s d))
+
+feed-first : (s : State) (slice : List ℕ) (first count : ℕ) → firstOf (feedTable s slice first count) ≡ feedOf s slice first count .refusal
+unfolding feedRow refusalOf
+feed-first s slice first count = go (levelOf (s .level)) refl
+  where
+    go : (l : Level) → levelOf (s .level) ≡ l → firstOf (feedTable s slice first count) ≡ feedOf s slice first count .refusal
+    go NoSuchLevel e = rw e
+    go (Of row) e = by (invalid row (coreOf s) || uncounted row (s .stretch)) (ltb 65536 (length slice)) (ltb (8 * length slice) (first + count)) refl refl refl
+      where
+        by : (a b c : Bool) → (invalid row (coreOf s) || uncounted row (s .stretch)) ≡ a → ltb 65536 (length slice) ≡ b → ltb (8 * length slice) (first + count) ≡ c
+            → firstOf (feedTable s slice first count) ≡ feedOf s slice first count .refusal
+        by true b c ea eb ec = rw (e, ea)
+        by false true c ea eb ec = rw (e, ea, eb)
+        by false false true ea eb ec = rw (e, ea, eb, ec)
+        by false false false ea eb ec = rw (e, ea, eb, ec) (sym (run-accepted row (pieceOf slice first count) 0 0 s))
+
+pub feed-order : (s : State) (slice : List ℕ) (first count : ℕ) → FirstThatApplies (feedTable s slice first count) (feedOf s slice first count .refusal)
+feed-order s slice first count = is-first (feedTable s slice first count) (feedOf s slice first count .refusal) (feed-first s slice first count)
+
+-- ---- the rack
+
+-- what comes after the list's own two
+after-list : (number line : ℕ) (rest : List Given) (alone : Kept) → firstOf rest ≡ alone .refusal
+    → firstOf (given 8 (leb number line) ∷ given 2 (ltb 64 number) ∷ rest) ≡ refusalBy number line alone
+unfolding listRefusal
+after-list number line rest alone same = by (leb number line) (ltb 64 number) refl refl
+  where
+    by : (a b : Bool) → leb number line ≡ a → ltb 64 number ≡ b → firstOf (given 8 (leb number line) ∷ given 2 (ltb 64 number) ∷ rest) ≡ refusalBy number line alone
+    by true b ea eb = rw ea
+    by false true ea eb = rw (ea, eb)
+    by false false ea eb = rw (ea, eb) same
+
+rack-feed-first : (r : Record) (piece : List ℕ) (first count : ℕ) → firstOf (pieceTable (badRecord r) (length piece) first count) ≡ fedRecord r piece first count .refusal
+unfolding fedBy
+rack-feed-first r piece first count = by (ltb 1 (r .few) || ltb 1 (r .alarm)) refl
+  where
+    by : (t : Bool) → (ltb 1 (r .few) || ltb 1 (r .alarm)) ≡ t → firstOf (pieceTable (badRecord r) (length piece) first count) ≡ fedRecord r piece first count .refusal
+    by true e = rw e
+    by false e = rw e (feed-first (stateFrom r) piece first count)
+
+pub rack-feed-order : (records : List Record) (line : ℕ) (piece : List ℕ) (first count : ℕ)
+    → FirstThatApplies (rackFeedTable records line piece first count) (refusalBy (length records) line (fedAlone records line piece first count))
+rack-feed-order records line piece first count =
+    is-first (rackFeedTable records line piece first count) (refusalBy (length records) line (fedAlone records line piece first count))
+    (after-list (length records) line (pieceTable (badRecord (at records line)) (length piece) first count) (fedAlone records line piece first count)
+    (rack-feed-first (at records line) piece first count))
+
+pub rack-reset-order : (records : List Record) (line level : ℕ)
+    → FirstThatApplies (rackResetTable records line level) (refusalBy (length records) line (keptReset level (at records line)))
+rack-reset-order records line level =
+    is-first (rackResetTable records line level) (refusalBy (length records) line (keptReset level (at records line)))
+    (after-list (length records) line (given 1 (noLevel level) ∷ []) (keptReset level (at records line)) (go (levelOf level) refl))
+  where
+    go : (l : Level) → levelOf level ≡ l → firstOf (freshTable level) ≡ freshOf level .refusal
+    go (Of row) e = rw e
+    go NoSuchLevel e = rw e
+
+pub rack-count-order : (records : List Record) → FirstThatApplies (rackCountTable records) (countRefusal (length records))
+unfolding countRefusal
+rack-count-order records = is-first (rackCountTable records) (countRefusal (length records)) refl
+
+-- ---- 2048 kbit/s
+
+pub apart-order : (multiframe channels signalling spare : ℕ)
+    → FirstThatApplies (apartTable multiframe channels signalling spare) (cond (lengthsRight multiframe channels signalling spare) 0 2)
+apart-order multiframe channels signalling spare =
+    is-first (apartTable multiframe channels signalling spare) (cond (lengthsRight multiframe channels signalling spare) 0 2) (by (lengthsRight multiframe channels signalling spare))
+  where
+    by : (t : Bool) → _≡_ {A = ℕ} (cond (not t) 2 0) (cond t 0 2)
+    by true = refl
+    by false = refl
+
+-- a channel from c on is silent exactly if one is found, and channels count from 1
+channelsFrom : ℕ → ℕ → List ℕ
+channelsFrom c zero = []
+channelsFrom c (suc n) = c ∷ channelsFrom (suc c) n
+
+silent-found : (signalling : List ℕ) (n c : ℕ) → 0 < c → not (eqb (silentFrom signalling c n) 0) ≡ anyOf (silent signalling) (channelsFrom c n)
+unfolding silentFrom anyOf channelsFrom
+silent-found signalling zero c some = refl
+silent-found signalling (suc n) c some = by (silent signalling c) (silent-found signalling n (suc c) (omega arith))
+  where
+    by : (t : Bool) → not (eqb (silentFrom signalling (suc c) n) 0) ≡ anyOf (silent signalling) (channelsFrom (suc c) n)
+        → not (eqb (cond t c (silentFrom signalling (suc c) n)) 0) ≡ (t || anyOf (silent signalling) (channelsFrom (suc c) n))
+    by true e = rw (ne-eqb c 0 (λ q. omega arith))
+    by false e = e
+
+pub build-order : (multiframe channels : ℕ) (signalling : List ℕ) (spare : ℕ)
+    → FirstThatApplies (buildTable multiframe channels signalling spare) (builtOf multiframe channels signalling spare .refusal)
+unfolding channelsFrom
+build-order multiframe channels signalling spare =
+    is-first (buildTable multiframe channels signalling spare) (builtOf multiframe channels signalling spare .refusal)
+    (by (lengthsRight multiframe channels (length signalling) spare) (eqb (firstSilent signalling) 0) refl refl (silent-found signalling 15 1 (omega arith)))
+  where
+    by : (a b : Bool) → lengthsRight multiframe channels (length signalling) spare ≡ a → eqb (firstSilent signalling) 0 ≡ b
+        → not (eqb (firstSilent signalling) 0) ≡ anyOf (silent signalling) (channelsFrom 1 15)
+        → firstOf (buildTable multiframe channels signalling spare) ≡ builtOf multiframe channels signalling spare .refusal
+    by false b ea eb same = rw ea
+    by true true ea eb same = rw (ea, ← same, eb)
+    by true false ea eb same = rw (ea, ← same, eb)
+
+pub finder-order : (s : finder.State) (slice : List ℕ) (first count : ℕ) → FirstThatApplies (finderTable s slice first count) (finding.feedOf s slice first count .refusal)
+unfolding finding.feedOf finding.refusalOf
+finder-order s slice first count =
+    is-first (finderTable s slice first count) (finding.feedOf s slice first count .refusal) (by (finding.invalid s) (ltb 65536 (length slice)) (ltb (8 * length slice) (first + count)) refl refl refl)
+  where
+    by : (a b c : Bool) → finding.invalid s ≡ a → ltb 65536 (length slice) ≡ b → ltb (8 * length slice) (first + count) ≡ c
+        → firstOf (finderTable s slice first count) ≡ finding.feedOf s slice first count .refusal
+    by true b c ea eb ec = rw ea
+    by false true c ea eb ec = rw (ea, eb)
+    by false false true ea eb ec = rw (ea, eb, ec)
+    by false false false ea eb ec = rw (ea, eb, ec)
