@@ -3,3 +3,4 @@ pub mod Judging
 pub mod Walking
 pub mod Files
 pub mod Answers
+pub mod Faults
