@@ -1,4 +1,4 @@
--- Where no more digits differ than are listed, each of them is listed: a second use of "none of the earlier ones is left out" (specs/Promises.antt).
+-- Where no more digits differ than are listed, each of them is listed: what `complete` of specs/Promises.antt says of the last one too.
 use mathlib.Core.Path.{_≡_}
 use mathlib.Core.Bool.{Bool, true}
 use mathlib.Core.List.{List}

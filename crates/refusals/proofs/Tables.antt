@@ -6,12 +6,12 @@ use Prim.Native.Nat.{ℕ, zero, suc, _+_, _*_, _<_}
 use native.Mathlib.Omega.{arith}
 use lib.Dec.{eqb, ltb, leb}
 use lib.ListN.{length}
-use borrow.Author.Tests.{lt-ltb, le-ltb, ltb-true, ltb-false, eqb-true, ne-eqb}
+use borrow.Author.Tests.{lt-ltb, le-ltb, ltb-true, ltb-false, eqb-true, eqb-false, ne-eqb}
 use Rattle.table.specs.declared.Row.{Row}
 use Rattle.table.specs.declared.Level.{Level}
 use Rattle.table.specs.declared.Level.the-variants.{Of, NoSuchLevel}
 use Rattle.table.specs.Table.{levelOf}
-use Rattle.levels.specs.Sizes.{badLine, badNotes, badBuffer, framesRefusal, sizeRefusal}
+use Rattle.levels.specs.Sizes.{onLevel, badLine, badNotes, badBuffer, framesRefusal, sizeRefusal}
 use Rattle.levels.specs.Judging.{firstWith, overfull, unset, badEarlier, faultOf, sendFaultOf, answered, sendAnswered}
 use Rattle.digits.proofs.Tests.{cond-told}
 use Rattle.reading.specs.Reading.{noted}
@@ -201,19 +201,46 @@ read-order file = is-first (readTable file) (readOf file .refusal) (go (eqb (fie
         by true ea = rw (none, e, ea)
         by false ea = rw (none, e, ea) (sym (eqb-true (fieldsOf file .refusal) 0 none))
 
-pub compare-order : (one other : List ℕ) → FirstThatApplies (compareTable one other) (compare.faultOf (readOf one) (readOf other) .refusal)
-unfolding compare.faultOf
+-- an accepted capture has a level
+has-level : (file : List ℕ) → readOf file .refusal ≡ 0 → levelOf (readOf file .level) ≡ NoSuchLevel → ⊥
+has-level file ok none = go (eqb (fieldsOf file .refusal) 0) refl (levelOf (fieldsOf file .level)) refl
+  where
+    one : _≡_ {A = ℕ} 1 0 → ⊥
+    one e = omega arith
+
+    go : (t : Bool) → eqb (fieldsOf file .refusal) 0 ≡ t → (l : Level) → levelOf (fieldsOf file .level) ≡ l → ⊥
+    go false x l y = eqb-false (fieldsOf file .refusal) 0 x (rw x at ok)
+    go true x NoSuchLevel y = one (rw (x, y) at ok)
+    go true x (Of row) y = by-line (badLine row (fieldsOf file .line .bytes)) refl
+      where
+        two : _≡_ {A = ℕ} 2 0 → ⊥
+        two e = omega arith
+
+        some : Of row ≡ NoSuchLevel → ⊥
+        some e = let z : _≡_ {A = ℕ} 0 1 = cc in omega arith
+
+        by-line : (t : Bool) → badLine row (fieldsOf file .line .bytes) ≡ t → ⊥
+        by-line true z = two (rw (x, y, z) at ok)
+        by-line false z = some (sym y ∙ (rw (x, y, z) at none))
+
+pub compare-order : (one other : List ℕ) → FirstThatApplies (compareTable one other) (compare.comparedOf one other .refusal)
+unfolding compare.faultOf compare.comparedOf compare.countedOn
 compare-order one other =
-    is-first (compareTable one other) (compare.faultOf (readOf one) (readOf other) .refusal)
+    is-first (compareTable one other) (compare.comparedOf one other .refusal)
     (by (eqb (readOf one .refusal) 0) (eqb (readOf other .refusal) 0) (eqb (readOf one .level) (readOf other .level)) (eqb (readOf one .line .bytes) (readOf other .line .bytes)) refl refl refl refl)
   where
+    accepted : (l : Level) → levelOf (readOf one .level) ≡ l → readOf one .refusal ≡ 0
+        → 0 ≡ onLevel l (λ (row : Row). compare.countedOn row (compare.lineOf one) (compare.lineOf other)) (compare.refusedBy (compare.faultIn 1 0 0)) .refusal
+    accepted (Of row) e ok = refl
+    accepted NoSuchLevel e ok = absurd (has-level one ok e)
+
     by : (a b c d : Bool) → eqb (readOf one .refusal) 0 ≡ a → eqb (readOf other .refusal) 0 ≡ b → eqb (readOf one .level) (readOf other .level) ≡ c
-        → eqb (readOf one .line .bytes) (readOf other .line .bytes) ≡ d → firstOf (compareTable one other) ≡ compare.faultOf (readOf one) (readOf other) .refusal
-    by false b c d ea eb ec ed = rw ea
-    by true false c d ea eb ec ed = rw (ea, eb)
+        → eqb (readOf one .line .bytes) (readOf other .line .bytes) ≡ d → firstOf (compareTable one other) ≡ compare.comparedOf one other .refusal
+    by false b c d ea eb ec ed = rw (ea, ea)
+    by true false c d ea eb ec ed = rw (ea, eb, eb)
     by true true false d ea eb ec ed = rw (ea, eb, ec)
     by true true true false ea eb ec ed = rw (ea, eb, ec, ed)
-    by true true true true ea eb ec ed = rw (ea, eb, ec, ed)
+    by true true true true ea eb ec ed = rw (ea, eb, ec, ed) (accepted (levelOf (readOf one .level)) refl (eqb-true (readOf one .refusal) 0 ea))
 
 -- ---- streams
 

@@ -21,5 +21,5 @@ rowAt table i = getD table i (given 0 false)
 pub record FirstThatApplies (table : List Given) (answer : ℕ) : Type 0 where
   -- a row applies, and none before it: its number is the answer
   pub first : (i : ℕ) → i < length table → rowAt table i .applies ≡ true → ((k : ℕ) → k < i → rowAt table k .applies ≡ false) → answer ≡ rowAt table i .number
-  -- no row applies: "0: accepted"
+  -- no row applies: 0, accepted
   pub none : ((i : ℕ) → i < length table → rowAt table i .applies ≡ false) → answer ≡ 0
