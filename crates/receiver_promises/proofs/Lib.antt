@@ -7,3 +7,4 @@ pub mod Calls
 pub mod Alarms
 pub mod FramedLines
 pub mod Standing
+pub mod Empty
