@@ -175,5 +175,5 @@ comes-back-with-switch level earlier send line answer left ok wear = comes-back 
 
     go : (l : Level) → onLevel l (λ (row : Row). WearWithSwitch row earlier (send .notes) (length (send .notes)) (digitsOf (sentLine level earlier send)) (digitsOf line)) ⊥
         → onLevel l (λ (row : Row). Wear row earlier true (send .notes) (length (send .notes)) (digitsOf (sentLine level earlier send)) (digitsOf line)) ⊥
-    go (Of row) w = record { damage = w .damage; service-kept = λ p s h k u. w .others-kept p s h k (no-national s u) }
+    go (Of row) w = record { damage = w .worn; service-kept = λ p s h k u. sym (w .others-kept p s h k (no-national s u)) }
     go NoSuchLevel w = w

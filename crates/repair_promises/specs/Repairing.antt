@@ -95,8 +95,8 @@ WearAt level earlier national notes sent received =
 
 -- with the switch on the national digits may be worn too: damage of demand 3's sort that leaves every service digit that is no national one
 pub record WearWithSwitch (row : Row) (earlier : ℕ) (notes : List ℕ) (F : ℕ) (sent received : List ℕ) : Type 0 where
-  pub damage : Damage row earlier notes F sent received
-  pub others-kept : (p : ℕ) (s : ServiceDigit) → p < F * row .digits → kindAt row p ≡ Service s → isNational s ≡ false → getD received p 0 ≡ getD sent p 0
+  pub worn : Damage row earlier notes F sent received
+  pub others-kept : (p : ℕ) (s : ServiceDigit) → p < F * row .digits → kindAt row p ≡ Service s → isNational s ≡ false → getD sent p 0 ≡ getD received p 0
 
 abbrev pub WearWithSwitchAt : ℕ → ℕ → List ℕ → List ℕ → List ℕ → Type 0
 WearWithSwitchAt level earlier notes sent received =
