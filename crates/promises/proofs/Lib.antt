@@ -13,3 +13,4 @@ pub mod Levels
 pub mod Exact
 pub mod Border
 pub mod Earlier
+pub mod NoFrames

@@ -7,3 +7,4 @@ pub mod Extraction
 pub mod Plain
 pub mod Border
 pub mod Earlier
+pub mod NoFrames
