@@ -8,3 +8,4 @@ pub mod Alarms
 pub mod FramedLines
 pub mod Standing
 pub mod Empty
+pub mod Asked
