@@ -4,3 +4,4 @@ pub mod Walking
 pub mod Files
 pub mod Answers
 pub mod Faults
+pub mod Rest

@@ -1,6 +1,5 @@
 -- "An empty piece takes 0 and changes nothing": from any state, whether it is refused or not.
-use mathlib.Core.Path.{_≡_, refl}
-use mathlib.Core.Bool.{false}
+use mathlib.Core.Path.{refl}
 use mathlib.Core.List.{List}
 use Prim.Native.Nat.{ℕ}
 use lib.Dec.{eqb}
@@ -10,12 +9,8 @@ use Rattle.table.specs.declared.Level.{Level}
 use Rattle.table.specs.declared.Level.the-variants.{Of, NoSuchLevel}
 use Rattle.table.specs.Table.{levelOf}
 use Rattle.receiver.specs.declared.State.{State}
-use Rattle.receiver.specs.declared.Fed.{Fed}
 use Rattle.receiver.specs.Feed.{coreOf, refusalOf, runOf, feedRow, feedAt, feedOf}
-
--- no digit taken, no frame ready, no word tested, the state as it was
-abbrev pub Unmoved : State → Fed → Type 0
-Unmoved s fed = (fed .taken ≡ 0) × (fed .ready ≡ false) × (fed .words ≡ 0) × (fed .state ≡ s)
+use Rattle.receiver_promises.specs.History.{Unmoved}
 
 pub empty-piece : (s : State) (slice : List ℕ) (first : ℕ) → Unmoved s (feedOf s slice first 0)
 unfolding feedRow runOf

@@ -21,14 +21,10 @@ use Rattle.receiver.specs.Turns.{Turns}
 use Rattle.receiver.specs.Feed.{freshState}
 use Rattle.receiver.proofs.Counts.{counted-append}
 use Rattle.receiver.proofs.Turns.{ended-turns}
-use Rattle.receiver_promises.specs.Stretches.{stretchAt, FewAt, MoreAt, Stands}
+use Rattle.receiver_promises.specs.Stretches.{stretchAt, FewAt, MoreAt, Stands, afterStretches}
 use Rattle.receiver_promises.specs.History.{since}
 use Rattle.receiver_promises.proofs.Pieces.{heard-stretch}
 use Rattle.receiver_promises.proofs.Alarms.{some-digits, counted-rest, counted-whole}
-
--- what is known after n whole stretches of a history
-pub afterStretches : Row → List ℕ → ℕ → Stretch
-afterStretches row ds n = counted row freshStretch (take (n * row .digits) ds)
 
 -- no digit of the next stretch is counted yet
 abbrev Whole : Stretch → Type 0

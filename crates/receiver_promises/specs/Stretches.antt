@@ -7,7 +7,8 @@ use Prim.Native.Nat.{ℕ, zero, suc, _+_, _*_, _/_, _≤_, _<_}
 use lib.ListN.{length, take, drop}
 use Rattle.digits.specs.Digits.{zerosIn}
 use Rattle.table.specs.declared.Row.{Row}
-use Rattle.receiver.specs.Alarm.{isFew, alarmAfter}
+use Rattle.receiver.specs.declared.alarm.Stretch.{Stretch}
+use Rattle.receiver.specs.Alarm.{isFew, alarmAfter, counted, freshStretch}
 
 -- the first n stretches of these digits, N digits each
 unfoldable pub stretchesOf : Row → ℕ → List ℕ → List (List ℕ)
@@ -46,3 +47,7 @@ pub record Stands (row : Row) (ds : List ℕ) (n : ℕ) : Type 0 where
   pub within : begun + 1 < n
   pub few : FewAt row ds begun × FewAt row ds (begun + 1)
   pub not-ended : (k : ℕ) → begun < k → k + 1 < n → MoreAt row ds k → MoreAt row ds (k + 1) → ⊥
+
+-- what the receiver knows after n whole stretches of a history
+unfoldable pub afterStretches : Row → List ℕ → ℕ → Stretch
+afterStretches row ds n = counted row freshStretch (take (n * row .digits) ds)
