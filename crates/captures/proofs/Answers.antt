@@ -68,7 +68,7 @@ pub record ReadWell (file : List ℕ) : Type 0 where
   pub same : readOf file ≡ fieldsOf file
 
 read-well : (file : List ℕ) → readOf file .refusal ≡ 0 → ReadWell file
-read-well file = go (eqb (fieldsOf file .refusal) 0) refl
+read-well file ok = go (eqb (f .refusal) 0) refl (levelOf (f .level)) refl
   where
     f : Reading
     f = fieldsOf file
@@ -79,20 +79,14 @@ read-well file = go (eqb (fieldsOf file .refusal) 0) refl
     no-line : _≡_ {A = ℕ} 2 0 → ⊥
     no-line e = omega arith
 
-    by-line : (row : Row) (t : Bool) → badLine row (f .line .bytes) ≡ t → cond t (unread 2 0) f .refusal ≡ 0 → (t ≡ false) × (cond t (unread 2 0) f ≡ f)
-    by-line row true x e = absurd (no-line e)
-    by-line row false x e = (refl, refl)
-
-    by-level : (l : Level) → levelOf (f .level) ≡ l → eqb (f .refusal) 0 ≡ true
-        → onLevel l (λ (row : Row). cond (badLine row (f .line .bytes)) (unread 2 0) f) (unread 1 0) .refusal ≡ 0 → ReadWell file
-    by-level (Of row) x t e =
-        let both = by-line row (badLine row (f .line .bytes)) refl e in
-        record { fields = eqb-true (f .refusal) 0 t; row = row; has-row = x; line-good = both .0; same = rw (t, x) (both .1) }
-    by-level NoSuchLevel x t e = absurd (no-such e)
-
-    go : (t : Bool) → eqb (f .refusal) 0 ≡ t → cond t (judged f) f .refusal ≡ 0 → ReadWell file
-    go true x e = by-level (levelOf (f .level)) refl x e
-    go false x e = absurd (eqb-false (f .refusal) 0 x e)
+    go : (t : Bool) → eqb (f .refusal) 0 ≡ t → (l : Level) → levelOf (f .level) ≡ l → ReadWell file
+    go false x l y = absurd (eqb-false (f .refusal) 0 x (rw x at ok))
+    go true x NoSuchLevel y = absurd (no-such (rw (x, y) at ok))
+    go true x (Of row) y = by-line (badLine row (f .line .bytes)) refl
+      where
+        by-line : (t : Bool) → badLine row (f .line .bytes) ≡ t → ReadWell file
+        by-line true z = absurd (no-line (rw (x, y, z) at ok))
+        by-line false z = record { fields = eqb-true (f .refusal) 0 x; row = row; has-row = y; line-good = z; same = rw (x, y, z) refl }
 
 -- a run of fields whose level and line are good is read as it was found
 read-found : (file : List ℕ) (f : Reading) → fieldsOf file ≡ f → f .refusal ≡ 0 → (row : Row) → levelOf (f .level) ≡ Of row → badLine row (f .line .bytes) ≡ false

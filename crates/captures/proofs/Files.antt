@@ -10,8 +10,9 @@ use lib.ListN.{length, getD, take, drop, length-append, length-take, length-drop
 use lib.Seq.{length-take-le, drop-cons, drop-at, getD-append-add, take-append-seam, take-length}
 use borrow.Author.Tests.{eq-eqb, ne-eqb, le-ltb, eqb-true}
 use Rattle.digits.specs.Digits.{Bytes}
+use Rattle.digits.proofs.Tests.{cond-told}
 use Rattle.captures.specs.declared.Reading.{Reading}
-use Rattle.captures.specs.Captures.{fieldOf, fileOf, lengthAt, endAt, partAt, nowhere, fieldAt, unread, unlabelled, labelledAt, afterLine, fieldsOf, bytesIn}
+use Rattle.captures.specs.Captures.{fieldOf, fileOf, lengthAt, endAt, partAt, nowhere, fieldAt, unlabelled, labelledAt, afterLine, fieldsOf, bytesIn}
 use Rattle.captures.specs.Trips.{Gives}
 use Rattle.captures.proofs.Putting.{file-length}
 use Rattle.captures.proofs.Walking.{Stands, stands, stood, field-is}
@@ -185,25 +186,24 @@ module _ (file : List ℕ) (bytes : Bytes file) (s : Stands file 0 1 1 1) (t : S
 -- so is every file whose run of tags and lengths is accepted
 pub fields-made : (file : List ℕ) → Bytes file → fieldsOf file .refusal ≡ 0 → Made file (fieldsOf file)
 unfolding fieldsOf afterLine
-fields-made file bytes = go (fieldAt file 0 1 1 1) (fieldAt file 4 2 0 65535) refl refl
+fields-made file bytes =
+    cond-told Accepted (fieldAt file 0 1 1 1)
+    (λ level. cond-told Accepted (fieldAt file 4 2 0 65535)
+    (λ line. let s = stands file 0 1 1 1 level in
+    let t = stands file 4 2 0 65535 line in
+    cond-told Accepted (eqb p (length file)) (λ end _. made-unlabelled file bytes s t (eqb-true p (length file) end))
+    (λ _. cond-told Accepted (fieldAt file p 3 0 32)
+    (λ label. cond-told Accepted (eqb (endAt file p) (length file))
+    (λ end _. made-labelled file bytes s t (stands file p 3 0 32 label) (eqb-true (endAt file p) (length file) end)) (λ _ e. absurd (nine e)))
+    (λ _ e. absurd (nine e))))
+    (λ _ e. absurd (nine e)))
+    (λ _ e. absurd (nine e))
   where
     p : ℕ
     p = endAt file 4
 
+    Accepted : Reading → Type 0
+    Accepted found = found .refusal ≡ 0 → Made file found
+
     nine : _≡_ {A = ℕ} 9 0 → ⊥
     nine e = omega arith
-
-    after : (s : Stands file 0 1 1 1) (t : Stands file 4 2 0 65535) (a b c : Bool) → eqb p (length file) ≡ a → fieldAt file p 3 0 32 ≡ b → eqb (endAt file p) (length file) ≡ c
-        → cond a (unlabelled file) (cond b (cond c (labelledAt file p) (unread 9 (endAt file p))) (unread 9 p)) .refusal ≡ 0
-        → Made file (cond a (unlabelled file) (cond b (cond c (labelledAt file p) (unread 9 (endAt file p))) (unread 9 p)))
-    after s t true b c x y z e = made-unlabelled file bytes s t (eqb-true p (length file) x)
-    after s t false true true x y z e = made-labelled file bytes s t (stands file p 3 0 32 y) (eqb-true (endAt file p) (length file) z)
-    after s t false true false x y z e = absurd (nine e)
-    after s t false false c x y z e = absurd (nine e)
-
-    go : (a b : Bool) → fieldAt file 0 1 1 1 ≡ a → fieldAt file 4 2 0 65535 ≡ b → cond a (cond b (afterLine file p) (unread 9 4)) (unread 9 0) .refusal ≡ 0
-        → Made file (cond a (cond b (afterLine file p) (unread 9 4)) (unread 9 0))
-    go true true x y e =
-        after (stands file 0 1 1 1 x) (stands file 4 2 0 65535 y) (eqb p (length file)) (fieldAt file p 3 0 32) (eqb (endAt file p) (length file)) refl refl refl e
-    go true false x y e = absurd (nine e)
-    go false b x y e = absurd (nine e)

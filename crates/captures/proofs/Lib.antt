@@ -3,3 +3,5 @@ pub mod Judging
 pub mod Walking
 pub mod Files
 pub mod Answers
+pub mod Faults
+pub mod Rest

@@ -4,7 +4,7 @@ use mathlib.Core.Path.{_≡_}
 use mathlib.Core.Bool.{Bool, cond, true}
 use mathlib.Core.List.{List, []}
 use Prim.Native.Nat.{ℕ, _≤_, _<_}
-use lib.ListN.{length}
+use lib.ListN.{length, take, drop}
 use Rattle.captures.specs.declared.Reading.{Reading}
 use Rattle.captures.specs.Captures.{fileOf, bytesIn}
 
@@ -25,3 +25,7 @@ pub record Run (file : List ℕ) : Type 0 where
   pub line-fits : length line < 65536
   pub label-fits : labelled ≡ true → length label ≤ 32
   pub is : file ≡ fileOf level line label labelled
+
+-- "bytes after the file stay": so many bytes are the file that was written, and those after them are as they were
+abbrev pub Stays : List ℕ → List ℕ → List ℕ → ℕ → Type 0
+Stays written lent left bytes = (take bytes left ≡ written) × (drop bytes left ≡ drop bytes lent)

@@ -6,3 +6,4 @@ pub mod Lists
 pub mod Answers
 pub mod Growing
 pub mod StretchAnswers
+pub mod AllListed

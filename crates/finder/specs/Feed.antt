@@ -40,7 +40,7 @@ invalid s =
     || misplaced (s .mode) (s .place)
     || not (hunting (s .mode)) && ltb (s .seen) 7
 
--- "A piece is refused in the order 6, 2, 7 as at the receiver": 2, a slice over 65,536 bytes; 7, first digit plus number of digits is more
+-- a piece is refused in the order 6, 2, 7, as at the receiver: 2, a slice over 65,536 bytes; 7, first digit plus number of digits is more
 -- than the slice holds
 unfoldable pub refusalOf : State → ℕ → ℕ → ℕ → ℕ
 refusalOf s bytes first count =

@@ -102,7 +102,7 @@ afterDigit w seen mode place d =
 unfoldable pub stepOf : State → ℕ → State
 stepOf s d = afterDigit (windowOf (s .window) d) (seenOf (s .seen)) (s .mode) (s .place) d
 
--- "the digit at which alignment is found or lost": aligned before it or after it, and not both
+-- the digit at which alignment is found or lost: aligned before it or after it, and not both
 abbrev pub differ : Bool → Bool → Bool
 differ true b = not b
 differ false b = b

@@ -3,11 +3,12 @@
 use mathlib.Core.Path.{_≡_, refl, sym, ap, _∙_}
 use mathlib.Core.Bool.{Bool, true, false, not, true≢false}
 use mathlib.Core.List.{List, [], _∷_, _++_, append-assoc}
-use Prim.Native.Nat.{ℕ, zero, suc, _<_}
+use Prim.Native.Nat.{ℕ, zero, suc, _-_, _<_}
 use native.Mathlib.Omega.{arith}
 use lib.ListN.{length, getD, take}
-use lib.Seq.{take-suc}
+use lib.Seq.{take-suc, take-all}
 use Rattle.digits.specs.Digits.{Binary}
+use Rattle.digits.specs.Histories.{ago}
 use Rattle.digits.specs.Runs.{pieceOf}
 use Rattle.digits.proofs.Lists.{binary-append, binary-take}
 use Rattle.digits.proofs.Runs.{heard-append, Ran, ran, piece-binary}
@@ -15,7 +16,7 @@ use Rattle.finder.specs.declared.State.{State}
 use Rattle.finder.specs.declared.Fed.{Fed}
 use Rattle.finder.specs.Modes.{aligned, stepOf, differ, turned}
 use Rattle.finder.specs.Feed.{freshState, fedBy, runFrom, feedOf}
-use Rattle.finder_promises.specs.History.{since, Found, Lost}
+use Rattle.finder_promises.specs.History.{since, Found, Lost, ThreeWrong}
 use Rattle.finder_promises.proofs.Pieces.{feed-run, accepted-valid, answered, run-says}
 use Rattle.finder_promises.proofs.Traces.{found-since, lost-since}
 
@@ -103,3 +104,13 @@ module _ (ds : List ℕ) (bin : Binary ds) (slice : List ℕ) (first count : ℕ
       rw (whole st) at
       (lost-since (ds ++ take (st .k) new) (getD new (st .k) 0) (binary st)
       (differ-then (aligned (since (ds ++ take (st .k) new) .mode)) (aligned (since (ds ++ take (st .k) new ++ (getD new (st .k) 0 ∷ [])) .mode)) (st .turn) now) now)
+
+  -- the three words, one by one
+  pub feed-three-wrong : aligned (since ds .mode) ≡ true → fed .aligned ≡ false → ThreeWrong (ds ++ take (fed .taken) new)
+  feed-three-wrong before after =
+      let all = ds ++ take (fed .taken) new in
+      let lost = feed-lost before after in
+      record { third = λ came. lost 0 (omega arith) (rw (ago-none all) came); second = lost 1 (omega arith); first = lost 2 (omega arith) }
+    where
+      ago-none : (xs : List ℕ) → ago 0 xs ≡ xs
+      ago-none xs = take-all (length xs - 0) xs (omega arith)

@@ -25,6 +25,12 @@ pub record Found (ds : List ℕ) : Type 0 where
 abbrev pub Lost : List ℕ → Type 0
 Lost ds = (j : ℕ) → j < 3 → Came word (ago (512 * j) ds) → ⊥
 
+-- the same word by word: none came now, nor a frame of 512 digits before, nor two before
+pub record ThreeWrong (ds : List ℕ) : Type 0 where
+  pub third : Came word ds → ⊥
+  pub second : Came word (ago 512 ds) → ⊥
+  pub first : Came word (ago 1024 ds) → ⊥
+
 -- 512 digits at whose end a word is due, and the last seven are not the word
 pub record Missed (s : State) (es : List ℕ) (d : ℕ) : Type 0 where
   pub size : length es ≡ 511

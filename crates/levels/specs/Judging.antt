@@ -68,7 +68,7 @@ faultOf row earlier line notes buffer =
 unfoldable pub sendFaultOf : Row → ℕ → ℕ → List ℕ → ℕ → Fault
 sendFaultOf row earlier line notes buffer = orElse (faultOf row earlier line notes buffer) (nationalFault row notes)
 
--- "all counts 0"
+-- "all counts .. are 0"
 abbrev pub refusedWith : Fault → Counted
 refusedWith found = record { refusal = found .refusal; frame = found .frame; counts = 0 ∷ 0 ∷ 0 ∷ 0 ∷ [] }
 

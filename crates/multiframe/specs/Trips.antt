@@ -7,7 +7,7 @@ use Rattle.digits.specs.Digits.{digitsOf}
 use Rattle.multiframe.specs.declared.Kind.the-variants.{Fixed, Channel}
 use Rattle.multiframe.specs.Multiframe.{kindAt, channelFrom}
 
--- "wherever its fixed digits are right": the words, the second digits of 1, and 0000
+-- its fixed digits are right: the words, the second digits of 1, and 0000
 abbrev pub FixedRight : List ℕ → Type 0
 FixedRight multiframe = (p v : ℕ) → p < 4096 → kindAt p ≡ Fixed v → getD (digitsOf multiframe) p 0 ≡ v
 

@@ -38,12 +38,12 @@ use Rattle.reading.specs.Notes.{voteAt, serviceAt, noteOf}
 use Rattle.extraction.specs.Quarters.{takenTo, quarterFrom, quartersFrom}
 use Rattle.promises.specs.Damage.{Liberty, at-will, counted, kept, liberty, libertyAt, groupAt, allowed, DamageUpTo, Damage, controlsChanged, lineDigits}
 use Rattle.promises.specs.Carried.{Sound}
-use Rattle.promises.specs.Calls.{SendAccepted, sentLine, outcome, LentAt, DamageAt}
-use Rattle.promises.specs.Border.{inverted, spoilt, changes, early, late, noneStuffed, allStuffed, idle, Border, exampleSend, exampleLine, exampleDamaged, exampleRead, Example}
+use Rattle.promises.specs.Calls.{SendAccepted, sentLine, sentCounts, outcome, LentAt, DamageAt}
+use Rattle.promises.specs.Border.{inverted, spoilt, changes, early, late, noneStuffed, allStuffed, idle, Border, exampleSend, exampleLine, exampleDamaged, exampleRead, Example, fullSend, fullRead, Full}
 use Rattle.promises.proofs.Sent.{control-place, in-line, sent-at}
 use Rattle.promises.proofs.Recovered.{dissent-changed}
 use Rattle.promises.proofs.RoundTrip.{line-binary}
-use Rattle.promises.proofs.Calls.{send-returned}
+use Rattle.promises.proofs.Calls.{send-returned, send-back}
 
 inverted-small : (l : Liberty) (change : Bool) (d : ℕ) → d < 2 → inverted l change d < 2
 inverted-small at-will change d h = omega arith
@@ -355,3 +355,19 @@ example =
       returned = send-returned 2 0 exampleSend exampleRead example-accepted example-lent example-damaged;
       answers = example-read;
     }
+
+-- not one digit to spare
+full-accepted : SendAccepted 2 0 fullSend
+unfolding levelOf sendFaultOf faultOf framesRefusal sizeRefusal firstWith
+full-accepted = refl
+
+full-counted : sentCounts 2 0 fullSend ≡ 824 ∷ 824 ∷ 824 ∷ 824 ∷ []
+unfolding levelOf sendFaultOf faultOf framesRefusal sizeRefusal firstWith countOf actionOf sumTo
+full-counted = refl
+
+full-lent : LentAt 2 fullSend fullRead
+unfolding levelOf
+full-lent = record { noted = refl; quarters = refl; room = omega arith }
+
+pub full : Full
+full = record { accepted = full-accepted; counted = full-counted; back = send-back 2 0 fullSend fullRead full-accepted full-lent refl }

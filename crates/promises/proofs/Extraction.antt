@@ -12,6 +12,7 @@ use lib.ListN.{length, getD, take, drop, length-append, length-take, length-drop
 use lib.Seq.{getD-take, getD-drop, getD-append-add}
 use borrow.Author.Tests.{eq-eqb}
 use Rattle.digits.specs.Digits.{digitsOf}
+use Rattle.digits.proofs.Tests.{and-both}
 use Rattle.digits.proofs.Laws.{digits-length, tab-length}
 use Rattle.table.specs.declared.Row.{Row}
 use Rattle.table.specs.declared.Level.{Level}
@@ -23,7 +24,7 @@ use Rattle.table.specs.Table.{levelOf}
 use Rattle.levels.specs.Table.{Shared}
 use Rattle.levels.specs.Sizes.{onLevel, Accepted}
 use Rattle.levels.specs.Places.{kindAt, posOf, isOwn}
-use Rattle.levels.specs.Order.{stuffed, actions, carried, carries, countOf, countsOf}
+use Rattle.levels.specs.Order.{stuffed, decisions, actions, carried, carries, countOf, countsOf}
 use Rattle.levels.proofs.Columns.{columns}
 use Rattle.levels.proofs.Judged.{fits-quarter, no-frames-refused, no-size-refused}
 use Rattle.reading.specs.Reading.{notesAfter}
@@ -34,7 +35,7 @@ use Rattle.promises.specs.Damage.{lineDigits}
 use Rattle.promises.specs.Carried.{digitsRead, CameBack}
 use Rattle.promises.specs.Calls.{Lent, SendAccepted, sentLine, LentFor, LentAt}
 use Rattle.promises.specs.Extraction.{ExtractAccepted, extractDigits, SameOwn, SameOwnAt, bears, SameBearing, SameBearingAt}
-use Rattle.promises.specs.Extraction.{SameBit, ExtractsSame, Extracted, frameBefore, frameAfter, byNotes, Steady}
+use Rattle.promises.specs.Extraction.{isControl, SameButControls, SameButControlsAt, SameBit, ExtractsSame, Extracted, frameBefore, frameAfter, byNotes, Steady}
 use Rattle.promises.proofs.Order.{column-place, places-same, count-same, actions-same, digits-same}
 use Rattle.promises.proofs.RoundTrip.{round-trip}
 use Rattle.promises.proofs.Accepted.{call-level, send-level, shared, lent-accepted, call-accepted, tributary, found, unrefused, call-sizes, call-places}
@@ -173,6 +174,25 @@ own-only level x y k a b ok-a ok-b hk same = bearing-only level x y k a b ok-a o
         → onLevel l (λ (row : Row). SameBearing row k (digitsOf (a .line)) (digitsOf (b .line))) ⊥
     own (Of row) same = λ p h c. same p h (both (eqb (p % 4) k) (kindAt row p) c)
     own NoSuchLevel same = same
+
+-- "looks at no control digit": lines that differ in control digits alone come out the same by the same notes, all four tributaries
+bears-no-control : (k : Kind) → bears k ≡ true → isControl k ≡ false
+bears-no-control Word b = refl
+bears-no-control (Service s) b = refl
+bears-no-control Control b = absurd (false≢true b)
+bears-no-control (Justification sign) b = refl
+bears-no-control Tributary b = refl
+
+pub no-control-digit : (level earlier : ℕ) (a b : Lent) → ExtractAccepted level earlier a → ExtractAccepted level earlier b → a .notes ≡ b .notes
+    → SameButControlsAt level (a .line) (b .line) → (k : ℕ) → k < 4 → ExtractsSame level earlier earlier k a b
+no-control-digit level earlier a b ok-a ok-b notes same k hk =
+    bearing-only level earlier earlier k a b ok-a ok-b hk (bearing (levelOf level) same)
+    (record { before = refl; frames = ap (λ (ns : List ℕ). length ns) notes; bit = λ f h. ap (λ (ns : List ℕ). decisions ns k f) notes })
+  where
+    bearing : (l : Level) → onLevel l (λ (row : Row). SameButControls row (digitsOf (a .line)) (digitsOf (b .line))) ⊥
+        → onLevel l (λ (row : Row). SameBearing row k (digitsOf (a .line)) (digitsOf (b .line))) ⊥
+    bearing (Of row) same = λ p h c. same p h (bears-no-control (kindAt row p) (and-both (eqb (p % 4) k) (bears (kindAt row p)) c .1))
+    bearing NoSuchLevel same = same
 
 -- extraction of a line that was multiplexed, by the notes that were read of it, returns what was sent
 pub extract-back : (level earlier : ℕ) (send c : Lent) (old : List ℕ) → SendAccepted level earlier send → LentAt level send c → c .line ≡ sentLine level earlier send

@@ -12,3 +12,5 @@ pub mod Extraction
 pub mod Levels
 pub mod Exact
 pub mod Border
+pub mod Earlier
+pub mod NoFrames

@@ -9,21 +9,23 @@ use native.Mathlib.Omega.{arith}
 use native.Mathlib.Decide.{ℕ-discrete}
 use lib.Dec.{eqb, lit≤}
 use lib.ListN.{length}
-use borrow.Author.Tests.{eq-eqb, ne-eqb}
+use borrow.Author.Tests.{eq-eqb, ne-eqb, eqb-false}
 use Rattle.digits.specs.Digits.{digitsOf}
 use Rattle.digits.proofs.Laws.{digits-binary, tab-length}
 use Rattle.table.specs.declared.Row.{Row}
 use Rattle.table.specs.declared.Level.{Level}
 use Rattle.table.specs.declared.Level.the-variants.{Of, NoSuchLevel}
 use Rattle.table.specs.Table.{levelOf}
-use Rattle.levels.specs.Sizes.{badLine, badNotes, badBuffer, framesRefusal, sizeRefusal, Accepted}
+use Rattle.levels.specs.Sizes.{onLevel, badLine, badNotes, badBuffer, framesRefusal, sizeRefusal, Accepted}
 use Rattle.levels.specs.Judging.{fault, badEarlier, faultOf}
 use Rattle.levels.proofs.Choice.{cond-by}
 use Rattle.levels.proofs.Rows.{shared-row}
 use Rattle.levels.proofs.Judged.{accepted}
 use Rattle.levels.proofs.Refusals.{NotesFit, fault-of-size, fault-of-earlier, fit-faultless}
 use Rattle.reading.specs.Notes.{noteOf, notesOf}
-use Rattle.promises.specs.Together.{together, Split}
+use Rattle.reading.specs.declared.Noted.{Noted}
+use Rattle.reading.specs.Reading.{refusedWith, notedFrom, noted, notesAfter}
+use Rattle.promises.specs.Together.{Outcome, together, Split, ByThenWritten}
 use Rattle.promises.proofs.Reading.{note-fits}
 
 -- 2 and 3 are no 4
@@ -146,3 +148,24 @@ split level earlier line notes buffer = go (levelOf level) refl
       where
         some : _≤_ 4 1 → ⊥
         some e = omega arith
+
+-- where only the buffer or the earlier vote is at fault, the notes that are left are those that were read
+pub by-then-written : (level earlier : ℕ) (line notes buffer : List ℕ) → 4 ≤ together level earlier line notes buffer .refusal → ByThenWritten level earlier line notes buffer
+by-then-written level earlier line notes buffer late =
+    let s = split level earlier line notes buffer in
+    record {
+      read = ap (λ (o : Outcome). o .notes) (s .second-refused late) ∙ left (levelOf level) refl (s .written late);
+      kept = ap (λ (o : Outcome). o .buffer) (s .second-refused late);
+    }
+  where
+    number : (n : ℕ) (a b : Noted) → a .refusal ≡ 0 → b .refusal ≡ n → cond (eqb n 0) a b .refusal ≡ 0 → eqb n 0 ≡ true
+    number n a b x y e = go (eqb n 0) refl e
+      where
+        go : (t : Bool) → eqb n 0 ≡ t → cond t a b .refusal ≡ 0 → t ≡ true
+        go true w e = refl
+        go false w e = absurd (eqb-false n 0 w (sym y ∙ e))
+
+    left : (l : Level) → levelOf level ≡ l → noted level line (length notes) .refusal ≡ 0
+        → notesAfter level line notes ≡ onLevel (levelOf level) (λ (row : Row). notesOf row (digitsOf line) (length notes)) notes
+    left (Of row) e ok = rw (e, number (framesRefusal row (length line) (length notes)) (notedFrom row (digitsOf line) (length notes)) (refusedWith (framesRefusal row (length line) (length notes))) refl refl (rw e at ok))
+    left NoSuchLevel e ok = rw e

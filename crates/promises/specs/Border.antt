@@ -15,7 +15,7 @@ use Rattle.levels.specs.Judging.{nationalBits}
 use Rattle.reading.specs.Notes.{dissentTo}
 use Rattle.promises.specs.Damage.{Liberty, at-will, counted, kept, libertyAt, allowed, DamageUpTo, Damage, controlsChanged, lineDigits}
 use Rattle.promises.specs.Carried.{Sound}
-use Rattle.promises.specs.Calls.{Lent, SendAccepted, sentLine, outcome, DamageAt, SendReturned}
+use Rattle.promises.specs.Calls.{Lent, SendAccepted, sentLine, sentCounts, outcome, DamageAt, SendReturned, SendBack}
 
 -- every digit that may be changed at will is inverted, and every control digit of the sets that change says
 abbrev pub inverted : Liberty → Bool → ℕ → ℕ
@@ -95,3 +95,15 @@ pub record Example : Type 0 where
         notes = 0x11 ∷ [];
         buffer = exampleSend .buffer;
       }
+
+-- four frames at 8448 kbit/s, none stuffed, of zeros, with not one digit to spare: each carries 206 digits of a tributary, and a quarter of 103 bytes holds the 824
+abbrev pub fullSend : Lent
+fullSend = record { line = replicate 424 0; notes = 0x20 ∷ 0x20 ∷ 0x20 ∷ 0x20 ∷ []; buffer = replicate 412 0 }
+
+abbrev pub fullRead : Lent
+fullRead = record { line = sentLine 2 0 fullSend; notes = replicate 4 0; buffer = replicate 412 0xFF }
+
+pub record Full : Type 0 where
+  pub accepted : SendAccepted 2 0 fullSend
+  pub counted : sentCounts 2 0 fullSend ≡ 824 ∷ 824 ∷ 824 ∷ 824 ∷ []
+  pub back : SendBack 2 0 fullSend fullRead

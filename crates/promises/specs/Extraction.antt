@@ -51,6 +51,20 @@ SameBearing row k ds es = (p : ℕ) → p < length ds → eqb (p % 4) k && bears
 abbrev pub SameBearingAt : ℕ → ℕ → List ℕ → List ℕ → Type 0
 SameBearingAt level k line other = onLevel (levelOf level) (λ (row : Row). SameBearing row k (digitsOf line) (digitsOf other)) ⊥
 
+-- "and looks at no control digit": two lines with the same digit at every place that is no control digit, whatever the control digits are
+abbrev pub isControl : Kind → Bool
+isControl Word = false
+isControl (Service s) = false
+isControl Control = true
+isControl (Justification sign) = false
+isControl Tributary = false
+
+abbrev pub SameButControls : Row → List ℕ → List ℕ → Type 0
+SameButControls row ds es = (p : ℕ) → p < length ds → isControl (kindAt row p) ≡ false → getD ds p 0 ≡ getD es p 0
+
+abbrev pub SameButControlsAt : ℕ → List ℕ → List ℕ → Type 0
+SameButControlsAt level line other = onLevel (levelOf level) (λ (row : Row). SameButControls row (digitsOf line) (digitsOf other)) ⊥
+
 -- as many notes, each with the same bit for tributary k, and so the votes before them
 pub record SameBit (k earlier other-earlier : ℕ) (notes other : List ℕ) : Type 0 where
   pub before : stuffed earlier k ≡ stuffed other-earlier k

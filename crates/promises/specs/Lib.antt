@@ -6,3 +6,5 @@ pub mod Calls
 pub mod Extraction
 pub mod Plain
 pub mod Border
+pub mod Earlier
+pub mod NoFrames

@@ -76,7 +76,7 @@ second first answer notes buffer =
 abbrev pub refusedSecond : Noted → ℕ → List ℕ → List ℕ → Outcome
 refusedSecond first refusal notes buffer = second first (record { refusal = refusal; frame = 0; counts = zeros }) notes buffer
 
--- "If the first refuses, the second is not called"
+-- where the first refuses, the second is not called
 abbrev pub firstOnly : Noted → List ℕ → List ℕ → Outcome
 firstOnly first notes buffer =
     record { refusal = first .refusal; frame = 0; counts = zeros; alignment = first .alignment; dissent = first .dissent; notes = notes; buffer = buffer }
@@ -96,3 +96,8 @@ pub record Split (level earlier : ℕ) (line notes buffer : List ℕ) : Type 0 w
       → inTurn level earlier line notes buffer
       ≡ refusedSecond (noted level line (length notes)) (together level earlier line notes buffer .refusal) (notesAfter level line notes) buffer
   pub written : 4 ≤ together level earlier line notes buffer .refusal → noted level line (length notes) .refusal ≡ 0
+
+-- "the notes are by then written", of what is left: the notes are those that a reading of as many frames finds, whatever they were, and the buffer is as it was
+pub record ByThenWritten (level earlier : ℕ) (line notes buffer : List ℕ) : Type 0 where
+  pub read : inTurn level earlier line notes buffer .notes ≡ onLevel (levelOf level) (λ (row : Row). notesOf row (digitsOf line) (length notes)) notes
+  pub kept : inTurn level earlier line notes buffer .buffer ≡ buffer

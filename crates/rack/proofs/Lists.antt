@@ -96,6 +96,12 @@ module _ (ys : List Record) (line : ℕ) (piece : List ℕ) (first count : ℕ) 
       → FeedMet ys line piece first count (r .refusal) (set ys line (r .kept)) w
   feed-done r w h er ew = rw h (ap (λ (k : Kept). k .refusal) er, ap (λ (k : Kept). set ys line (k .kept)) er, ew)
 
+  pub feed-alone-refused : (r : Kept) (w : List ℕ) → eqb (listRefusal (length ys) line) 0 ≡ true → eqb (r .refusal) 0 ≡ false → r ≡ fed
+      → w ≡ fedAnswer (fedRecord (at ys line) piece first count) → FeedMet ys line piece first count (r .refusal) ys w
+  feed-alone-refused r w h off er ew =
+      let e : r .refusal ≡ refusalBy (length ys) line fed = rw h (ap (λ (k : Kept). k .refusal) er) in
+      (e, sym (list-stays ys line fed (λ refused. rw refused) (subst (λ (v : ℕ). eqb v 0 ≡ false) e off)), rw h ew)
+
 -- ---- a count
 pub counted-in : (n : ℕ) → (countedTo n ≤ n) × (countedTo n ≤ 64)
 unfolding countedTo

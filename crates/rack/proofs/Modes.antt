@@ -13,7 +13,7 @@ either : (t : Bool) (a b : ℕ) → aligned (cond t (Aligned a) (Aligned b)) ≡
 either true a b = refl
 either false a b = refl
 
--- whatever is missed, "3 + m aligned with m missed"
+-- whatever is missed: 3 + m is aligned with m missed
 pub aligned-from-3 : (n : ℕ) → isAligned n ≡ leb 3 n
 unfolding isAligned modeOf
 aligned-from-3 zero = refl

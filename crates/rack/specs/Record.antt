@@ -56,7 +56,7 @@ recordOf s =
       frame = s .frame;
     }
 
--- feeding a state whose numbers for yes and no were these: "in a lent state any other value [than 0 or 1] is refused with 6"
+-- feeding a state whose numbers for yes and no were these: another value than 0 or 1 is refused with 6
 unfoldable pub fedBy : State → ℕ → ℕ → List ℕ → ℕ → ℕ → Fed
 fedBy s few alarm piece first count = cond (ltb 1 few || ltb 1 alarm) (refused 6 s) (feedOf s piece first count)
 

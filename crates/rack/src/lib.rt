@@ -24,8 +24,12 @@ pub fn feed(
     }
     let k = line as usize;
     let fed = record::feed_record(records[k], piece, first, count, answer);
+    let no = fed.refusal;
+    if no != 0 {
+        return no;
+    }
     records[k] = fed.kept;
-    fed.refusal
+    no
 }
 
 // Resets line number `line` to a fresh state of a level.

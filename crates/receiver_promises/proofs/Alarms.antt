@@ -40,14 +40,14 @@ begins few alarm = record { digits = 0; zeros = 0; few = few; alarm = alarm }
 
 module _ (row : Row) where
   -- fewer digits than the stretch has room for change no more than the count
-  counted-rest : (ds : List ℕ) (st : Stretch) → st .digits + length ds < row .digits → (counted row st ds .few ≡ st .few) × (counted row st ds .alarm ≡ st .alarm)
+  pub counted-rest : (ds : List ℕ) (st : Stretch) → st .digits + length ds < row .digits → (counted row st ds .few ≡ st .few) × (counted row st ds .alarm ≡ st .alarm)
   unfolding counted added
   counted-rest [] st room = (refl, refl)
   counted-rest (d ∷ ds) st room =
       rw (counted-added row (d ∷ ds) st (omega arith) (omega arith), ne-eqb (st .digits + length (d ∷ ds)) (row .digits) (λ q. omega arith)) (refl, refl)
 
   -- as many digits as it has room for end it
-  counted-whole : (ds : List ℕ) (st : Stretch) → 0 < length ds → st .digits + length ds ≡ row .digits → counted row st ds ≡ ended row st (st .zeros + zerosIn ds)
+  pub counted-whole : (ds : List ℕ) (st : Stretch) → 0 < length ds → st .digits + length ds ≡ row .digits → counted row st ds ≡ ended row st (st .zeros + zerosIn ds)
   unfolding added
   counted-whole ds st some e = counted-added row ds st some (omega arith) ∙ rw (eq-eqb (st .digits + length ds) (row .digits) e)
 

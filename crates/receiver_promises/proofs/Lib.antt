@@ -6,3 +6,6 @@ pub mod Losses
 pub mod Calls
 pub mod Alarms
 pub mod FramedLines
+pub mod Standing
+pub mod Empty
+pub mod Asked

@@ -57,6 +57,10 @@ pub record Handed (row : Row) (ds frame : List ℕ) : Type 0 where
   pub came : row .digits ≤ length ds
   pub is : frame ≡ holding (lastOf (row .digits) ds)
 
+-- "An empty piece takes 0 and changes nothing": no digit taken, no frame ready, no word tested, the state as it was
+abbrev pub Unmoved : State → Fed → Type 0
+Unmoved s fed = (fed .taken ≡ 0) × (fed .ready ≡ false) × (fed .words ≡ 0) × (fed .state ≡ s)
+
 -- a piece and then the next, as one call would answer: a frame that is ready in the first stops it there
 abbrev pub joined : Fed → Fed → Fed
 joined one two =

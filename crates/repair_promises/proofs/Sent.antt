@@ -1,7 +1,7 @@
 -- "A multiplexed line whose only damage is of demand 3's sort, service digits excepted, comes back exactly as it was sent." With the switch on damaged national
 -- digits come back too: an accepted send has 1 at every national place.
 use mathlib.Core.Path.{_≡_, refl, sym, _∙_, ap}
-use mathlib.Core.Bool.{Bool, cond, true, false}
+use mathlib.Core.Bool.{Bool, cond, true, false, true≢false}
 use mathlib.Core.List.{List}
 use Prim.Native.Nat.{ℕ, _*_, _-_, _/_, _%_, _^_, _<_}
 use native.Mathlib.Omega.{arith}
@@ -12,7 +12,8 @@ use borrow.Author.Tests.{eqb-true, not-false}
 use Rattle.digits.specs.Digits.{digitsOf, bytesOf, tab}
 use Rattle.digits.proofs.Laws.{digits-length, bytes-by-place}
 use Rattle.table.specs.declared.Row.{Row}
-use Rattle.table.specs.declared.Level.the-variants.{Of}
+use Rattle.table.specs.declared.Level.{Level}
+use Rattle.table.specs.declared.Level.the-variants.{Of, NoSuchLevel}
 use Rattle.table.specs.Table.{levelOf}
 use Rattle.levels.specs.declared.order.Action.{Action}
 use Rattle.levels.specs.declared.places.ServiceDigit.{ServiceDigit}
@@ -20,7 +21,7 @@ use Rattle.levels.specs.declared.places.ServiceDigit.the-variants.{RemoteAlarm,
 use Rattle.levels.specs.declared.places.Kind.{Kind}
 use Rattle.levels.specs.declared.places.Kind.the-variants.{Word, Service, Control, Justification, Tributary}
 use Rattle.levels.specs.Table.{Shared}
-use Rattle.levels.specs.Sizes.{framesOf, badLine, framesRefusal}
+use Rattle.levels.specs.Sizes.{onLevel, framesOf, badLine, framesRefusal}
 use Rattle.levels.specs.Places.{kindAt, posOf}
 use Rattle.levels.specs.Order.{stuffed, actions, carried, before}
 use Rattle.levels.proofs.Judged.{unrefused, no-frames-refused}
@@ -34,7 +35,7 @@ use Rattle.promises.proofs.Accepted.{send-level, shared, tributary, send-sizes,
 use Rattle.repair.specs.declared.Repaired.{Repaired}
 use Rattle.repair.specs.Repair.{repairedService, repairedBy, repairedDigit, becomes, numberOf, changed, repairedLine, RepairMet}
 use Rattle.repair.proofs.Answering.{none-refused}
-use Rattle.repair_promises.specs.Repairing.{isNational, unrepaired, Wear, WearAt}
+use Rattle.repair_promises.specs.Repairing.{isNational, unrepaired, Wear, WearAt, WearWithSwitch, WearWithSwitchAt}
 use Rattle.repair_promises.proofs.National.{nationalKind, national-sent}
 use Rattle.repair_promises.proofs.Places.{repaired-length, repaired-bytes, repaired-at}
 
@@ -158,3 +159,21 @@ comes-back level earlier national send line answer left ok wear =
     let row = on .0 in
     back-on level earlier national row (on .1) send ok line
     (wear-on level earlier national row (on .1) (send .notes) (sentLine level earlier send) line wear) answer left
+
+-- with the switch on, whatever became of the national digits
+pub comes-back-with-switch : (level earlier : ℕ) (send : Lent) (line : List ℕ) (answer : Repaired) (left : List ℕ) → SendAccepted level earlier send
+    → WearWithSwitchAt level earlier (send .notes) (sentLine level earlier send) line
+    → RepairMet level earlier true line answer left → (answer .refusal ≡ 0) × (left ≡ sentLine level earlier send)
+comes-back-with-switch level earlier send line answer left ok wear = comes-back level earlier true send line answer left ok (go (levelOf level) wear)
+  where
+    no-national : (s : ServiceDigit) → unrepaired true s ≡ true → isNational s ≡ false
+    no-national RemoteAlarm u = refl
+    no-national FirstNational u = absurd (true≢false (sym u))
+    no-national SecondNational u = absurd (true≢false (sym u))
+    no-national ThirdNational u = absurd (true≢false (sym u))
+    no-national Fixed u = refl
+
+    go : (l : Level) → onLevel l (λ (row : Row). WearWithSwitch row earlier (send .notes) (length (send .notes)) (digitsOf (sentLine level earlier send)) (digitsOf line)) ⊥
+        → onLevel l (λ (row : Row). Wear row earlier true (send .notes) (length (send .notes)) (digitsOf (sentLine level earlier send)) (digitsOf line)) ⊥
+    go (Of row) w = record { damage = w .worn; service-kept = λ p s h k u. sym (w .others-kept p s h k (no-national s u)) }
+    go NoSuchLevel w = w

@@ -93,6 +93,15 @@ abbrev pub WearAt : ℕ → ℕ → Bool → List ℕ → List ℕ → List ℕ 
 WearAt level earlier national notes sent received =
     onLevel (levelOf level) (λ (row : Row). Wear row earlier national notes (length notes) (digitsOf sent) (digitsOf received)) ⊥
 
+-- with the switch on the national digits may be worn too: damage of demand 3's sort that leaves every service digit that is no national one
+pub record WearWithSwitch (row : Row) (earlier : ℕ) (notes : List ℕ) (F : ℕ) (sent received : List ℕ) : Type 0 where
+  pub worn : Damage row earlier notes F sent received
+  pub others-kept : (p : ℕ) (s : ServiceDigit) → p < F * row .digits → kindAt row p ≡ Service s → isNational s ≡ false → getD sent p 0 ≡ getD received p 0
+
+abbrev pub WearWithSwitchAt : ℕ → ℕ → List ℕ → List ℕ → List ℕ → Type 0
+WearWithSwitchAt level earlier notes sent received =
+    onLevel (levelOf level) (λ (row : Row). WearWithSwitch row earlier notes (length notes) (digitsOf sent) (digitsOf received)) ⊥
+
 -- any damage of demand 3's sort, its service digits put back: such lines are what wear leaves
 abbrev pub isService : Kind → Bool
 isService Word = false

@@ -3,3 +3,5 @@ pub mod Orders
 pub mod NewFour
 pub mod NewSend
 pub mod Returned
+pub mod OwnBit
+pub mod Votes

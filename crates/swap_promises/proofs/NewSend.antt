@@ -36,7 +36,7 @@ use Rattle.swap_promises.proofs.NewFour.{own-bits, beside-bits, count-b
 
 -- ---- a note with one bit replaced
 
-is-mixed : (j one other : ℕ) → Mixed j one other (mixed j one other)
+pub is-mixed : (j one other : ℕ) → Mixed j one other (mixed j one other)
 is-mixed j one other =
     record { own = digit-same other j (one / 2 ^ j % 2) (omega arith); beside = λ k h n. digit-other other j (one / 2 ^ j % 2) (omega arith) k n }
 

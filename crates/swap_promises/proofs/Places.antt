@@ -109,7 +109,7 @@ module _ (level : ℕ) (row : Row) (e : levelOf level ≡ Of row) (line : List �
   pub swap-line : swapLine level line s ≡ swappedLine row (s .earlier) (s .notes) (from0 s) (s .buffer) line
   swap-line = rw (e, eq-eqb (numberAt row (length line) s) 0 no-number)
 
-  swap-answer : swapped level (s .earlier) (s .tributary) (length line) (s .notes) (length (s .buffer)) ≡ record { refusal = 0; digits = acts-count }
+  pub swap-answer : swapped level (s .earlier) (s .tributary) (length line) (s .notes) (length (s .buffer)) ≡ record { refusal = 0; digits = acts-count }
   swap-answer = rw (e, eq-eqb (numberAt row (length line) s) 0 no-number)
 
   pub swap-count : swapCount level line s ≡ countOf row (actions row (s .earlier) (s .notes) (from0 s)) (length (s .notes))

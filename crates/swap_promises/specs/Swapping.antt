@@ -48,6 +48,23 @@ pub record OthersStay (level : ℕ) (line : List ℕ) (s : Swap) : Type 0 where
   pub size : length (swapLine level line s) ≡ length line
   pub digits : SameButAt level (from0 s) line (swapLine level line s)
 
+-- "notes of which only bit j−1 is looked at; levels 12 and 14 take the earlier vote as well, of which beyond its refusal only bit j−1 counts": two swaps of one
+-- tributary and one buffer that agree in that bit
+pub record SameToSwap (a b : Swap) : Type 0 where
+  pub tributary : a .tributary ≡ b .tributary
+  pub buffer : a .buffer ≡ b .buffer
+  pub bits : SameBit (from0 a) (a .earlier) (b .earlier) (a .notes) (b .notes)
+
+-- leave the same line and answer the same
+pub record SwapsSame (level : ℕ) (line : List ℕ) (a b : Swap) : Type 0 where
+  pub left : swapLine level line a ≡ swapLine level line b
+  pub answer : swapped level (a .earlier) (a .tributary) (length line) (a .notes) (length (a .buffer))
+      ≡ swapped level (b .earlier) (b .tributary) (length line) (b .notes) (length (b .buffer))
+
+-- a swap with another vote before its notes
+abbrev pub withVote : ℕ → Swap → Swap
+withVote vote s = record { earlier = vote; tributary = s .tributary; notes = s .notes; buffer = s .buffer }
+
 -- a note, or a vote before the notes, with one's bit for tributary j and the other's bits beside it
 pub record Mixed (j one other mixed : ℕ) : Type 0 where
   pub own : mixed / 2 ^ j % 2 ≡ one / 2 ^ j % 2
@@ -60,6 +77,13 @@ pub record NewFour (level earlier : ℕ) (send : Lent) (line : List ℕ) (s : Sw
   pub noted : (f : ℕ) → f < length (send .notes) → Mixed (from0 s) (getD (s .notes) f 0) (getD (send .notes) f 0) (getD (four .notes) f 0)
   pub own : sentDigits level vote four (from0 s) ≡ swapDigits level line s
   pub beside : (k : ℕ) → k < 4 → k ≢ from0 s → sentDigits level vote four k ≡ sentDigits level earlier send k
+
+-- at levels 2 to 4, which do not look at the votes before the notes, nothing is asked of these: each of send, swap and new send has one of its own
+pub record NewFourAnyVotes (level x : ℕ) (send : Lent) (line : List ℕ) (s : Swap) (y : ℕ) (four : Lent) : Type 0 where
+  pub frames : length (four .notes) ≡ length (send .notes)
+  pub noted : (f : ℕ) → f < length (send .notes) → Mixed (from0 s) (getD (s .notes) f 0) (getD (send .notes) f 0) (getD (four .notes) f 0)
+  pub own : sentDigits level y four (from0 s) ≡ swapDigits level line s
+  pub beside : (k : ℕ) → k < 4 → k ≢ from0 s → sentDigits level y four k ≡ sentDigits level x send k
 
 -- the new four made of what the send and the swap were given: each note and the vote before them with bit j replaced, and quarter j replaced by as many of
 -- the swap's bytes, zeros where it has fewer

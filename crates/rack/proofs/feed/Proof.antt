@@ -1,6 +1,6 @@
 -- `rack::feed` meets its contract: a walk of its MIR, by hand. `list_refusal` is asked first; where the list refuses, `refuse` writes the answer and
--- the list is not opened. Else record `line` is read out of the list, `feed_record` is called on it, which writes the answer, and the record that it gives is
--- put back. All that the proof knows of the three is that they meet their contracts. The answer's array goes to the callee at its own lifetime, for good.
+-- the list is not opened. Else record `line` is read out of the list and `feed_record` is called on it, which writes the answer; where the piece is refused
+-- nothing is stored, else the record that it gives is put back. All that the proof knows of the three is that they meet their contracts. The answer's array goes to the callee at its own lifetime, for good.
 use mathlib.Core.Path.{_≡_, refl, sym, ap, subst, _∙_}
 use mathlib.Core.Bool.{true, false}
 use mathlib.Core.List.{[], _∷_, List}
@@ -52,7 +52,7 @@ use Rattle.rack.specs.declared.record.Record.{Record}
 use Rattle.rack.specs.declared.record.Kept.{Kept}
 use Rattle.rack.specs.Record.{keptAfter, fedRecord, fedAnswer}
 use Rattle.rack.specs.Rack.{listRefusal, noneTaken, FeedMet}
-use Rattle.rack.proofs.Lists.{blank, fails, holds, within, feed-refused, feed-done}
+use Rattle.rack.proofs.Lists.{blank, fails, holds, within, feed-refused, feed-alone-refused, feed-done}
 use Rattle.rack.proofs.Walks.{envOf, after}
 use Rattle.rack.proofs.record.Record as T
 use Rattle.rack.proofs.record.Record.Laws as T′
@@ -240,30 +240,30 @@ module _ {M : Type 1} (𝓤 : URA M) (H : Heap 𝓤) (A : Atoms 𝓤) (W : Given
         qed W ((‵ (flft κ q) ⊛ ‵ (flft κ′ q′) ⊛ ‵ (flft κ″ q″) ⊛ ‵ ftrue) ∷ ‵ (owns (MutSlice (named 0) κ R ∷ u64 ∷ ShrSlice (named 1) κ′ u8 ∷ u64 ∷ u64 ∷ MutRef (named 2) κ″ An
         ∷ []) a vals) ∷ []) ∵ enter ! C Λ code.function (sv ∷ vint w64 k ∷ lv ∷ vint w64 f ∷ vint w64 n ∷ av ∷ []) _ $
         alloc1 ! (λ l₀. alloc1 ! (λ l₁. alloc1 ! (λ l₂. alloc1 ! (λ l₃. alloc1 ! (λ l₄. alloc1 ! (λ l₅. alloc1 ! (λ l₆. alloc1 ! (λ l₇. alloc1 ! (λ l₈. alloc1 ! (λ l₉. alloc1 !
-        (λ l₁₀. alloc1 ! (λ l₁₁. alloc1 ! (λ l₁₂. alloc1 ! (λ l₁₃. alloc1 ! (λ l₁₄. alloc1 ! (λ l₁₅. alloc1 ! (λ l₁₆. alloc0 ! $ params1 ! $
-        pass1 ! (init ! 30 refl (tt, (tt, (record { fits = room .0 }, tt)))) $ pass1 ! (init ! 28 refl (tt, record { fits = k-fits })) $
-        pass1 ! (init ! 26 refl (shr-slice-lawful 𝓤 H A W (named 1) κ′ u8 .typed ln (lv ∷ []) lent .0)) $
-        pass1 ! (init ! 24 refl (tt, record { fits = f-fits })) $ pass1 ! (init ! 22 refl (tt, record { fits = n-fits })) $ pass1 ! (init ! 20 refl (tt, tt)) $ pass0 ! $
-        move ! (35 ∷ []) $ fsplit ! $ fsplit ! $ move ! (1 ∷ []) $ fsplit ! $ move ! (38 ∷ []) $ split ! $ move ! (2 ∷ 3 ∷ 0 ∷ 1 ∷ []) $ move ! (4 ∷ []) $ drop ! $
+        (λ l₁₀. alloc1 ! (λ l₁₁. alloc1 ! (λ l₁₂. alloc1 ! (λ l₁₃. alloc1 ! (λ l₁₄. alloc1 ! (λ l₁₅. alloc1 ! (λ l₁₆. alloc1 ! (λ l₁₇. alloc0 ! $ params1 ! $
+        pass1 ! (init ! 32 refl (tt, (tt, (record { fits = room .0 }, tt)))) $ pass1 ! (init ! 30 refl (tt, record { fits = k-fits })) $
+        pass1 ! (init ! 28 refl (shr-slice-lawful 𝓤 H A W (named 1) κ′ u8 .typed ln (lv ∷ []) lent .0)) $
+        pass1 ! (init ! 26 refl (tt, record { fits = f-fits })) $ pass1 ! (init ! 24 refl (tt, record { fits = n-fits })) $ pass1 ! (init ! 22 refl (tt, tt)) $ pass0 ! $
+        move ! (37 ∷ []) $ fsplit ! $ fsplit ! $ move ! (1 ∷ []) $ fsplit ! $ move ! (40 ∷ []) $ split ! $ move ! (2 ∷ 3 ∷ 0 ∷ 1 ∷ []) $ move ! (4 ∷ []) $ drop ! $
         move ! (4 ∷ []) $ fsplit ! $ drop ! $ fsplit ! $ move ! (1 ∷ []) $ fsplit ! $ drop ! $ fsplit ! $ drop ! $ fsplit ! $ move ! (1 ∷ []) $ drop ! $
         move ! (2 ∷ 3 ∷ 4 ∷ 5 ∷ 1 ∷ 0 ∷ []) $
-        -- [obs; the borrow; 'a's token; the others' tokens; what piece owns; what answer owns; _16; …; _15; …; …; room for _0; …]: local i stands at 6 + 2 · (16 − i)
-        assigns ! (of-opd ! (load ! (from ! (fld ! refl (stop !))) (look-in ! 36 (sub ! 1 refl (whole !))))) (from ! (stop !)) (init ! 18 refl (tt, record { fits = room .0 })) $
+        -- [obs; the borrow; 'a's token; the others' tokens; what piece owns; what answer owns; _17; …; _16; …; …; room for _0; …]: local i stands at 6 + 2 · (17 − i)
+        assigns ! (of-opd ! (load ! (from ! (fld ! refl (stop !))) (look-in ! 38 (sub ! 1 refl (whole !))))) (from ! (stop !)) (init ! 18 refl (tt, record { fits = room .0 })) $
         use0 W (raw (Listed 𝓤 H A at-mem run .pre to-list)) goes-list $
-        calls-at ! fm (Listed 𝓤 H A at-mem run) listed to-list (and-then ! (load ! (from ! (stop !)) (look ! 19 refl)) (and-then ! (load ! (from ! (stop !)) (look ! 35 refl))
+        calls-at ! fm (Listed 𝓤 H A at-mem run) listed to-list (and-then ! (load ! (from ! (stop !)) (look ! 19 refl)) (and-then ! (load ! (from ! (stop !)) (look ! 37 refl))
         (no-more !))) (λ u.
         use1 W (later (some (λ (v : ℕ). (‵ ftrue ⊛ ‵ (u64 .own v (u ∷ []))) ⊛ raw (ensured 𝓤 H A lr.ended (lr.clauses 𝓤 H A at-mem run) tt (length ys, (k, tt)) tt v))))
         (id⊢ 𝓤 _) $ await ! tt $ pick ! (λ v.
         split ! $ move ! (1 ∷ []) $ use1 W (raw (fact 𝓤 (v ≡ listRefusal (length ys) k))) (said-list v) $ heard ! (v ≡ listRefusal (length ys) k) (λ ev. split ! $ drop ! $
         peeks ! u64 (Is u64) (shows 𝓤 H A u64) v (u ∷ []) (λ is-v. drop ! $
-        land ! (from ! (stop !)) (init ! 24 refl (uint-lawful 𝓤 H A W w64 .typed v _ is-v .0)) $
-        rewrite ! 24 (λ (y : Val). ‵ (fat fullShare (tyInt w64) l₇ 0 y)) (ap only (is-v .0)) refl $
-        assigns ! (bin ! (load ! (from ! (stop !)) (look ! 24 refl)) (lit ! tt) tt) (from ! (stop !)) (init ! 16 refl (tt, tt)) $
+        land ! (from ! (stop !)) (init ! 26 refl (uint-lawful 𝓤 H A W w64 .typed v _ is-v .0)) $
+        rewrite ! 26 (λ (y : Val). ‵ (fat fullShare (tyInt w64) l₇ 0 y)) (ap only (is-v .0)) refl $
+        assigns ! (bin ! (load ! (from ! (stop !)) (look ! 26 refl)) (lit ! tt) tt) (from ! (stop !)) (init ! 16 refl (tt, tt)) $
         first ! $ branches ! (load ! (from ! (stop !)) (look ! 16 refl))
         -- the list refuses
-        (λ told. assigns ! (addr ! (from ! (hop ! (look ! 26 refl) (stop !)))) (from ! (stop !)) (init ! 14 refl (tt, tt)) $
+        (λ told. assigns ! (addr ! (from ! (hop ! (look ! 28 refl) (stop !)))) (from ! (stop !)) (init ! 14 refl (tt, tt)) $
         move ! (3 ∷ []) $ split ! $ move ! (1 ∷ 6 ∷ []) $ use2 W (raw (Refuse 𝓤 H A at-mem run .pre (to-refuse v (is-v .1)))) (goes-refuse v (is-v .1)) $
-        calls-at ! fm (Refuse 𝓤 H A at-mem run) refuses (to-refuse v (is-v .1)) (and-then ! (load ! (from ! (stop !)) (look ! 24 refl)) (and-then ! (load ! (from ! (stop !))
+        calls-at ! fm (Refuse 𝓤 H A at-mem run) refuses (to-refuse v (is-v .1)) (and-then ! (load ! (from ! (stop !)) (look ! 26 refl)) (and-then ! (load ! (from ! (stop !))
         (look ! 14 refl)) (no-more !))) (λ t.
         use1 W (later (some (λ (s : ℕ). ((‵ (flft κ″ q″) ⊛ ‵ ftrue) ⊛ ‵ (u64 .own s (t ∷ []))) ⊛ raw (ensured 𝓤 H A rf.ended (rf.clauses 𝓤 H A at-mem run) (κ″, tt) (
           v,
@@ -274,12 +274,12 @@ module _ {M : Type 1} (𝓤 : URA M) (H : Heap 𝓤) (A : Atoms 𝓤) (W : Given
         pick ! (λ ws.
         split ! $ move ! (1 ∷ []) $ heard ! ((s ≡ v) × (ws .1 .0 ≡ noneTaken)) (λ es. fsplit ! $ drop ! $ fsplit ! $ move ! (1 ∷ []) $ drop ! $
         move ! (1 ∷ []) $ split ! $ move ! (1 ∷ []) $ peeks ! u64 (Is u64) (shows 𝓤 H A u64) s (t ∷ []) (λ is-s. drop ! $
-        -- [answer's token; its last value; piece's token; obs; the borrow; 'a's token; what piece owns; _16; …]: local i stands at 7 + 2 · (16 − i)
-        land ! (from ! (stop !)) (init ! 39 refl (uint-lawful 𝓤 H A W w64 .typed s _ is-s .0)) $
-        rewrite ! 39 (λ (y : Val). ‵ (fat fullShare (tyInt w64) l₀ 0 y)) (ap only (is-s .0)) refl $
-        returns-within ! Post refl (look ! 39 refl) $ forget ! 15 refl $ forget ! 17 refl $ forget ! 19 refl $ forget ! 25 refl $ forget ! 27 refl $ forget ! 29 refl $
-        forget ! 31 refl $ forget ! 33 refl $ forget ! 35 refl $ forget ! 37 refl $ forget ! 39 refl $
-        move ! (39 ∷ 40 ∷ []) $ free1 ! $ move ! (37 ∷ 38 ∷ []) $ free1 ! $ move ! (35 ∷ 36 ∷ []) $ free1 ! $ move ! (33 ∷ 34 ∷ []) $ free1 ! $ move ! (31 ∷ 32 ∷ []) $ free1 ! $
+        -- [answer's token; its last value; piece's token; obs; the borrow; 'a's token; what piece owns; _17; …]: local i stands at 7 + 2 · (17 − i)
+        land ! (from ! (stop !)) (init ! 41 refl (uint-lawful 𝓤 H A W w64 .typed s _ is-s .0)) $
+        rewrite ! 41 (λ (y : Val). ‵ (fat fullShare (tyInt w64) l₀ 0 y)) (ap only (is-s .0)) refl $
+        returns-within ! Post refl (look ! 41 refl) $ forget ! 15 refl $ forget ! 17 refl $ forget ! 19 refl $ forget ! 27 refl $ forget ! 29 refl $ forget ! 31 refl $
+        forget ! 33 refl $ forget ! 35 refl $ forget ! 37 refl $ forget ! 39 refl $ forget ! 41 refl $
+        move ! (41 ∷ 42 ∷ []) $ free1 ! $ move ! (39 ∷ 40 ∷ []) $ free1 ! $ move ! (37 ∷ 38 ∷ []) $ free1 ! $ move ! (35 ∷ 36 ∷ []) $ free1 ! $ move ! (33 ∷ 34 ∷ []) $ free1 ! $ move ! (31 ∷ 32 ∷ []) $ free1 ! $
         move ! (29 ∷ 30 ∷ []) $ free1 ! $ move ! (27 ∷ 28 ∷ []) $ free1 ! $ move ! (25 ∷ 26 ∷ []) $ free1 ! $ move ! (23 ∷ 24 ∷ []) $ free1 ! $ move ! (21 ∷ 22 ∷ []) $ free1 ! $
         move ! (19 ∷ 20 ∷ []) $ free1 ! $ move ! (17 ∷ 18 ∷ []) $ free1 ! $ move ! (15 ∷ 16 ∷ []) $ free1 ! $ move ! (13 ∷ 14 ∷ []) $ free1 ! $ move ! (11 ∷ 12 ∷ []) $ free1 ! $
         move ! (9 ∷ 10 ∷ []) $ free1 ! $ move ! (7 ∷ 8 ∷ []) $ free1 ! $ free0 ! $
@@ -287,29 +287,29 @@ module _ {M : Type 1} (𝓤 : URA M) (H : Heap 𝓤) (A : Atoms 𝓤) (W : Given
         by ! (exits ys refl (ws .1 .0) s (is-s .1) (feed-refused ys k (now ln) f n s (ws .1 .0) (subst (λ (m : ℕ). eqb m 0 ≡ false) ev (fails (eqb v 0) told)) (es .0 ∙ ev)
         (es .1)))))))))
         -- the list does not refuse: record k is taken out
-        (λ told. skips ! $ exec ! C Λ (envOf (code.function .locals) (l₀ ∷ l₁ ∷ l₂ ∷ l₃ ∷ l₄ ∷ l₅ ∷ l₆ ∷ l₇ ∷ l₈ ∷ l₉ ∷ l₁₀ ∷ l₁₁ ∷ l₁₂ ∷ l₁₃ ∷ l₁₄ ∷ l₁₅ ∷ l₁₆ ∷ [])) (after 4
-        (code.function .body)) (atRet _ Post) $
+        (λ told. let En = envOf (code.function .locals) (l₀ ∷ l₁ ∷ l₂ ∷ l₃ ∷ l₄ ∷ l₅ ∷ l₆ ∷ l₇ ∷ l₈ ∷ l₉ ∷ l₁₀ ∷ l₁₁ ∷ l₁₂ ∷ l₁₃ ∷ l₁₄ ∷ l₁₅ ∷ l₁₆ ∷ l₁₇ ∷ []) in
+        skips ! $ exec ! C Λ En (after 4 (code.function .body)) (atRet En Post) $
         let listed-so : eqb (listRefusal (length ys) k) 0 ≡ true = subst (λ (m : ℕ). eqb m 0 ≡ true) ev (holds (eqb v 0) told) in
         let in-list : k < length ys = within (length ys) k listed-so in
         let off : k * 440 < 2 ^ 64 = omega (arith, room .1, in-list) in
-        assigns ! (of-opd ! (load ! (from ! (stop !)) (look ! 34 refl))) (from ! (stop !)) (init ! 22 refl (tt, record { fits = k-fits })) $
-        assigns ! (bin ! (load ! (from ! (stop !)) (look ! 22 refl)) (lit ! tt) (record { fits = off })) (from ! (stop !)) (store ! 18 refl (tt, record { fits = off })) $
-        assigns ! (bin ! (load ! (from ! (fld ! refl (stop !))) (look-in ! 36 (sub ! 0 refl (whole !)))) (load ! (from ! (stop !)) (look ! 18 refl)) tt) (from ! (stop !))
+        assigns ! (of-opd ! (load ! (from ! (stop !)) (look ! 36 refl))) (from ! (stop !)) (init ! 24 refl (tt, record { fits = k-fits })) $
+        assigns ! (bin ! (load ! (from ! (stop !)) (look ! 24 refl)) (lit ! tt) (record { fits = off })) (from ! (stop !)) (store ! 18 refl (tt, record { fits = off })) $
+        assigns ! (bin ! (load ! (from ! (fld ! refl (stop !))) (look-in ! 38 (sub ! 0 refl (whole !)))) (load ! (from ! (stop !)) (look ! 18 refl)) tt) (from ! (stop !))
         (init ! 12 refl (tt, tt)) $
-        rewrite ! 12 (λ (p : ℕ). ‵ (fat fullShare tyPtr l₁₃ 0 (vptr b p))) (sym (place-is 440 o k)) refl $
+        rewrite ! 12 (λ (p : ℕ). ‵ (fat fullShare tyPtr l₁₄ 0 (vptr b p))) (sym (place-is 440 o k)) refl $
         opens-slice ! tt R ys b o $ elem-out ! R (Is R) (shows 𝓤 H A R) (λ d. T′.lowered d ∷ []) (T′.lowers .val-is) fullShare ys k blank b o in-list (λ isS.
-        -- [records[k]; what it owns; the others; the open borrow; obs; auth; the others' tokens; what piece owns; what answer owns; _16; …]
+        -- [records[k]; what it owns; the others; the open borrow; obs; auth; the others' tokens; what piece owns; what answer owns; _17; …]
         use1 W (‵ (fat fullShare T′.mir b (place 440 o k) sm)) (W .laws .raw-at fullShare T′.mir b (place 440 o k) sm) $
         assigns ! (of-opd ! (load ! (from ! (hop ! (look ! 15 refl) (stop !))) (look ! 0 refl))) (from ! (stop !)) (init ! 13 refl
         (LL.lawful T.the-type T′.the-laws 𝓤 H A W .typed st _ isS .0)) $
         use1 W (‵ (cellAt fullShare (R .mir) (sm ∷ []) b (place 440 o k))) (W .laws .at-raw fullShare T′.mir b (place 440 o k) (sm)) $
         elem-back ! R fullShare ys k blank (sm ∷ []) b o in-list $ closes-slice ! tt R ys ys refl b o $
         -- the call, on a copy of what piece owns, and on the answer for good
-        assigns ! (addr ! (from ! (hop ! (look ! 26 refl) (stop !)))) (from ! (stop !)) (init ! 8 refl (tt, tt)) $
+        assigns ! (addr ! (from ! (hop ! (look ! 28 refl) (stop !)))) (from ! (stop !)) (init ! 8 refl (tt, tt)) $
         move ! (4 ∷ []) $ use1 W (‵ LnO ⊛ ‵ LnO) (shr-slice-copy 𝓤 H A W (named 1) κ′ u8 .twice ln (lv ∷ [])) $ split ! $
         move ! (0 ∷ 5 ∷ 6 ∷ []) $ use3 W (raw (FeedOne 𝓤 H A at-mem run .pre to-feed)) (goes-feed isS) $
-        calls-at ! fm (FeedOne 𝓤 H A at-mem run) feeds to-feed (and-then ! (load ! (from ! (stop !)) (look ! 9 refl)) (and-then ! (load ! (from ! (stop !)) (look ! 31 refl))
-        (and-then ! (load ! (from ! (stop !)) (look ! 29 refl)) (and-then ! (load ! (from ! (stop !)) (look ! 27 refl)) (and-then ! (load ! (from ! (stop !)) (look ! 7 refl))
+        calls-at ! fm (FeedOne 𝓤 H A at-mem run) feeds to-feed (and-then ! (load ! (from ! (stop !)) (look ! 9 refl)) (and-then ! (load ! (from ! (stop !)) (look ! 33 refl))
+        (and-then ! (load ! (from ! (stop !)) (look ! 31 refl)) (and-then ! (load ! (from ! (stop !)) (look ! 29 refl)) (and-then ! (load ! (from ! (stop !)) (look ! 7 refl))
         (no-more !)))))) (λ t.
         use1 W (later (some (λ (r : Kept). ((‵ (flft κ′ q′) ⊛ ‵ (flft κ″ q″) ⊛ ‵ ftrue) ⊛ ‵ (S.the-row .own r (t ∷ []))) ⊛ raw (ensured 𝓤 H A fr.ended
         (fr.clauses 𝓤 H A at-mem run) (κ′, (κ″, tt)) (st, (ln, (f, (n, (an, tt))))) tt r)))) (id⊢ 𝓤 _) $ await ! tt $ pick ! (λ r.
@@ -319,33 +319,41 @@ module _ {M : Type 1} (𝓤 : URA M) (H : Heap 𝓤) (A : Atoms 𝓤) (W : Given
         split ! $ move ! (1 ∷ []) $ heard ! (Said r (ws .1 .1 .1 .1 .0)) (λ er. fsplit ! $ drop ! $ fsplit ! $ drop ! $ fsplit ! $ drop ! $ fsplit ! $ drop ! $ fsplit ! $
         move ! (1 ∷ []) $ drop ! $
         move ! (1 ∷ []) $ split ! $ move ! (1 ∷ []) $ peeks ! S.the-row (Is S.the-row) (shows 𝓤 H A S.the-row) r (t ∷ []) (λ is. drop ! $
-        -- [the others' tokens; answer's last value; what piece owns; obs; the borrow; 'a's token; _16; …]
-        land ! (from ! (stop !)) (init ! 20 refl (LL.lawful S.the-type S′.the-laws 𝓤 H A W .typed r _ is .0)) $
-        rewrite ! 20 (λ (y : Val). ‵ (fat fullShare S′.mir l₉ 0 y)) (ap only (S′.lowers .val-is r (t ∷ []) is)) refl $
-        assigns ! (bin ! (load ! (from ! (stop !)) (look ! 22 refl)) (lit ! tt) (record { fits = off })) (from ! (stop !)) (store ! 18 refl (tt, record { fits = off })) $
-        assigns ! (bin ! (load ! (from ! (fld ! refl (stop !))) (look-in ! 36 (sub ! 0 refl (whole !)))) (load ! (from ! (stop !)) (look ! 18 refl)) tt) (from ! (stop !))
+        -- [the others' tokens; answer's last value; what piece owns; obs; the borrow; 'a's token; _17; …]
+        land ! (from ! (stop !)) (init ! 22 refl (LL.lawful S.the-type S′.the-laws 𝓤 H A W .typed r _ is .0)) $
+        rewrite ! 22 (λ (y : Val). ‵ (fat fullShare S′.mir l₉ 0 y)) (ap only (S′.lowers .val-is r (t ∷ []) is)) refl $
+        assigns ! (of-opd ! (load ! (from ! (fld ! refl (stop !))) (look-in ! 22 (sub ! 0 refl (whole !))))) (from ! (stop !)) (init ! 20 refl
+        (tt, record { fits = no-fits r t is })) $
+        assigns ! (bin ! (load ! (from ! (stop !)) (look ! 20 refl)) (lit ! tt) tt) (from ! (stop !)) (store ! 16 refl (tt, tt)) $
+        first ! $ branches ! (load ! (from ! (stop !)) (look ! 16 refl))
+        -- the piece is refused: the list is not opened again
+        (λ refused. assigns ! (of-opd ! (load ! (from ! (stop !)) (look ! 20 refl))) (from ! (stop !)) (init ! 40 refl (tt, record { fits = no-fits r t is })) $
+        returns-within ! Post refl (look ! 40 refl) $ forget ! 8 refl $ forget ! 10 refl $ forget ! 12 refl $ forget ! 16 refl $ forget ! 18 refl $ forget ! 20 refl $ forget ! 22 refl $ forget ! 24 refl $ forget ! 26 refl $ forget ! 28 refl $ forget ! 30 refl $ forget ! 32 refl $ forget ! 34 refl $ forget ! 36 refl $ forget ! 38 refl $ forget ! 40 refl $
+        move ! (40 ∷ 41 ∷ []) $ free1 ! $ move ! (38 ∷ 39 ∷ []) $ free1 ! $ move ! (36 ∷ 37 ∷ []) $ free1 ! $ move ! (34 ∷ 35 ∷ []) $ free1 ! $ move ! (32 ∷ 33 ∷ []) $ free1 ! $ move ! (30 ∷ 31 ∷ []) $ free1 ! $ move ! (28 ∷ 29 ∷ []) $ free1 ! $ move ! (26 ∷ 27 ∷ []) $ free1 ! $ move ! (24 ∷ 25 ∷ []) $ free1 ! $ move ! (22 ∷ 23 ∷ []) $ free1 ! $ move ! (20 ∷ 21 ∷ []) $ free1 ! $ move ! (18 ∷ 19 ∷ []) $ free1 ! $ move ! (16 ∷ 17 ∷ []) $ free1 ! $ move ! (14 ∷ 15 ∷ []) $ free1 ! $ move ! (12 ∷ 13 ∷ []) $ free1 ! $ move ! (10 ∷ 11 ∷ []) $ free1 ! $ move ! (8 ∷ 9 ∷ []) $ free1 ! $ move ! (6 ∷ 7 ∷ []) $ free1 ! $ free0 ! $
+        keep ! (3 ∷ 4 ∷ 5 ∷ 0 ∷ 2 ∷ 1 ∷ []) $
+        by ! (exits ys refl (ws .1 .1 .1 .1 .0) (r .refusal) (no-fits r t is) (feed-alone-refused ys k (now ln) f n r (ws .1 .1 .1 .1 .0) listed-so
+        (fails (eqb (r .refusal) 0) refused) (er .0) (er .1))))
+        -- the piece is taken: record k is stored
+        (λ taken. skips ! $ exec ! C Λ En (after 13 (code.function .body)) (atRet En Post) $
+        assigns ! (bin ! (load ! (from ! (stop !)) (look ! 24 refl)) (lit ! tt) (record { fits = off })) (from ! (stop !)) (store ! 18 refl (tt, record { fits = off })) $
+        assigns ! (bin ! (load ! (from ! (fld ! refl (stop !))) (look-in ! 38 (sub ! 0 refl (whole !)))) (load ! (from ! (stop !)) (look ! 18 refl)) tt) (from ! (stop !))
         (init ! 6 refl (tt, tt)) $
-        rewrite ! 6 (λ (p : ℕ). ‵ (fat fullShare tyPtr l₁₆ 0 (vptr b p))) (sym (place-is 440 o k)) refl $
+        rewrite ! 6 (λ (p : ℕ). ‵ (fat fullShare tyPtr l₁₇ 0 (vptr b p))) (sym (place-is 440 o k)) refl $
         move ! (3 ∷ 4 ∷ 5 ∷ []) $ opens-slice ! tt R ys b o $
         elem-out ! R (Is R) (shows 𝓤 H A R) (λ d. T′.lowered d ∷ []) (T′.lowers .val-is) fullShare ys k blank b o in-list (λ _.
         use1 W (‵ (fat fullShare T′.mir b (place 440 o k) sm)) (W .laws .raw-at fullShare T′.mir b (place 440 o k) sm) $
-        assigns ! (of-opd ! (load ! (from ! (fld ! refl (stop !))) (look-in ! 23 (sub ! 1 refl (whole !))))) (from ! (hop ! (look ! 9 refl) (stop !))) (store ! 0 refl
+        assigns ! (of-opd ! (load ! (from ! (fld ! refl (stop !))) (look-in ! 25 (sub ! 1 refl (whole !))))) (from ! (hop ! (look ! 9 refl) (stop !))) (store ! 0 refl
         (LL.lawful T.the-type T′.the-laws 𝓤 H A W .typed (r .kept) _ (new-is r (t ∷ []) is) .0)) $
         use1 W (‵ (cellAt fullShare (R .mir) (T′.lowered (r .kept) ∷ []) b (place 440 o k))) (W .laws .at-raw fullShare T′.mir b (place 440 o k) (T′.lowered (r .kept))) $
         move ! (1 ∷ []) $ drop ! $ owned ! R (Is R) (LL.makes T.the-type T′.the-plain 𝓤 H A) (r .kept) _ (new-is r (t ∷ []) is) $ move ! (1 ∷ 0 ∷ []) $
         elem-put ! R fullShare ys k (r .kept) (T′.lowered (r .kept) ∷ []) b o in-list $ closes-slice ! tt R ys (set ys k (r .kept)) (length-set ys k (r .kept)) b o $
-        -- [obs; the borrow; 'a's token; the others' tokens; answer's last value; what piece owns; _16; …]
-        assigns ! (of-opd ! (load ! (from ! (fld ! refl (stop !))) (look-in ! 20 (sub ! 0 refl (whole !))))) (from ! (stop !)) (init ! 38 refl
-        (tt, record { fits = no-fits r t is })) $
-        returns ! (look ! 38 refl) $ forget ! 6 refl $ forget ! 8 refl $ forget ! 10 refl $ forget ! 12 refl $ forget ! 16 refl $ forget ! 18 refl $ forget ! 20 refl $
-        forget ! 22 refl $ forget ! 24 refl $ forget ! 26 refl $ forget ! 28 refl $ forget ! 30 refl $ forget ! 32 refl $ forget ! 34 refl $ forget ! 36 refl $ forget ! 38 refl $
-        move ! (38 ∷ 39 ∷ []) $ free1 ! $ move ! (36 ∷ 37 ∷ []) $ free1 ! $ move ! (34 ∷ 35 ∷ []) $ free1 ! $ move ! (32 ∷ 33 ∷ []) $ free1 ! $ move ! (30 ∷ 31 ∷ []) $ free1 ! $
-        move ! (28 ∷ 29 ∷ []) $ free1 ! $ move ! (26 ∷ 27 ∷ []) $ free1 ! $ move ! (24 ∷ 25 ∷ []) $ free1 ! $ move ! (22 ∷ 23 ∷ []) $ free1 ! $ move ! (20 ∷ 21 ∷ []) $ free1 ! $
-        move ! (18 ∷ 19 ∷ []) $ free1 ! $ move ! (16 ∷ 17 ∷ []) $ free1 ! $ move ! (14 ∷ 15 ∷ []) $ free1 ! $ move ! (12 ∷ 13 ∷ []) $ free1 ! $ move ! (10 ∷ 11 ∷ []) $ free1 ! $
-        move ! (8 ∷ 9 ∷ []) $ free1 ! $ move ! (6 ∷ 7 ∷ []) $ free1 ! $ free0 ! $
+        -- [obs; the borrow; 'a's token; the others' tokens; answer's last value; what piece owns; _17; …]
+        assigns ! (of-opd ! (load ! (from ! (stop !)) (look ! 20 refl))) (from ! (stop !)) (init ! 40 refl (tt, record { fits = no-fits r t is })) $
+        returns ! (look ! 40 refl) $ forget ! 6 refl $ forget ! 8 refl $ forget ! 10 refl $ forget ! 12 refl $ forget ! 16 refl $ forget ! 18 refl $ forget ! 20 refl $ forget ! 22 refl $ forget ! 24 refl $ forget ! 26 refl $ forget ! 28 refl $ forget ! 30 refl $ forget ! 32 refl $ forget ! 34 refl $ forget ! 36 refl $ forget ! 38 refl $ forget ! 40 refl $
+        move ! (40 ∷ 41 ∷ []) $ free1 ! $ move ! (38 ∷ 39 ∷ []) $ free1 ! $ move ! (36 ∷ 37 ∷ []) $ free1 ! $ move ! (34 ∷ 35 ∷ []) $ free1 ! $ move ! (32 ∷ 33 ∷ []) $ free1 ! $ move ! (30 ∷ 31 ∷ []) $ free1 ! $ move ! (28 ∷ 29 ∷ []) $ free1 ! $ move ! (26 ∷ 27 ∷ []) $ free1 ! $ move ! (24 ∷ 25 ∷ []) $ free1 ! $ move ! (22 ∷ 23 ∷ []) $ free1 ! $ move ! (20 ∷ 21 ∷ []) $ free1 ! $ move ! (18 ∷ 19 ∷ []) $ free1 ! $ move ! (16 ∷ 17 ∷ []) $ free1 ! $ move ! (14 ∷ 15 ∷ []) $ free1 ! $ move ! (12 ∷ 13 ∷ []) $ free1 ! $ move ! (10 ∷ 11 ∷ []) $ free1 ! $ move ! (8 ∷ 9 ∷ []) $ free1 ! $ move ! (6 ∷ 7 ∷ []) $ free1 ! $ free0 ! $
         keep ! (0 ∷ 1 ∷ 2 ∷ 3 ∷ 5 ∷ 4 ∷ []) $
         by ! (exits (set ys k (r .kept)) (length-set ys k (r .kept)) (ws .1 .1 .1 .1 .0) (r .refusal) (no-fits r t is) (feed-done ys k (now ln) f n r
-        (ws .1 .1 .1 .1 .0) listed-so (er .0) (er .1))))))))))))))))))))))))))))))))
+        (ws .1 .1 .1 .1 .0) listed-so (er .0) (er .1))))))))))))))))))))))))))))))))))
 
 module _ {M : Type 1} (𝓤 : URA M) (H : Heap 𝓤) (A : Atoms 𝓤) (W : Given 𝓤 H A) (mem : Memory → SProp 𝓤) (run : Routine → Fun 𝓤) where
   feed-walks : (C : Calls 𝓤 H) (Λ : Loops 𝓤 H) → FmC 𝓤 H (W .laws) C → Triple 𝓤 (C #list-refusal) (Listed 𝓤 H A mem run) → Triple 𝓤 (C #refuse) (Refuse 𝓤 H A mem run)
