@@ -1,14 +1,15 @@
 -- Laws of the hunt in a hurry: a digit that does not end the hunt only moves the window, and what is left to do stays the same.
-use mathlib.Core.Path.{_≡_, refl, sym, subst, _∙_}
+use mathlib.Core.Path.{_≡_, refl, sym, ap, subst, _∙_}
 use mathlib.Core.Bool.{true, false, true≢false}
 use mathlib.Core.List.{List}
-use Prim.Native.Nat.{ℕ, suc, _+_, _*_, _-_, _≤_, _<_, min}
+use Prim.Native.Nat.{ℕ, zero, suc, _+_, _*_, _-_, _/_, _%_, _^_, _≤_, _<_, min}
 use native.Mathlib.Omega.{arith}
-use native.Mathlib.Nat.{add-assoc}
+use native.Mathlib.Nat.{add-assoc, add-zero, div-one}
 use borrow.Author.Tests.{ltb-true, ltb-false, leb-true, leb-false}
 use lib.Dec.{leb, ltb}
 use lib.ListN.{length, getD}
-use Rattle.digits.specs.Digits.{digitsOf, between}
+use lib.Bits.{bitAnd, and-mask}
+use Rattle.digits.specs.Digits.{digitsOf, between, windowAt}
 use Rattle.table.specs.declared.Row.{Row}
 use Rattle.levels.specs.Table.{Shared}
 use Rattle.receiver.specs.declared.Mode.{Mode}
@@ -19,9 +20,11 @@ use Rattle.receiver.specs.Alarm.{countOf, counted}
 use Rattle.receiver.specs.Modes.{hunting, windowOf, seenOf, good, asks, testedAt, placeAfter, afterDigit, stepOf}
 use Rattle.receiver.specs.Frame.{keepOf, readyOf}
 use Rattle.receiver.specs.Feed.{stateOf, afterOf, runOf, pieceOf, Valid}
-use Rattle.receiver.specs.Hunt.{stillHunting, testedIn, Hunted}
+use Rattle.receiver.specs.Hunt.{stillHunting, testedIn, Clear, windowFrom, Hunted}
 use Rattle.receiver.proofs.Validity.{step-valid}
-use Rattle.receiver.proofs.Counts.{counted-none, counted-one}
+use Rattle.receiver.proofs.Counts.{counted-none, counted-one, counted-join}
+use Rattle.receiver.proofs.Misses.{window-ahead}
+use Rattle.digits.proofs.Laws.{digits-binary}
 use Rattle.digits.proofs.Runs.{piece-step}
 use Rattle.digits.proofs.Tests.{cond-told}
 
@@ -151,3 +154,50 @@ module _ (row : Row) (sh : Shared row) (slice : List ℕ) (end p : ℕ) where
             ∙ rw (en, t, n, counted-one row slice st p at d (h .from) (omega arith) ed)
             (run-still row slice at end w came d level (taken + (at - p)) (words + testedIn row seen came) f (counted row st (between slice p at)) (omega arith) within ed bad′);
       }
+
+  -- many such digits
+  pub hunted-many : (c₀ : Core) (seen at w came : ℕ) → Hunted row slice end p c₀ at (testedIn row seen came) (stillHunting row w came) → seen ≤ came → (n : ℕ)
+      → at + n < end → end ≤ 8 * length slice → ((k : ℕ) → k < n → good row (windowFrom row (digitsOf slice) at w (suc k)) ≡ false)
+      → Hunted row slice end p c₀ (at + n) (testedIn row seen (came + n)) (stillHunting row (windowFrom row (digitsOf slice) at w n) (came + n))
+  unfolding windowFrom
+  hunted-many c₀ seen at w came h grows zero room within bad = rw (add-zero at, add-zero came) h
+  hunted-many c₀ seen at w came h grows (suc n) room within bad =
+      let a : at + suc n ≡ at + n + 1 = omega arith in
+      let k : came + suc n ≡ came + n + 1 = omega arith in
+      rw (a, k)
+      (hunted-more c₀ seen (at + n) (windowFrom row (digitsOf slice) at w n) (came + n) (getD (digitsOf slice) (at + n) 0)
+      (windowFrom row (digitsOf slice) at w (suc n))
+      (hunted-many c₀ seen at w came h grows n (omega arith) within (λ k hk. bad k (omega arith))) (omega arith) (omega arith) within refl refl
+      (bad n (omega arith)))
+
+  -- 32 digits, none of whose windows is the word
+  pub hunted-far : (c₀ : Core) (seen at w came v mask : ℕ) → Hunted row slice end p c₀ at (testedIn row seen came) (stillHunting row w came) → seen ≤ came
+      → at + 32 < end → end ≤ 8 * length slice → v ≡ w * 2 ^ 32 + windowAt (digitsOf slice) at 32 → Clear row v → mask ≡ 2 ^ row .len - 1
+      → Hunted row slice end p c₀ (at + 32) (testedIn row seen (came + 32)) (stillHunting row (bitAnd v mask) (came + 32))
+  unfolding stillHunting
+  hunted-far c₀ seen at w came v mask h grows room within ev clear em =
+      let last : windowFrom row (digitsOf slice) at w 32 ≡ bitAnd v mask =
+      after 32 0 refl ∙ sym (rw em (and-mask v (row .len)) ∙ ap (λ (n : ℕ). n % 2 ^ row .len) (sym (div-one v))) in
+      rw last at (hunted-many c₀ seen at w came h grows 32 room within (λ k hk. rw (after (suc k) (31 - k) (omega arith)) (clear (31 - k) (omega arith))))
+    where
+      after : (k i : ℕ) → k + i ≡ 32 → windowFrom row (digitsOf slice) at w k ≡ v / 2 ^ i % 2 ^ row .len
+      after k i e = rw ev (window-ahead row sh (digitsOf slice) (digits-binary slice) at w (h .valid .window) 32 k i e)
+
+  pub hunted-join : (c : Core) (at n : ℕ) (c′ : Core) (at′ m : ℕ) (c″ : Core) → Hunted row slice end p c at n c′ → Hunted row slice end at c′ at′ m c″
+      → Hunted row slice end p c at′ (n + m) c″
+  hunted-join c at n c′ at′ m c″ h h′ =
+      record {
+        valid = h′ .valid;
+        from = omega (arith, h .from, h′ .from);
+        before = h′ .before;
+        most = omega (arith, h .most, h′ .most, h .from, h′ .from);
+        same = λ level taken words f st.
+            let t : taken + (at - p) + (at′ - at) ≡ taken + (at′ - p) = omega (arith, h .from, h′ .from) in
+            h .same level taken words f st
+            ∙ rw (counted-join row slice st p at at′ (h .from) (h′ .from), ← t, ← add-assoc words n m)
+            (h′ .same level (taken + (at - p)) (words + n) f (counted row st (between slice p at)));
+      }
+
+  pub hunted-at : (c c₀ : Core) (a at n n′ : ℕ) (r c′ : Core) → c ≡ c₀ → r ≡ c′ → a ≡ at → n ≡ n′
+      → Hunted row slice end p c₀ at n′ c′ → Hunted row slice end p c a n r
+  hunted-at c c₀ a at n n′ r c′ e e′ ea e″ h = rw (e, e′, ea, e″) h

@@ -4,3 +4,6 @@ pub mod Counts
 pub mod Runs
 pub mod Hunts
 pub mod Answers
+pub mod Misses
+pub mod Puts
+pub mod Carries

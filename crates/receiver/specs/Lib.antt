@@ -3,3 +3,4 @@ pub mod Frame
 pub mod Alarm
 pub mod Feed
 pub mod Hunt
+pub mod Carry
