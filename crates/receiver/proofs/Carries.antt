@@ -1,7 +1,7 @@
 -- Laws of digits in a hurry outside hunting: before the digit at which a rule looks they only move the window and the place and are put in the
 -- frame, and what is left to do stays the same.
-use mathlib.Core.Path.{_≡_, refl, sym, ap, _∙_}
-use mathlib.Core.Bool.{Bool, cond, true, false, _&&_}
+use mathlib.Core.Path.{_≡_, refl, sym, _∙_}
+use mathlib.Core.Bool.{Bool, true, false, _&&_}
 use mathlib.Core.List.{List}
 use Prim.Native.Nat.{ℕ, zero, suc, _+_, _-_, _*_, _≤_, _<_, min}
 use native.Mathlib.Omega.{arith}
@@ -10,7 +10,6 @@ use borrow.Author.Tests.{ne-eqb, le-ltb, le-leb, lt-leb}
 use lib.ListN.{length, getD}
 use Rattle.digits.specs.Digits.{digitsOf, between}
 use Rattle.digits.proofs.Runs.{piece-step}
-use Rattle.digits.proofs.ZeroLaws.{between-none}
 use Rattle.table.specs.declared.Row.{Row}
 use Rattle.levels.specs.Table.{Shared}
 use Rattle.receiver.specs.declared.modes.Core.{Core}
@@ -19,11 +18,13 @@ use Rattle.receiver.specs.Alarm.{countOf, counted}
 use Rattle.receiver.specs.Modes.{hunting, windowOf, seenOf, asks, testedAt, placeAfter, afterDigit, stepOf}
 use Rattle.receiver.specs.Frame.{put, keepOf, aligned, readyOf}
 use Rattle.receiver.specs.Feed.{stateOf, afterOf, runOf, pieceOf, Valid}
-use Rattle.receiver.specs.Hunt.{windowFrom}
-use Rattle.receiver.specs.Carry.{puts, goneOn, Carried}
+use Rattle.receiver.specs.Carry.{goneOn, Carried}
 use Rattle.receiver.proofs.Validity.{step-valid}
 use Rattle.receiver.proofs.Counts.{counted-none, counted-one}
-use Rattle.receiver.proofs.Puts.{puts-none, puts-one}
+use Rattle.strides.specs.Strides.{windowOn, windowFrom}
+use Rattle.strides.specs.Copies.{puts}
+use Rattle.strides.specs.Copies as copies
+use Rattle.strides.proofs.Putting.{puts-none, puts-one}
 
 -- ---- how far it goes, of two bounds the lesser
 
@@ -41,6 +42,11 @@ go-before first n end a e h = below (omega arith)
 
 pub go-fits : (len digits place n first : ℕ) → place + n < digits - len → digits ≤ 2928 → len + place + (first + n - first) ≤ 2928
 go-fits len digits place n first h short = omega arith
+
+-- the frame's word for a digit that is put
+put-same : (f : List ℕ) (p d : ℕ) → copies.put f p d ≡ put f p d
+unfolding copies.put put
+put-same f p d = refl
 
 -- ---- one digit
 
@@ -104,7 +110,7 @@ module _ (row : Row) (sh : Shared row) (slice : List ℕ) (end p : ℕ) where
 
     on-step : (k : ℕ) → Valid row (goneOn row slice p c k) → c .place + suc k < row .digits
         → goneOn row slice p c (suc k) ≡ stepOf row (goneOn row slice p c k) (getD (digitsOf slice) (p + k) 0)
-    unfolding goneOn windowFrom
+    unfolding goneOn windowFrom windowOn windowOf
     on-step k w room =
         let e : c .place + suc k ≡ c .place + k + 1 = omega arith in
         rw e (sym (step-on row (goneOn row slice p c k) w h (omega arith) (getD (digitsOf slice) (p + k) 0)))
@@ -163,7 +169,7 @@ module _ (row : Row) (sh : Shared row) (slice : List ℕ) (end p : ℕ) where
             let d = getD (digitsOf slice) (p + k) 0 in
             rw a
             (sym (puts-one slice f (row .len + c .place) p (p + k) d (row .len - 1 + (c .place + suc k)) so-far (put so-far (row .len - 1 + (c .place + suc k)) d) (omega arith)
-            (omega arith) (omega (arith, sh .word-some)) refl refl refl)
+            (omega arith) (omega (arith, sh .word-some)) refl refl (sym (put-same so-far (row .len - 1 + (c .place + suc k)) d)))
             ∙ sym (keep-put (suc k) d so-far (omega arith) (omega arith)))
 
     -- from there on

@@ -4,6 +4,4 @@ pub mod Counts
 pub mod Runs
 pub mod Hunts
 pub mod Answers
-pub mod Misses
-pub mod Puts
 pub mod Carries

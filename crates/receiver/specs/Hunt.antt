@@ -1,16 +1,12 @@
 -- The hunt in a hurry: what an inner function of the run promises. What is left to do after it is what was to do before.
 use mathlib.Core.Path.{_≡_}
-use mathlib.Core.Bool.{cond, false}
 use mathlib.Core.List.{List}
-use Prim.Native.Nat.{ℕ, zero, suc, _+_, _-_, _/_, _%_, _^_, _≤_, _<_, min}
-use lib.Dec.{eqb}
-use lib.ListN.{getD}
+use Prim.Native.Nat.{ℕ, _+_, _-_, _≤_, _<_, min}
 use Rattle.table.specs.declared.Row.{Row}
 use Rattle.receiver.specs.declared.Mode.the-variants.{Hunting}
 use Rattle.digits.specs.Digits.{between}
 use Rattle.receiver.specs.declared.modes.Core.{Core}
 use Rattle.receiver.specs.declared.alarm.Stretch.{Stretch}
-use Rattle.receiver.specs.Modes.{windowOf, good}
 use Rattle.receiver.specs.Alarm.{counted}
 use Rattle.receiver.specs.Feed.{stateOf, runOf, pieceOf, Valid}
 
@@ -20,23 +16,6 @@ stillHunting row w came = record { window = w; seen = min came (row .len); mode 
 -- hunting, every digit from the L-th since reset on tests a word: so many while the digits that came grow from seen to came
 abbrev pub testedIn : Row → ℕ → ℕ → ℕ
 testedIn row seen came = came + 1 - row .len - (seen + 1 - row .len)
-
--- 0 exactly if the l digits of v that end i digits before its last one are the last l digits of the word
-unfoldable pub missAt : ℕ → ℕ → ℕ → ℕ → ℕ
-missAt l word v i = cond (eqb (v / 2 ^ i % 2 ^ l) (word % 2 ^ l)) 0 1
-
--- the first 32 digits from the last on tell where the word does not end
-abbrev pub Misses : Row → ℕ → ℕ → Type 0
-Misses row v r = (i : ℕ) → i < 32 → r / 2 ^ i % 2 ≡ missAt (row .len) (row .word) v i
-
--- none of the 32 windows that end in the last 32 digits is the word
-abbrev pub Clear : Row → ℕ → Type 0
-Clear row v = (i : ℕ) → i < 32 → good row (v / 2 ^ i % 2 ^ row .len) ≡ false
-
--- the window after k digits from place p on
-unfoldable pub windowFrom : Row → List ℕ → ℕ → ℕ → ℕ → ℕ
-windowFrom row ds p w zero = w
-windowFrom row ds p w (suc k) = windowOf row (windowFrom row ds p w k) (getD ds (p + k) 0)
 
 -- from core c at digit p of a slice, of which the digits before `end` are to be taken, it went to core c′ at digit at, and tested so
 -- many words

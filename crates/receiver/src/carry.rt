@@ -4,12 +4,10 @@ use crate::frame;
 use crate::modes::Core;
 use table::Row;
 ghost use mathlib.Core.Path.{_≡_};
-ghost use Prim.Native.Nat.{_+_, _*_, _-_, _^_, _<_, _≤_, min};
+ghost use Prim.Native.Nat.{_+_, _*_, _-_, _^_, _<_, _≤_};
 ghost use lib.ListN.{length};
-ghost use Rattle.digits.specs.Digits.{digitsOf};
 ghost use Rattle.levels.specs.Table.{Shared};
 ghost use Rattle.receiver.specs.Feed.{Valid};
-ghost use Rattle.receiver.specs.Hunt.{windowFrom};
 ghost use Rattle.receiver.specs.Carry.{goneOn, Carried};
 
 // The core, and the place of the next digit in the piece.
@@ -18,34 +16,12 @@ pub struct Carry {
     pub at: usize,
 }
 
-fn lesser(a: usize, b: usize) -> usize
-    ensures { λ r. ⌜ r ≡ min a b ⌝ }
-{
-    if a <= b {
-        return a;
-    }
-    b
-}
-
-// The window after the digits from one place to another: of many, the last 32 are enough.
-fn window_over(row: Row, mask: usize, window: usize, piece: &[u8], first: usize, at: usize) -> usize
-    requires { ⌜ Shared row × (mask ≡ 2 ^ row .len - 1) × (window < 2 ^ row .len) × (length (now piece) ≤ 65536) × (first ≤ at) × (at ≤ 8 * length (now piece)) ⌝ }
-    ensures { λ r. ⌜ r ≡ windowFrom row (digitsOf (now (piece .entry))) first window (at - first) ⌝ }
-{
-    if first == at {
-        return window;
-    }
-    let n = lesser(at - first, 32);
-    let v = ((window as u64) << n) | words::read_digits(piece, at - n, n);
-    (v as usize) & mask
-}
-
 fn gone_on(row: Row, mask: usize, c: Core, piece: &[u8], first: usize, at: usize) -> Carry
     requires { ⌜ Shared row × (mask ≡ 2 ^ row .len - 1) × Valid row c × (length (now piece) ≤ 65536) × (first ≤ at) × (at ≤ 8 * length (now piece)) ⌝ }
     ensures { λ r. ⌜ (r .core ≡ goneOn row (now (piece .entry)) first c (at - first)) × (r .at ≡ at) ⌝ }
 {
     let mode = c.mode;
-    let window = window_over(row, mask, c.window, piece, first, at);
+    let window = strides::window_over(row.len, mask, c.window, piece, first, at);
     Carry {
         core: Core {
             window,
@@ -77,10 +53,10 @@ pub fn carry_on(
     }
     let last = row.digits - row.len;
     if c.place < last {
-        let at = first + lesser(last - 1 - c.place, end - 1 - first);
+        let at = first + strides::lesser(last - 1 - c.place, end - 1 - first);
         frame::copy(f, row.len + c.place, piece, first, at);
         return gone_on(row, mask, c, piece, first, at);
     }
-    let at = first + lesser(row.digits - 1 - c.place, end - 1 - first);
+    let at = first + strides::lesser(row.digits - 1 - c.place, end - 1 - first);
     gone_on(row, mask, c, piece, first, at)
 }

@@ -2,14 +2,12 @@
 use crate::Mode;
 use table::Row;
 ghost use mathlib.Core.Path.{_≡_};
-ghost use mathlib.Core.Bool.{cond, true};
 ghost use Prim.Native.Nat.{_+_, _*_, _-_, _^_, _<_, _≤_};
 ghost use lib.ListN.{length};
-ghost use Rattle.digits.specs.Digits.{digitsOf, windowAt};
 ghost use Rattle.levels.specs.Table.{Shared};
 ghost use Rattle.receiver.specs.Modes.{missed, windowOf, seenOf, good, asks, testedAt, judged, placeAfter, stepOf};
 ghost use Rattle.receiver.specs.Feed.{Valid};
-ghost use Rattle.receiver.specs.Hunt.{stillHunting, testedIn, Misses, Clear, Hunted};
+ghost use Rattle.receiver.specs.Hunt.{stillHunting, testedIn, Hunted};
 
 // A state without its level and its frame: what goes round in the loop.
 pub struct Core {
@@ -197,49 +195,6 @@ fn still_hunting(row: Row, window: usize, came: usize) -> Core
     }
 }
 
-// The window and the 32 digits from a place on, as one number.
-fn ahead(row: Row, window: usize, piece: &[u8], at: usize) -> u64
-    requires { ⌜ Shared row × (window < 2 ^ row .len) × (length (now piece) ≤ 65536) × (at + 32 ≤ 8 * length (now piece)) ⌝ }
-    ensures { λ r. ⌜ (r ≡ window * 2 ^ 32 + windowAt (digitsOf (now (piece .entry))) at 32) × (r < 2 ^ 44) ⌝ }
-{
-    ((window as u64) << 32) | words::read_digits(piece, at, 32)
-}
-
-// The number, or the one with every digit turned.
-fn either(turned: bool, v: u64, u: u64) -> u64
-    ensures { λ r. ⌜ r ≡ cond turned u v ⌝ }
-{
-    if turned {
-        return u;
-    }
-    v
-}
-
-// Where the word does not end: digit i of the answer is 0 exactly if the L digits of v that end i digits before its last are the word.
-fn misses(row: Row, v: u64) -> u64
-    requires { ⌜ Shared row × (v < 2 ^ 44) ⌝ }
-    ensures { λ r. ⌜ Misses row v r ⌝ }
-{
-    let len = row.len;
-    let word = row.word as u64;
-    let u = v ^ 281474976710655;
-    let mut miss: u64 = 0;
-    let mut k: usize = 0;
-    while k < len {
-        miss = miss | (either((word >> k) % 2 == 1, v, u) >> k);
-        k += 1;
-    }
-    miss
-}
-
-// Whether none of the 32 windows that end in the last 32 digits of v is the word.
-fn is_clear(row: Row, v: u64) -> bool
-    requires { ⌜ Shared row × (v < 2 ^ 44) ⌝ }
-    ensures { λ r. ⌜ (r ≡ true → Clear row v) ⌝ }
-{
-    misses(row, v) & 4294967295 == 4294967295
-}
-
 // Where a hunt stands that took the digits from first on and before at, and found nothing.
 fn hunt_at(row: Row, window: usize, seen: usize, first: usize, at: usize) -> Hunt
     requires { ⌜ Shared row × (seen ≤ row .len) × (first ≤ at) × (at ≤ 524288) ⌝ }
@@ -253,82 +208,28 @@ fn hunt_at(row: Row, window: usize, seen: usize, first: usize, at: usize) -> Hun
     }
 }
 
-// The hunt by 32 digits: takes them while none of their windows is the word.
-fn hunt_far(row: Row, mask: usize, c: Core, piece: &[u8], first: usize, end: usize) -> Hunt
-    requires { ⌜ Shared row × (mask ≡ 2 ^ row .len - 1) × Valid row c × (length (now piece) ≤ 65536) × (first < end) × (end ≤ 8 * length (now piece)) ⌝ }
-    ensures { λ r. ⌜ Hunted row (now (piece .entry)) end first c (r .at) (r .words) (r .core) ⌝ }
-{
-    let mode = c.mode;
-    if !crate::is_hunting(mode) {
-        return Hunt {
-            core: c,
-            at: first,
-            words: 0,
-        };
-    }
-    let seen = c.seen;
-    let mut window = c.window;
-    let mut at = first;
-    while at + 32 < end {
-        let v = ahead(row, window, piece, at);
-        if !is_clear(row, v) {
-            return hunt_at(row, window, seen, first, at);
-        }
-        window = (v as usize) & mask;
-        at += 32;
-    }
-    hunt_at(row, window, seen, first, at)
-}
-
-// The hunt by the digit: takes digits while they do no more than move the window, and leaves the digit that may end the
+// The hunt in a hurry: takes digits while they do no more than move the window, and leaves the digit that may end the
 // hunt, or the last one, to `step`.
-fn hunt_near(row: Row, mask: usize, c: Core, piece: &[u8], first: usize, end: usize) -> Hunt
-    requires { ⌜ Shared row × (mask ≡ 2 ^ row .len - 1) × Valid row c × (length (now piece) ≤ 65536) × (first < end) × (end ≤ 8 * length (now piece)) ⌝ }
-    ensures { λ r. ⌜ Hunted row (now (piece .entry)) end first c (r .at) (r .words) (r .core) ⌝ }
-{
-    let mode = c.mode;
-    if !crate::is_hunting(mode) {
-        return Hunt {
-            core: c,
-            at: first,
-            words: 0,
-        };
-    }
-    let seen = c.seen;
-    let last = end - 1;
-    let mut window = c.window;
-    let mut at = first;
-    while at < last {
-        let next = window_of(row, mask, window, digits::digit_at(piece, at));
-        if is_good(row, next) {
-            return Hunt {
-                core: still_hunting(row, window, seen + (at - first)),
-                at,
-                words: tested_in(row, seen, seen + (at - first)),
-            };
-        }
-        window = next;
-        at += 1;
-    }
-    Hunt {
-        core: still_hunting(row, window, seen + (at - first)),
-        at,
-        words: tested_in(row, seen, seen + (at - first)),
-    }
-}
-
-// The hunt in a hurry: by 32 digits while it may, then by the digit. The digit that may end the hunt, or the last one, is left to
-// `step`.
 pub fn hunt_on(row: Row, mask: usize, c: Core, piece: &[u8], first: usize, end: usize) -> Hunt
     requires { ⌜ Shared row × (mask ≡ 2 ^ row .len - 1) × Valid row c × (length (now piece) ≤ 65536) × (first < end) × (end ≤ 8 * length (now piece)) ⌝ }
     ensures { λ r. ⌜ Hunted row (now (piece .entry)) end first c (r .at) (r .words) (r .core) ⌝ }
 {
-    let far = hunt_far(row, mask, c, piece, first, end);
-    let near = hunt_near(row, mask, far.core, piece, far.at, end);
-    let core = near.core;
-    Hunt {
-        core,
-        at: near.at,
-        words: far.words + near.words,
+    let mode = c.mode;
+    if !crate::is_hunting(mode) {
+        return Hunt {
+            core: c,
+            at: first,
+            words: 0,
+        };
     }
+    let s = strides::seek(
+        row.len,
+        mask,
+        row.word as usize,
+        c.window,
+        piece,
+        first,
+        end,
+    );
+    hunt_at(row, s.window, c.seen, first, s.at)
 }

@@ -1,14 +1,27 @@
--- `hunt_on`: two stretches, one after the other (proofs/Hunts.antt).
+-- `hunt_on`: what `seek` passed leaves the same to do (proofs/Hunts.antt).
 use borrow.Author.Needs.{needs}
-use Rattle.receiver.proofs.Hunts.{hunted-join}
+use mathlib.Core.Path.{sym, _∙_}
+use borrow.Author.Tests.{not-false}
+use Rattle.receiver.proofs.Hunts.{word-asked, hunted-none, hunted-passed}
 use Rattle.receiver.proofs.modes.hunt_on.Statement.{statement}
 use Rattle.receiver.proofs.modes.hunt_on.Tie as tie
 
 returns : tie.Need-returns
 returns c =
-    let c3 = c .before .before .before in
-    let b = c3 .before .before .before in
-    hunted-join (b .args .row) (b .pre .0) _ _ _ _ _ _ _ _ _ _ (c3 .before .hunt-far .ensures) (c3 .hunt-near .ensures)
+    let b = c .before .before .before in
+    hunted-none (b .args .row) (b .pre .0) _ _ _ _ (b .pre .2) (b .pre .4)
+
+seek-requires : tie.Need-seek-requires
+seek-requires c κs =
+    let b = c .before .before .before .before in
+    (word-asked (b .args .row) (b .pre .0) _ (b .pre .1), b .pre .2 .window, b .pre .3, b .pre .4, b .pre .5)
+
+returns-2 : tie.Need-returns-2
+returns-2 c =
+    let b = c .before .before .before .before .before .before in
+    let hunts = sym (c .before .before .before .before .is-hunting .ensures) ∙ not-false _ (c .before .before .before .if1 .left) in
+    let h = c .hunt-at .ensures in
+    hunted-passed (b .args .row) (b .pre .0) _ _ _ (b .args .c) _ _ (b .pre .2) hunts (b .pre .5) (c .before .seek .ensures) _ _ _ (h .0) (h .1) (h .2)
 
 pub hunt-on-spec : {M : Type 1} → statement M
-hunt-on-spec = tie.close (tie.spec (λ c κs. search needs) (λ c κs. search needs) (λ c. search needs) returns)
+hunt-on-spec = tie.close (tie.spec (λ c κs. search needs) returns (λ c. search needs) seek-requires (λ c κs. search needs) returns-2)
