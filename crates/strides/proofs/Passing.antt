@@ -94,6 +94,10 @@ window-join len ds p w i (suc j) =
 
 -- ---- no window on the way is the word
 
+-- of a word that is the same
+pub unmet-as : (len word len′ word′ : ℕ) (ds : List ℕ) (from at : ℕ) → Unmet len word ds from at → len′ ≡ len → word′ ≡ word → Unmet len′ word′ ds from at
+unmet-as len word len′ word′ ds from at h el ew = rw (el, ew) h
+
 module _ (len word : ℕ) (ds : List ℕ) where
   pub unmet-none : (from : ℕ) → Unmet len word ds from from
   unmet-none from e h h′ = absurd (omega arith)

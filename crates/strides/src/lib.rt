@@ -99,7 +99,7 @@ fn is_clear(len: usize, word: u64, v: u64) -> bool
 
 // By 48 digits: goes on while the word ends at none of them. Eight bytes tell of the 48 and of the 16 before them, in which the first words
 // began.
-fn seek_far(len: usize, word: usize, piece: &[u8], from: usize, end: usize) -> usize
+fn seek_by(len: usize, word: usize, piece: &[u8], from: usize, end: usize) -> usize
     requires { ⌜ (7 ≤ len) × (len ≤ 12) × (word < 2 ^ len) × (length (now piece) ≤ 65536) × (16 ≤ from) × (from % 8 ≡ 0) × (from < end) × (end ≤ 8 * length (now piece)) ⌝ }
     ensures { λ at. ⌜ (from ≤ at) × (at < end) × Unmet len word (digitsOf (now (piece .entry))) from at ⌝ }
 {
@@ -111,6 +111,19 @@ fn seek_far(len: usize, word: usize, piece: &[u8], from: usize, end: usize) -> u
         at += 48;
     }
     at
+}
+
+// The same. For the finder's word, 0011011, it is written out, so that the compiler makes code for these digits: half as long as for any word's.
+fn seek_far(len: usize, word: usize, piece: &[u8], from: usize, end: usize) -> usize
+    requires { ⌜ (7 ≤ len) × (len ≤ 12) × (word < 2 ^ len) × (length (now piece) ≤ 65536) × (16 ≤ from) × (from % 8 ≡ 0) × (from < end) × (end ≤ 8 * length (now piece)) ⌝ }
+    ensures { λ at. ⌜ (from ≤ at) × (at < end) × Unmet len word (digitsOf (now (piece .entry))) from at ⌝ }
+{
+    if len == 7 {
+        if word == 27 {
+            return seek_by(7, 27, piece, from, end);
+        }
+    }
+    seek_by(len, word, piece, from, end)
 }
 
 // Where it stands: the place of the next digit, and the window before it.

@@ -1,4 +1,4 @@
--- `seek_far`: the word was met at none of the digits so far (proofs/Passing.antt).
+-- `seek_by`: the word was met at none of the digits so far (proofs/Passing.antt).
 use mathlib.Core.Path.{_≡_}
 use Prim.Native.Nat.{_-_, _*_, _/_, _%_, _≤_, _<_}
 use native.Mathlib.Omega.{arith}
@@ -7,8 +7,8 @@ use Rattle.digits.specs.Digits.{digitsOf}
 use Rattle.digits.proofs.Laws.{digits-binary}
 use Rattle.strides.specs.Strides.{Unmet}
 use Rattle.strides.proofs.Passing.{unmet-none, unmet-more}
-use Rattle.strides.proofs.seek_far.Statement.{statement}
-use Rattle.strides.proofs.seek_far.Tie as tie
+use Rattle.strides.proofs.seek_by.Statement.{statement}
+use Rattle.strides.proofs.seek_by.Tie as tie
 
 abbrev Inv-loop : tie.InvT-loop
 Inv-loop len word piece from end at₀ at = (from ≤ at) × (at < end) × (at % 8 ≡ 0) × Unmet len word (digitsOf piece) from at
@@ -72,6 +72,6 @@ returns-2 c =
     let l = c .before .loop in
     (l .inv .0, l .inv .1, l .inv .3)
 
-pub seek-far-spec : {M : Type 1} → statement M
-seek-far-spec =
+pub seek-by-spec : {M : Type 1} → statement M
+seek-by-spec =
     tie.close (tie.spec Inv-loop μ-loop loop-holds add-loop sub-load8 load8-requires is-clear-requires returns add-at loop-less loop-again returns-2)
