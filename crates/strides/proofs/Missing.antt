@@ -1,7 +1,7 @@
--- Laws of the places at which a word does not end, as digits of one number: one digit of the word more, and what 48 ones say.
+-- Laws of the places at which a word does not end, as digits of one number: one digit of the word more, and what ones say.
 use mathlib.Core.Path.{_≡_, refl, sym, ap, _∙_}
 use mathlib.Core.Bool.{Bool, cond, true, false}
-use Prim.Native.Nat.{ℕ, suc, _+_, _-_, _*_, _/_, _%_, _^_, _<_, max}
+use Prim.Native.Nat.{ℕ, suc, _+_, _-_, _*_, _/_, _%_, _^_, _≤_, _<_, max}
 use native.Mathlib.Omega.{arith}
 use native.Mathlib.Decide.{ℕ-discrete}
 use native.Mathlib.Nat.{pow-suc, mod-one, mod-lt, div-eq-of-lt, mod-eq-of-lt}
@@ -106,26 +106,26 @@ pub miss-turn : (word v k miss r : ℕ) → k < 12 → Misses k word v miss → 
     → Misses (k + 1) word v r
 miss-turn word v k miss r hk h er = record { tells = one }
   where
-    one : (i : ℕ) → i < 48 → r / 2 ^ i % 2 ≡ missAt (k + 1) word v i
+    one : (i : ℕ) → i + (k + 1) ≤ 64 → r / 2 ^ i % 2 ≡ missAt (k + 1) word v i
     one i hi =
         let d = word / 2 ^ k % 2 in
         let x = bitXor v (d * (2 ^ 64 - 1)) in
-        rw (er, or-digit miss (x / 2 ^ k) i, h .tells i hi, miss-more word v k i, shr-shr x k i)
+        rw (er, or-digit miss (x / 2 ^ k) i, h .tells i (omega arith), miss-more word v k i, shr-shr x k i)
         (ap (max (missAt k word v i)) (differ-digit v d 64 (k + i) (omega arith) (omega arith)))
 
 -- a number of digits that is another one's
 pub miss-as : (word v k l r : ℕ) → Misses k word v r → l ≡ k → Misses l word v r
 miss-as word v k l r h e = rw e h
 
--- 48 ones: no window is the word
-pub clear-is : (len word v r : ℕ) → word < 2 ^ len → Misses len word v r → r % 2 ^ 48 ≡ 2 ^ 48 - 1 → Clear len word v
+-- so many ones: no window is the word
+pub clear-is : (places len word v r : ℕ) → word < 2 ^ len → places + len ≤ 64 → Misses len word v r → r % 2 ^ places ≡ 2 ^ places - 1 → Clear places len word v
 unfolding missAt
-clear-is len word v r fits h e i hi =
-    let up : 48 ≡ suc (47 - i) + i = omega arith in
-    let one : _≡_ {A = ℕ} ((2 ^ 48 - 1) / 2 ^ i % 2) 1 = ap (λ (n : ℕ). (2 ^ n - 1) / 2 ^ i % 2) up ∙ ones-digit (47 - i) i in
-    let miss : _≡_ {A = ℕ} (r / 2 ^ i % 2) 1 = sym (low-digit 48 i r hi) ∙ ap (λ (n : ℕ). n / 2 ^ i % 2) e ∙ one in
+clear-is places len word v r fits room h e i hi =
+    let up : places ≡ suc (places - suc i) + i = omega arith in
+    let one : _≡_ {A = ℕ} ((2 ^ places - 1) / 2 ^ i % 2) 1 = ap (λ (n : ℕ). (2 ^ n - 1) / 2 ^ i % 2) up ∙ ones-digit (places - suc i) i in
+    let miss : _≡_ {A = ℕ} (r / 2 ^ i % 2) 1 = sym (low-digit places i r hi) ∙ ap (λ (n : ℕ). n / 2 ^ i % 2) e ∙ one in
     let whole : word % 2 ^ len ≡ word = mod-eq-of-lt fits in
-    told (eqb (v / 2 ^ i % 2 ^ len) word) (rw whole at (sym miss ∙ h .tells i hi))
+    told (eqb (v / 2 ^ i % 2 ^ len) word) (rw whole at (sym miss ∙ h .tells i (omega arith)))
   where
     told : (t : Bool) → _≡_ {A = ℕ} 1 (cond t 0 1) → t ≡ false
     told true q = absurd (one-zero q)

@@ -102,16 +102,16 @@ module _ (len word : ℕ) (ds : List ℕ) where
   pub unmet-none : (from : ℕ) → Unmet len word ds from from
   unmet-none from e h h′ = absurd (omega arith)
 
-  -- 48 digits more: the 64 that begin 16 before them have all their windows
-  pub unmet-more : Binary ds → (from at q v : ℕ) → len ≤ 12 → q + 16 ≡ at → v ≡ windowAt ds q 64 → Clear len word v → Unmet len word ds from at
-      → Unmet len word ds from (at + 48)
-  unmet-more bin from at q v short eq ev clear so-far e h h′ =
+  -- so many digits more: the 64 that end with them have all their windows
+  pub unmet-more : Binary ds → (from at q n v : ℕ) → n + len ≤ 64 → q + 64 ≡ at + n → v ≡ windowAt ds q 64 → Clear n len word v → Unmet len word ds from at
+      → Unmet len word ds from (at + n)
+  unmet-more bin from at q n v short eq ev clear so-far e h h′ =
       elim (decLt e at) [
         | yes b ↦ so-far e h b
-        | no b ↦ here (at + 47 - e) (omega arith) (omega arith)
+        | no b ↦ here (at + n - suc e) (omega arith) (omega arith)
       ]
     where
-      here : (i : ℕ) → i < 48 → e + i ≡ at + 47 → eqb (windowAt ds (e + 1 - len) len) word ≡ false
+      here : (i : ℕ) → i < n → e + i + 1 ≡ at + n → eqb (windowAt ds (e + 1 - len) len) word ≡ false
       here i hi ei =
           let j = 64 - i - len in
           let whole : 64 ≡ j + len + i = omega arith in
@@ -204,3 +204,14 @@ stop-before first end to h e = (omega arith, omega arith)
 pub stop-at : (first end to at : ℕ) → first < end → to ≡ min ((first + 23) / 8 * 8) (end - 1) → at < to + 1 → (first + 23) / 8 * 8 ≤ at
     → (16 ≤ at) × (at % 8 ≡ 0) × (at < end) × (first + 16 ≤ at)
 stop-at first end to at h e below far = (omega arith, omega arith, omega arith, omega arith)
+
+-- ---- the eight bytes of a turn of n digits, which end with it
+
+pub turn-load : (from end at n bytes : ℕ) → 16 ≤ from → 48 ≤ n → from ≤ at → at + n < end → end ≤ 8 * bytes → (at + n) / 8 - 8 + 8 ≤ bytes
+turn-load from end at n bytes h some on room within = omega arith
+
+pub turn-place : (from at n : ℕ) → at % 8 ≡ 0 → n % 8 ≡ 0 → 16 ≤ from → 48 ≤ n → from ≤ at → 8 * ((at + n) / 8 - 8) + 64 ≡ at + n
+turn-place from at n whole bytes h some on = omega arith
+
+pub turn-next : (at n : ℕ) → at % 8 ≡ 0 → n % 8 ≡ 0 → (at + n) % 8 ≡ 0
+turn-next at n whole bytes = omega arith

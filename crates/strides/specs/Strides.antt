@@ -28,13 +28,23 @@ pub record Word (len mask word : ℕ) : Type 0 where
 unfoldable pub missAt : ℕ → ℕ → ℕ → ℕ → ℕ
 missAt l word v i = cond (eqb (v / 2 ^ i % 2 ^ l) (word % 2 ^ l)) 0 1
 
--- the last 48 digits of r tell where in v the last l digits of the word do not end
+-- the digits of r tell where in the 64 digits of v the last l digits of the word do not end
 pub record Misses (l word v r : ℕ) : Type 0 where
-  pub tells : (i : ℕ) → i < 48 → r / 2 ^ i % 2 ≡ missAt l word v i
+  pub tells : (i : ℕ) → i + l ≤ 64 → r / 2 ^ i % 2 ≡ missAt l word v i
 
--- none of the 48 windows that end in the last 48 digits of v is the word
-abbrev pub Clear : ℕ → ℕ → ℕ → Type 0
-Clear len word v = (i : ℕ) → i < 48 → eqb (v / 2 ^ i % 2 ^ len) word ≡ false
+-- none of so many windows that end in the last digits of v is the word
+abbrev pub Clear : ℕ → ℕ → ℕ → ℕ → Type 0
+Clear places len word v = (i : ℕ) → i < places → eqb (v / 2 ^ i % 2 ^ len) word ≡ false
+
+-- what is asked of a turn: whole bytes, at most 56 digits, before which there is room for a word's beginning among 64
+pub record Turn (len word places ones : ℕ) : Type 0 where
+  pub least : 7 ≤ len
+  pub most : len ≤ 12
+  pub fits : word < 2 ^ len
+  pub bytes : places % 8 ≡ 0
+  pub some : 48 ≤ places
+  pub room : places + len ≤ 64
+  pub masked : ones ≡ 2 ^ places - 1
 
 -- the word ends at none of the digits from one place to another
 abbrev pub Unmet : ℕ → ℕ → List ℕ → ℕ → ℕ → Type 0

@@ -7,7 +7,7 @@ ghost use mathlib.Core.Bool.{true};
 ghost use Prim.Native.Nat.{_+_, _*_, _-_, _%_, _^_, _<_, _≤_, min};
 ghost use lib.ListN.{length};
 ghost use Rattle.digits.specs.Digits.{digitsOf};
-ghost use Rattle.strides.specs.Strides.{windowOn, windowFrom, Word, Misses, Clear, Unmet, Passed};
+ghost use Rattle.strides.specs.Strides.{windowOn, windowFrom, Word, Misses, Clear, Turn, Unmet, Passed};
 
 pub fn lesser(a: usize, b: usize) -> usize
     ensures { λ r. ⌜ r ≡ min a b ⌝ }
@@ -89,41 +89,56 @@ fn misses(len: usize, word: u64, v: u64) -> u64
     miss_more(eleven, word, v, 11)
 }
 
-// Whether the word ends at none of the last 48 digits of v.
-fn is_clear(len: usize, word: u64, v: u64) -> bool
-    requires { ⌜ (7 ≤ len) × (len ≤ 12) × (word < 2 ^ len) ⌝ }
-    ensures { λ r. ⌜ (r ≡ true → Clear len word v) ⌝ }
+// Whether the word ends at none of so many last digits of v; `ones` are as many ones.
+fn is_clear(len: usize, word: u64, v: u64, places: usize, ones: u64) -> bool
+    requires { ⌜ (7 ≤ len) × (len ≤ 12) × (word < 2 ^ len) × (places + len ≤ 64) × (ones ≡ 2 ^ places - 1) ⌝ }
+    ensures { λ r. ⌜ (r ≡ true → Clear places len word v) ⌝ }
 {
-    misses(len, word, v) & 281474976710655 == 281474976710655
+    misses(len, word, v) & ones == ones
 }
 
-// By 48 digits: goes on while the word ends at none of them. Eight bytes tell of the 48 and of the 16 before them, in which the first words
+// By so many digits: goes on while the word ends at none of them. Eight bytes tell of them and of those before them in which the first words
 // began.
-fn seek_by(len: usize, word: usize, piece: &[u8], from: usize, end: usize) -> usize
-    requires { ⌜ (7 ≤ len) × (len ≤ 12) × (word < 2 ^ len) × (length (now piece) ≤ 65536) × (16 ≤ from) × (from % 8 ≡ 0) × (from < end) × (end ≤ 8 * length (now piece)) ⌝ }
+fn seek_by(
+    len: usize,
+    word: usize,
+    places: usize,
+    ones: u64,
+    piece: &[u8],
+    from: usize,
+    end: usize,
+) -> usize
+    requires { ⌜ Turn len word places ones × (length (now piece) ≤ 65536) × (16 ≤ from) × (from % 8 ≡ 0) × (from < end) × (end ≤ 8 * length (now piece)) ⌝ }
     ensures { λ at. ⌜ (from ≤ at) × (at < end) × Unmet len word (digitsOf (now (piece .entry))) from at ⌝ }
 {
     let mut at = from;
-    while at + 48 < end {
-        if !is_clear(len, word as u64, words::load8(piece, at / 8 - 2)) {
+    while at + places < end {
+        if !is_clear(
+            len,
+            word as u64,
+            words::load8(piece, (at + places) / 8 - 8),
+            places,
+            ones,
+        ) {
             return at;
         }
-        at += 48;
+        at += places;
     }
     at
 }
 
-// The same. For the finder's word, 0011011, it is written out, so that the compiler makes code for these digits: half as long as for any word's.
+// By 48 digits, for which any word's beginning is among the 16 before them. The finder's word, 0011011, has it among eight: by 56 digits, and
+// written out, so that the compiler makes code for these digits.
 fn seek_far(len: usize, word: usize, piece: &[u8], from: usize, end: usize) -> usize
     requires { ⌜ (7 ≤ len) × (len ≤ 12) × (word < 2 ^ len) × (length (now piece) ≤ 65536) × (16 ≤ from) × (from % 8 ≡ 0) × (from < end) × (end ≤ 8 * length (now piece)) ⌝ }
     ensures { λ at. ⌜ (from ≤ at) × (at < end) × Unmet len word (digitsOf (now (piece .entry))) from at ⌝ }
 {
     if len == 7 {
         if word == 27 {
-            return seek_by(7, 27, piece, from, end);
+            return seek_by(7, 27, 56, 72057594037927935, piece, from, end);
         }
     }
-    seek_by(len, word, piece, from, end)
+    seek_by(len, word, 48, 281474976710655, piece, from, end)
 }
 
 // Where it stands: the place of the next digit, and the window before it.
@@ -159,7 +174,7 @@ fn seek_near(
 }
 
 // Goes on from digit first to the digit at which the word ends, or to the last one before end: by the digit as far as words may end that began
-// before, then by 48 digits, then by the digit.
+// before, then by 48 digits or more, then by the digit.
 pub fn seek(
     len: usize,
     mask: usize,
