@@ -1,28 +1,27 @@
 -- Laws of digits in a hurry: a digit that does not end the hunt only moves the window; outside hunting the digits before the check only move the
 -- window and the place; and what is left to do stays the same.
-use mathlib.Core.Path.{_≡_, refl, sym, subst, _∙_}
+use mathlib.Core.Path.{_≡_, refl, sym, ap, subst, _∙_}
 use mathlib.Core.Bool.{Bool, true, false, true≢false}
-use mathlib.Core.List.{List, [], _∷_, _++_, append-assoc, append-nil}
-use Prim.Native.Nat.{ℕ, suc, _+_, _*_, _-_, _^_, _≤_, _<_, min}
+use mathlib.Core.List.{List, [], _∷_, _++_}
+use Prim.Native.Nat.{ℕ, zero, suc, _+_, _*_, _-_, _^_, _≤_, _<_, min}
 use native.Mathlib.Omega.{arith}
-use native.Mathlib.Decide.{decLt}
+use native.Mathlib.Nat.{add-zero}
 use borrow.Author.Tests.{ltb-true, ltb-false, ne-eqb, le-ltb}
-use lib.Dec.{ltb}
+use lib.Dec.{eqb, ltb}
 use lib.ListN.{length, getD, take, drop, length-drop}
-use lib.Seq.{length-take-le, drop-drop}
-use Rattle.digits.specs.Digits.{digitsOf, Binary, written}
+use lib.Seq.{length-take-le}
+use Rattle.digits.specs.Digits.{digitsOf}
 use Rattle.digits.specs.Runs.{heard, runOf, stopsAt, pieceOf}
-use Rattle.digits.specs.Histories.{lastOf}
 use Rattle.digits.proofs.Laws.{digits-length}
 use Rattle.digits.proofs.Tests.{cond-told}
-use Rattle.digits.proofs.Written.{written-inj}
-use Rattle.digits.proofs.Lasts.{last-length, last-binary}
-use Rattle.digits.proofs.Histories.{Recent, recent-own, recent-more, last-append, last-take}
-use Rattle.digits.proofs.Runs.{piece-step, piece-cut, piece-binary, run-past}
+use Rattle.digits.proofs.Histories.{Recent, recent-more}
+use Rattle.digits.proofs.Runs.{piece-step, piece-cut, run-past}
+use Rattle.digits.proofs.ZeroLaws.{between-one}
+use Rattle.strides.specs.Strides.{windowOn, windowFrom, Passed}
 use Rattle.finder.specs.declared.Mode.{Mode}
 use Rattle.finder.specs.declared.Mode.the-variants.{Hunting, WordFound, SecondSeen, Aligned}
 use Rattle.finder.specs.declared.State.{State}
-use Rattle.finder.specs.Modes.{hunting, aligned, windowOf, seenOf, good, checkAt, asks, placeAfter, afterDigit, stepOf, differ, turned}
+use Rattle.finder.specs.Modes.{wordNumber, hunting, aligned, windowOf, seenOf, good, checkAt, asks, placeAfter, afterDigit, stepOf, differ, turned}
 use Rattle.finder.specs.Feed.{Placed, Valid}
 use Rattle.finder.specs.Hurry.{stillHunting, windowOver, Hurried}
 use Rattle.finder.proofs.Validity.{window-fits, step-valid}
@@ -42,7 +41,7 @@ hunting-rests WordFound p e h = absurd (true≢false (sym e))
 hunting-rests SecondSeen p e h = absurd (true≢false (sym e))
 hunting-rests (Aligned m) p e h = absurd (true≢false (sym e))
 
-pub hunting-state : (s : State) → Valid s → hunting (s .mode) ≡ true → s ≡ stillHunting (s .window) (s .seen)
+hunting-state : (s : State) → Valid s → hunting (s .mode) ≡ true → s ≡ stillHunting (s .window) (s .seen)
 unfolding stillHunting
 hunting-state s v h =
     same (s .window) (s .seen) (min (s .seen) 7) (s .mode) (s .place) (omega (arith, v .seen)) (hunting-is (s .mode) h) (hunting-rests (s .mode) (s .place) h (v .place))
@@ -87,17 +86,15 @@ module _ (slice : List ℕ) (end p : ℕ) where
       nothing : (t : ℕ) → t + 0 ≡ t
       nothing t = omega arith
 
-  pub hurried-begin : (s : State) → Valid s → hunting (s .mode) ≡ true → p < end
-      → Hurried slice end p (stillHunting (s .window) (s .seen)) p (stillHunting (s .window) (s .seen + (p - p)))
-  hurried-begin s v e h =
-      let none : s .seen + (p - p) ≡ s .seen = omega arith in
-      rw none (hurried-none (stillHunting (s .window) (s .seen)) (subst Valid (hunting-state s v e) v) h)
+  hurried-begin : (s : State) → Valid s → hunting (s .mode) ≡ true → p < end
+      → Hurried slice end p (stillHunting (s .window) (s .seen)) p (stillHunting (s .window) (s .seen))
+  hurried-begin s v e h = hurried-none (stillHunting (s .window) (s .seen)) (subst Valid (hunting-state s v e) v) h
 
   -- equal states, equal answers
-  pub hurried-is : (s s₀ : State) (at : ℕ) (r s′ : State) → s ≡ s₀ → r ≡ s′ → Hurried slice end p s₀ at s′ → Hurried slice end p s at r
+  hurried-is : (s s₀ : State) (at : ℕ) (r s′ : State) → s ≡ s₀ → r ≡ s′ → Hurried slice end p s₀ at s′ → Hurried slice end p s at r
   hurried-is s s₀ at r s′ e e′ h = rw (e, e′) h
 
-  pub hurried-more : (s₀ : State) (at w came d next : ℕ) → Hurried slice end p s₀ at (stillHunting w came)
+  hurried-more : (s₀ : State) (at w came d next : ℕ) → Hurried slice end p s₀ at (stillHunting w came)
       → at + 1 < end → end ≤ 8 * length slice → d ≡ getD (digitsOf slice) at 0 → next ≡ windowOf w d → good next ≡ false
       → Hurried slice end p s₀ (at + 1) (stillHunting next (came + 1))
   hurried-more s₀ at w came d next h room within ed en bad =
@@ -111,6 +108,29 @@ module _ (slice : List ℕ) (end p : ℕ) where
             let t : taken + (at + 1 - p) ≡ suc (taken + (at - p)) = omega (arith, h .from) in
             h .same taken ∙ rw (en, t) (run-still slice at end w came d (taken + (at - p)) (omega arith) within ed bad′);
       }
+
+  -- many such digits
+  hurried-many : (s₀ : State) (seen w : ℕ) → Hurried slice end p s₀ p (stillHunting w seen) → (n : ℕ) → p + n < end → end ≤ 8 * length slice
+      → ((k : ℕ) → k < n → eqb (windowFrom 7 (digitsOf slice) p w (suc k)) wordNumber ≡ false)
+      → Hurried slice end p s₀ (p + n) (stillHunting (windowFrom 7 (digitsOf slice) p w n) (seen + n))
+  unfolding windowFrom windowOn windowOf good
+  hurried-many s₀ seen w h zero room within bad = rw (add-zero p, add-zero seen) h
+  hurried-many s₀ seen w h (suc n) room within bad =
+      let a : p + suc n ≡ p + n + 1 = omega arith in
+      let k : seen + suc n ≡ seen + n + 1 = omega arith in
+      rw (a, k)
+      (hurried-more s₀ (p + n) (windowFrom 7 (digitsOf slice) p w n) (seen + n) (getD (digitsOf slice) (p + n) 0) (windowFrom 7 (digitsOf slice) p w (suc n))
+      (hurried-many s₀ seen w h n (omega arith) within (λ k hk. bad k (omega arith))) (omega arith) within refl refl (bad n (omega arith)))
+
+  -- a hunt from a valid state that hunts, by what it passed
+  pub hurried-passed : (s : State) (at w′ : ℕ) → Valid s → hunting (s .mode) ≡ true → end ≤ 8 * length slice
+      → Passed 7 wordNumber (digitsOf slice) end p (s .window) at w′ → (r : State) → r ≡ stillHunting w′ (s .seen + (at - p)) → Hurried slice end p s at r
+  hurried-passed s at w′ v e within h r er =
+      let there : p + (at - p) ≡ at = omega (arith, h .from) in
+      let begun = hurried-begin s v e (omega (arith, h .from, h .before)) in
+      let many = hurried-many (stillHunting (s .window) (s .seen)) (s .seen) (s .window) begun (at - p) (omega (arith, h .from, h .before)) within (h .missed) in
+      hurried-is s (stillHunting (s .window) (s .seen)) at r (stillHunting (windowFrom 7 (digitsOf slice) p (s .window) (at - p)) (s .seen + (at - p)))
+      (hunting-state s v e) (er ∙ ap (λ (w : ℕ). stillHunting w (s .seen + (at - p))) (h .window)) (rw there at many)
 
 -- ---- outside hunting
 
@@ -165,7 +185,7 @@ carried-unturned xs s h came room k hk =
     )
     (differ-same (aligned (s .mode)))
 
--- the window after digits, by the last seven of them
+-- the window after digits
 
 over-fits : (xs : List ℕ) (w : ℕ) → w < 2 ^ 7 → windowOver w xs < 2 ^ 7
 unfolding windowOver
@@ -176,40 +196,23 @@ pub recent-one : (w d : ℕ) (past : List ℕ) → d < 2 → Recent 7 w past →
 unfolding windowOf
 recent-one w d past h t = recent-more 7 w past d (omega arith) h t
 
-recent-over : (xs : List ℕ) (w : ℕ) (past : List ℕ) → Binary xs → Recent 7 w past → Recent 7 (windowOver w xs) (past ++ xs)
+over-one : (xs : List ℕ) (w d : ℕ) → windowOver w (xs ++ (d ∷ [])) ≡ windowOf (windowOver w xs) d
 unfolding windowOver
-recent-over [] w past bin t = rw (append-nil past) t
-recent-over (x ∷ xs) w past bin t =
-    rw (append-assoc past (x ∷ []) xs) at (recent-over xs (windowOf w x) (past ++ (x ∷ [])) (λ i. bin (suc i)) (recent-one w x past (bin 0) t))
+over-one [] w d = refl
+over-one (x ∷ xs) w d = over-one xs (windowOf w x) d
 
-over-last : (xs : List ℕ) (n w : ℕ) → length xs ≡ n → w < 2 ^ 7 → Binary xs → windowOver w xs ≡ windowOver w (lastOf (min n 7) xs)
-over-last xs n w size fits bin =
-    elim (decLt (length xs) 7) [
-      | yes h ↦
-          let e : min n 7 ≡ length xs = omega arith in
-          let none : length xs - length xs ≡ 0 = omega arith in
-          rw (e, none)
-      | no h ↦
-          let e : min n 7 ≡ 7 = omega arith in
-          let ys = lastOf 7 xs in
-          let l : length ys ≡ 7 = last-length 7 xs (omega arith) in
-          let past = written 7 w in
-          let one = recent-over xs w past bin (recent-own 7 w) .window ∙ last-append 7 past xs (omega arith) in
-          let two = recent-over ys w past (last-binary 7 xs bin) (recent-own 7 w) .window ∙ last-append 7 past ys (omega arith) in
-          let none : length ys - 7 ≡ 0 = omega arith in
-          rw e (written-inj 7 (windowOver w xs) (windowOver w ys) (over-fits xs w fits) (over-fits ys w fits) (one ∙ sym (rw none at two)))
-    ]
-
--- the last m digits of a piece
-piece-last : (slice : List ℕ) (p n m : ℕ) → m ≤ n → p + n ≤ 8 * length slice → pieceOf slice (p + n - m) m ≡ lastOf m (pieceOf slice p n)
-piece-last slice p n m h within =
-    let ds = digitsOf slice in
-    let room : n ≤ length (drop p ds) = omega (arith, length-drop p ds, digits-length slice) in
-    let e : p + (n - m) ≡ p + n - m = omega arith in
-    sym (last-take m n (drop p ds) h room ∙ rw (drop-drop (n - m) p ds, e))
+over-from : (slice : List ℕ) (p n w : ℕ) → p + n ≤ 8 * length slice → windowOver w (pieceOf slice p n) ≡ windowFrom 7 (digitsOf slice) p w n
+unfolding windowOver windowFrom windowOn windowOf
+over-from slice p zero w h = refl
+over-from slice p (suc n) w h =
+    let more : suc n ≡ n + 1 = omega arith in
+    let one : p + n + 1 - (p + n) ≡ 1 = omega arith in
+    let last : pieceOf slice (p + n) 1 ≡ getD (digitsOf slice) (p + n) 0 ∷ [] = rw one at (between-one slice (p + n) (omega arith)) in
+    ap (λ (k : ℕ). windowOver w (pieceOf slice p k)) more
+    ∙ rw (piece-cut slice p n 1, last) (over-one (pieceOf slice p n) w (getD (digitsOf slice) (p + n) 0) ∙ rw (over-from slice p n w (omega arith)))
 
 pub hurried-carry : (slice : List ℕ) (end p : ℕ) (s : State) (n w : ℕ) → Valid s → hunting (s .mode) ≡ false → p + n < end → end ≤ 8 * length slice
-    → s .place + n < checkAt (s .mode) → w ≡ windowOver (s .window) (pieceOf slice (p + n - min n 7) (p + n - (p + n - min n 7)))
+    → s .place + n < checkAt (s .mode) → w ≡ windowFrom 7 (digitsOf slice) p (s .window) n
     → Hurried slice end p s (p + n) (record { window = w; seen = s .seen; mode = s .mode; place = s .place + n })
 hurried-carry slice end p s n w v h before within room ew =
     record {
@@ -235,9 +238,7 @@ hurried-carry slice end p s n w v h before within room ew =
     size = length-take-le n (drop p (digitsOf slice)) (omega (arith, length-drop p (digitsOf slice), digits-length slice))
 
     window-is : w ≡ windowOver (s .window) xs
-    window-is =
-        let few : p + n - (p + n - min n 7) ≡ min n 7 = omega arith in
-        ew ∙ rw (few, piece-last slice p n (min n 7) (omega arith) (omega arith)) (sym (over-last xs n (s .window) size (v .window) (piece-binary slice p n)))
+    window-is = ew ∙ sym (over-from slice p n (s .window) (omega arith))
 
     same : (taken : ℕ) → runOf stepOf turned (pieceOf slice p (end - p)) taken s
         ≡ runOf stepOf turned ys (taken + (p + n - p)) (record { window = w; seen = s .seen; mode = s .mode; place = s .place + n })
@@ -248,19 +249,3 @@ hurried-carry slice end p s n w v h before within room ew =
         rw (cut, piece-cut slice p n (end - (p + n)), some, window-is)
         (run-past stepOf turned xs ys taken s (carried-unturned xs s h (v .came h) fits)
         ∙ rw (heard-carried xs s h (v .came h) fits, size))
-
--- ---- the window over digits, one at a time: what is left to do is what was to do
-
-abbrev Over : List ℕ → ℕ → ℕ → ℕ → ℕ → ℕ → Type 0
-Over slice from to window at w = windowOver w (pieceOf slice at (to - at)) ≡ windowOver window (pieceOf slice from (to - from))
-
-pub over-step : (slice : List ℕ) (from to window at w d next : ℕ) → Over slice from to window at w → at < to → to ≤ 8 * length slice
-    → d ≡ getD (digitsOf slice) at 0 → next ≡ windowOf w d → Over slice from to window (at + 1) next
-unfolding windowOver
-over-step slice from to window at w d next so-far h within ed en = rw (en, ed) (rw (piece-step slice at to h within) at so-far)
-
-pub over-end : (slice : List ℕ) (from to window at w : ℕ) → Over slice from to window at w → to ≤ at → w ≡ windowOver window (pieceOf slice from (to - from))
-unfolding windowOver
-over-end slice from to window at w so-far h =
-    let none : to - at ≡ 0 = omega arith in
-    rw none at so-far

@@ -5,12 +5,11 @@ use crate::State;
 use crate::modes;
 ghost use mathlib.Core.Path.{_≡_};
 ghost use mathlib.Core.Bool.{true, false};
-ghost use Prim.Native.Nat.{_+_, _*_, _-_, _^_, _<_, _≤_, min};
+ghost use Prim.Native.Nat.{_*_, _<_, _≤_};
 ghost use lib.ListN.{length};
-ghost use Rattle.digits.specs.Runs.{pieceOf};
 ghost use Rattle.finder.specs.Modes.{hunting};
 ghost use Rattle.finder.specs.Feed.{Valid};
-ghost use Rattle.finder.specs.Hurry.{stillHunting, windowOver, Hurried};
+ghost use Rattle.finder.specs.Hurry.{stillHunting, Hurried};
 
 // The state, and the place of the next digit in the piece.
 pub struct Hurry {
@@ -24,19 +23,10 @@ fn still_hunting(window: usize, came: usize) -> State
 {
     State {
         window,
-        seen: lesser(came, 7),
+        seen: strides::lesser(came, 7),
         mode: Mode::Hunting,
         place: 0,
     }
-}
-
-fn lesser(a: usize, b: usize) -> usize
-    ensures { λ r. ⌜ r ≡ min a b ⌝ }
-{
-    if a <= b {
-        return a;
-    }
-    b
 }
 
 // The hunt: takes digits while the window is not the word.
@@ -44,39 +34,12 @@ fn hunt_on(s: State, piece: &[u8], first: usize, end: usize) -> Hurry
     requires { ⌜ Valid s × (hunting (s .mode) ≡ true) × (length (now piece) ≤ 65536) × (first < end) × (end ≤ 8 * length (now piece)) ⌝ }
     ensures { λ r. ⌜ Hurried (now (piece .entry)) end first s (r .at) (r .state) ⌝ }
 {
-    let seen = s.seen;
-    let last = end - 1;
-    let mut window = s.window;
-    let mut at = first;
-    while at < last {
-        let next = modes::window_of(window, digits::digit_at(piece, at));
-        if modes::is_good(next) {
-            return Hurry {
-                state: still_hunting(window, seen + (at - first)),
-                at,
-            };
-        }
-        window = next;
-        at += 1;
-    }
+    let sought = strides::seek(7, 127, 27, s.window, piece, first, end);
+    let at = sought.at;
     Hurry {
-        state: still_hunting(window, seen + (at - first)),
+        state: still_hunting(sought.window, s.seen + (at - first)),
         at,
     }
-}
-
-// The window after the digits from one place to another.
-fn window_over(window: usize, piece: &[u8], from: usize, to: usize) -> usize
-    requires { ⌜ (window < 2 ^ 7) × (length (now piece) ≤ 65536) × (from ≤ to) × (to ≤ 8 * length (now piece)) ⌝ }
-    ensures { λ r. ⌜ r ≡ windowOver window (pieceOf (now (piece .entry)) from (to - from)) ⌝ }
-{
-    let mut w = window;
-    let mut at = from;
-    while at < to {
-        w = modes::window_of(w, digits::digit_at(piece, at));
-        at += 1;
-    }
-    w
 }
 
 // Outside hunting: goes to the digit before the check at once. Of the digits on the way the window keeps the last seven.
@@ -85,9 +48,9 @@ fn carry_on(s: State, piece: &[u8], first: usize, end: usize) -> Hurry
     ensures { λ r. ⌜ Hurried (now (piece .entry)) end first s (r .at) (r .state) ⌝ }
 {
     let mode = s.mode;
-    let n = lesser(modes::check_at(mode) - 1 - s.place, end - 1 - first);
+    let n = strides::lesser(modes::check_at(mode) - 1 - s.place, end - 1 - first);
     let at = first + n;
-    let window = window_over(s.window, piece, at - lesser(n, 7), at);
+    let window = strides::window_over(7, 127, s.window, piece, first, at);
     Hurry {
         state: State {
             window,

@@ -1,12 +1,13 @@
 -- Laws of the hunt in a hurry: a digit that does not end the hunt only moves the window, and what is left to do stays the same.
-use mathlib.Core.Path.{_≡_, refl, sym, subst, _∙_}
+use mathlib.Core.Path.{_≡_, refl, sym, ap, subst, _∙_}
 use mathlib.Core.Bool.{true, false, true≢false}
 use mathlib.Core.List.{List}
-use Prim.Native.Nat.{ℕ, suc, _+_, _*_, _-_, _≤_, _<_, min}
+use Prim.Native.Nat.{ℕ, zero, suc, _+_, _*_, _-_, _^_, _≤_, _<_, min}
 use native.Mathlib.Omega.{arith}
-use native.Mathlib.Nat.{add-assoc}
+use native.Mathlib.Decide.{ℕ-discrete}
+use native.Mathlib.Nat.{add-assoc, add-zero}
 use borrow.Author.Tests.{ltb-true, ltb-false, leb-true, leb-false}
-use lib.Dec.{leb, ltb}
+use lib.Dec.{eqb, leb, ltb}
 use lib.ListN.{length, getD}
 use Rattle.digits.specs.Digits.{digitsOf, between}
 use Rattle.table.specs.declared.Row.{Row}
@@ -24,6 +25,7 @@ use Rattle.receiver.proofs.Validity.{step-valid}
 use Rattle.receiver.proofs.Counts.{counted-none, counted-one}
 use Rattle.digits.proofs.Runs.{piece-step}
 use Rattle.digits.proofs.Tests.{cond-told}
+use Rattle.strides.specs.Strides.{windowOn, windowFrom, Word, Passed}
 
 -- a valid core that hunts is no more than its window and its digits seen
 hunting-is : (mode : Mode) → hunting mode ≡ true → mode ≡ Hunting
@@ -100,6 +102,21 @@ most-more x y t at p e one h from = omega arith
 
 -- ---- the hunt
 
+-- a row's word is one that `seek` looks for
+pub word-asked : (row : Row) → Shared row → (mask : ℕ) → mask ≡ 2 ^ row .len - 1 → Word (row .len) mask (row .word)
+word-asked row sh mask e = record { least = least; most = sh .word-short; masked = e; fits = sh .word-fits }
+  where
+    least : 7 ≤ row .len
+    least =
+        elim (ℕ-discrete (row .len) 10) [
+          | yes ten ↦ omega arith
+          | no other ↦
+              elim (ℕ-discrete (row .len) 12) [
+                | yes twelve ↦ omega arith
+                | no neither ↦ omega (arith, sh .eight other neither .0)
+              ]
+        ]
+
 module _ (row : Row) (sh : Shared row) (slice : List ℕ) (end p : ℕ) where
   pub hunted-none : (c : Core) → Valid row c → p < end → Hunted row slice end p c p 0 c
   hunted-none c v h =
@@ -115,20 +132,13 @@ module _ (row : Row) (sh : Shared row) (slice : List ℕ) (end p : ℕ) where
       nothing : (t : ℕ) → t + 0 ≡ t
       nothing t = omega arith
 
-  pub hunted-begin : (c : Core) → Valid row c → hunting (c .mode) ≡ true → p < end
-      → Hunted row slice end p (stillHunting row (c .window) (c .seen)) p (testedIn row (c .seen) (c .seen + (p - p)))
-      (stillHunting row (c .window) (c .seen + (p - p)))
+  hunted-begin : (c : Core) → Valid row c → hunting (c .mode) ≡ true → p < end
+      → Hunted row slice end p (stillHunting row (c .window) (c .seen)) p (testedIn row (c .seen) (c .seen)) (stillHunting row (c .window) (c .seen))
   hunted-begin c v e h =
-      let none : c .seen + (p - p) ≡ c .seen = omega arith in
       let none-tested : c .seen + 1 - row .len - (c .seen + 1 - row .len) ≡ 0 = omega arith in
-      rw (none, none-tested) (hunted-none (stillHunting row (c .window) (c .seen)) (subst (Valid row) (hunting-core row c v e) v) h)
+      rw none-tested (hunted-none (stillHunting row (c .window) (c .seen)) (subst (Valid row) (hunting-core row c v e) v) h)
 
-  -- equal cores, equal answers
-  pub hunted-is : (c c₀ : Core) (at n n′ : ℕ) (r c′ : Core) → c ≡ c₀ → r ≡ c′ → n ≡ n′
-      → Hunted row slice end p c₀ at n′ c′ → Hunted row slice end p c at n r
-  hunted-is c c₀ at n n′ r c′ e e′ e″ h = rw (e, e′, e″) h
-
-  pub hunted-more : (c₀ : Core) (seen at w came d next : ℕ) → Hunted row slice end p c₀ at (testedIn row seen came) (stillHunting row w came)
+  hunted-more : (c₀ : Core) (seen at w came d next : ℕ) → Hunted row slice end p c₀ at (testedIn row seen came) (stillHunting row w came)
       → seen ≤ came → at + 1 < end → end ≤ 8 * length slice → d ≡ getD (digitsOf slice) at 0 → next ≡ windowOf row w d → good row next ≡ false
       → Hunted row slice end p c₀ (at + 1) (testedIn row seen (came + 1)) (stillHunting row next (came + 1))
   hunted-more c₀ seen at w came d next h grows room within ed en bad =
@@ -151,3 +161,34 @@ module _ (row : Row) (sh : Shared row) (slice : List ℕ) (end p : ℕ) where
             ∙ rw (en, t, n, counted-one row slice st p at d (h .from) (omega arith) ed)
             (run-still row slice at end w came d level (taken + (at - p)) (words + testedIn row seen came) f (counted row st (between slice p at)) (omega arith) within ed bad′);
       }
+
+  -- many such digits
+  hunted-many : (c₀ : Core) (seen w : ℕ) → Hunted row slice end p c₀ p (testedIn row seen seen) (stillHunting row w seen) → (n : ℕ) → p + n < end
+      → end ≤ 8 * length slice → ((k : ℕ) → k < n → eqb (windowFrom (row .len) (digitsOf slice) p w (suc k)) (row .word) ≡ false)
+      → Hunted row slice end p c₀ (p + n) (testedIn row seen (seen + n)) (stillHunting row (windowFrom (row .len) (digitsOf slice) p w n) (seen + n))
+  unfolding windowFrom windowOn windowOf good
+  hunted-many c₀ seen w h zero room within bad = rw (add-zero p, add-zero seen) h
+  hunted-many c₀ seen w h (suc n) room within bad =
+      let a : p + suc n ≡ p + n + 1 = omega arith in
+      let k : seen + suc n ≡ seen + n + 1 = omega arith in
+      rw (a, k)
+      (hunted-more c₀ seen (p + n) (windowFrom (row .len) (digitsOf slice) p w n) (seen + n) (getD (digitsOf slice) (p + n) 0)
+      (windowFrom (row .len) (digitsOf slice) p w (suc n))
+      (hunted-many c₀ seen w h n (omega arith) within (λ k hk. bad k (omega arith))) (omega arith) (omega arith) within refl refl (bad n (omega arith)))
+
+  -- equal cores, equal answers
+  hunted-is : (c c₀ : Core) (a at n n′ : ℕ) (r c′ : Core) → c ≡ c₀ → r ≡ c′ → a ≡ at → n ≡ n′
+      → Hunted row slice end p c₀ at n′ c′ → Hunted row slice end p c a n r
+  hunted-is c c₀ a at n n′ r c′ e e′ ea e″ h = rw (e, e′, ea, e″) h
+
+  -- a hunt from a valid core that hunts, by what it passed
+  pub hunted-passed : (c : Core) (at w′ : ℕ) → Valid row c → hunting (c .mode) ≡ true → end ≤ 8 * length slice
+      → Passed (row .len) (row .word) (digitsOf slice) end p (c .window) at w′
+      → (r : Core) (a n : ℕ) → r ≡ stillHunting row w′ (c .seen + (at - p)) → a ≡ at → n ≡ testedIn row (c .seen) (c .seen + (at - p)) → Hunted row slice end p c a n r
+  hunted-passed c at w′ v e within h r a n er ea en =
+      let there : p + (at - p) ≡ at = omega (arith, h .from) in
+      let begun = hunted-begin c v e (omega (arith, h .from, h .before)) in
+      let many = hunted-many (stillHunting row (c .window) (c .seen)) (c .seen) (c .window) begun (at - p) (omega (arith, h .from, h .before)) within (h .missed) in
+      hunted-is c (stillHunting row (c .window) (c .seen)) a at n (testedIn row (c .seen) (c .seen + (at - p))) r
+      (stillHunting row (windowFrom (row .len) (digitsOf slice) p (c .window) (at - p)) (c .seen + (at - p))) (hunting-core row c v e)
+      (er ∙ ap (λ (w : ℕ). stillHunting row w (c .seen + (at - p))) (h .window)) ea en (rw there at many)

@@ -5,3 +5,4 @@ pub mod Runs
 pub mod Hunts
 pub mod Answers
 pub mod Turns
+pub mod Carries

@@ -15,6 +15,7 @@ use Rattle.receiver.specs.Frame.{keepOf, readyOf}
 use Rattle.receiver.specs.Alarm.{counted, Counting}
 use Rattle.receiver.specs.Feed.{stateOf, Valid, afterOf, accepted, runOf, pieceOf}
 use Rattle.receiver.specs.Hunt.{Hunted}
+use Rattle.receiver.specs.Carry.{Carried}
 use Rattle.receiver.proofs.Counts.{counted-none, counted-one, counted-join}
 
 -- what is left to do at place p, with core c, frame f and the digits so far counted, is what was to do at the start
@@ -64,6 +65,24 @@ going-on row slice first count end level st₀ c₀ f₀ c f words p at tested c
       small = g .small;
       most = omega (arith, g .most, h .most, g .from, h .from);
       same = rw (t, ← counted-join row slice st₀ first p at (g .from) (h .from)) at (sym (h .same level (p - first) words f (counted row st₀ (between slice first p)))) ∙ g .same;
+    }
+
+-- so do digits in a hurry outside hunting
+pub going-carried : (row : Row) (slice : List ℕ) (first count end level : ℕ) (st₀ : Stretch) (c₀ : Core) (f₀ : List ℕ) (c : Core) (f : List ℕ) (words p at : ℕ) (c′ : Core) (f′ : List ℕ)
+    → Going row slice first count end level st₀ c₀ f₀ c f words p → Carried row slice end p c f at c′ f′
+    → Going row slice first count end level st₀ c₀ f₀ c′ f′ words at
+going-carried row slice first count end level st₀ c₀ f₀ c f words p at c′ f′ g h =
+    let t : p - first + (at - p) ≡ at - first = omega (arith, g .from, h .from) in
+    record {
+      valid = h .valid;
+      counting = g .counting;
+      from = omega (arith, g .from, h .from);
+      upto = omega (arith, h .before);
+      ends = g .ends;
+      within = g .within;
+      small = g .small;
+      most = omega (arith, g .most, g .from, h .from);
+      same = rw (t, ← counted-join row slice st₀ first p at (g .from) (h .from)) at (sym (h .same level (p - first) words (counted row st₀ (between slice first p)))) ∙ g .same;
     }
 
 module _ (row : Row) (slice : List ℕ) (first count end level : ℕ) (st₀ : Stretch) (c₀ : Core) (f₀ : List ℕ) (c : Core) (f : List ℕ) (words p : ℕ)

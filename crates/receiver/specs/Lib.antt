@@ -4,3 +4,4 @@ pub mod Alarm
 pub mod Feed
 pub mod Hunt
 pub mod Turns
+pub mod Carry

@@ -2,7 +2,10 @@
 use crate::modes::Core;
 use table::Row;
 ghost use mathlib.Core.Path.{_≡_};
-ghost use Prim.Native.Nat.{_+_, _-_, _^_, _<_};
+ghost use Prim.Native.Nat.{_+_, _*_, _-_, _^_, _<_, _≤_};
+ghost use lib.ListN.{length};
+ghost use Rattle.digits.specs.Digits.{between};
+ghost use Rattle.strides.specs.Copies.{puts};
 ghost use Rattle.levels.specs.Table.{Shared};
 ghost use Rattle.receiver.specs.Feed.{Valid};
 ghost use Rattle.receiver.specs.Frame.{begun, put, keepOf, readyOf};
@@ -24,6 +27,14 @@ fn put_at(f: &mut [u8; 366], p: usize, d: u8)
     ensures { λ _. ⌜ now (f .exit) ≡ put (now (f .entry)) p d ⌝ }
 {
     digits::put_digit(f, p, d);
+}
+
+// Digits of a piece put in the frame.
+pub fn copy(f: &mut [u8; 366], to: usize, piece: &[u8], first: usize, end: usize)
+    requires { ⌜ (first ≤ end) × (end ≤ 8 * length (now piece)) × (length (now piece) ≤ 65536) × (to + (end - first) ≤ 2928) ⌝ }
+    ensures { λ _. ⌜ now (f .exit) ≡ puts (now (f .entry)) to (between (now (piece .entry)) first end) ⌝ }
+{
+    strides::copies::copy(f, to, piece, first, end);
 }
 
 // What the digit does to the frame in hand; c is the core that the digit made.

@@ -2,6 +2,7 @@
 // back by value. Each answer equals a definition of specs/Feed.antt, for any state and any piece whatever; the whole statement
 // of each call has a name there.
 pub mod alarm;
+mod carry;
 mod frame;
 mod modes;
 
@@ -234,9 +235,10 @@ fn run(row: Row, s: State, piece: &[u8], first: usize, count: usize) -> Fed
     while p < end {
         let h = modes::hunt_on(row, mask, c, piece, p, end);
         words += h.words;
-        p = h.at;
+        let on = carry::carry_on(row, mask, h.core, piece, h.at, end, &mut f);
+        p = on.at;
         let d = digits::digit_at(piece, p);
-        let next = modes::step(row, mask, h.core, d);
+        let next = modes::step(row, mask, on.core, d);
         c = next.core;
         words += next.words;
         frame::keep(row, shift, c, d, &mut f);

@@ -195,6 +195,19 @@ fn still_hunting(row: Row, window: usize, came: usize) -> Core
     }
 }
 
+// Where a hunt stands that took the digits from first on and before at, and found nothing.
+fn hunt_at(row: Row, window: usize, seen: usize, first: usize, at: usize) -> Hunt
+    requires { ⌜ Shared row × (seen ≤ row .len) × (first ≤ at) × (at ≤ 524288) ⌝ }
+    ensures { λ r. ⌜ (r .core ≡ stillHunting row window (seen + (at - first))) × (r .at ≡ at) × (r .words ≡ testedIn row seen (seen + (at - first))) ⌝ }
+{
+    let came = seen + (at - first);
+    Hunt {
+        core: still_hunting(row, window, came),
+        at,
+        words: tested_in(row, seen, came),
+    }
+}
+
 // The hunt in a hurry: takes digits while they do no more than move the window, and leaves the digit that may end the
 // hunt, or the last one, to `step`.
 pub fn hunt_on(row: Row, mask: usize, c: Core, piece: &[u8], first: usize, end: usize) -> Hunt
@@ -209,25 +222,14 @@ pub fn hunt_on(row: Row, mask: usize, c: Core, piece: &[u8], first: usize, end: 
             words: 0,
         };
     }
-    let seen = c.seen;
-    let last = end - 1;
-    let mut window = c.window;
-    let mut at = first;
-    while at < last {
-        let next = window_of(row, mask, window, digits::digit_at(piece, at));
-        if is_good(row, next) {
-            return Hunt {
-                core: still_hunting(row, window, seen + (at - first)),
-                at,
-                words: tested_in(row, seen, seen + (at - first)),
-            };
-        }
-        window = next;
-        at += 1;
-    }
-    Hunt {
-        core: still_hunting(row, window, seen + (at - first)),
-        at,
-        words: tested_in(row, seen, seen + (at - first)),
-    }
+    let s = strides::seek(
+        row.len,
+        mask,
+        row.word as usize,
+        c.window,
+        piece,
+        first,
+        end,
+    );
+    hunt_at(row, s.window, c.seen, first, s.at)
 }

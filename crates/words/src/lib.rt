@@ -33,7 +33,7 @@ pub fn load4(s: &[u8], at: usize) -> u64
 }
 
 // The 64 digits of eight bytes.
-fn load8(s: &[u8], at: usize) -> u64
+pub fn load8(s: &[u8], at: usize) -> u64
     requires { ⌜ at + 8 ≤ length (now s) ⌝ }
     ensures { λ r. ⌜ r ≡ windowAt (digitsOf (now (s .entry))) (8 * at) 64 ⌝ }
 {

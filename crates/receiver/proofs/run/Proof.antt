@@ -4,7 +4,7 @@ use mathlib.Core.Path.{sym, _∙_}
 use Prim.Native.Nat.{_-_}
 use native.Mathlib.Omega.{arith}
 use Rattle.receiver.proofs.Validity.{step-valid}
-use Rattle.receiver.proofs.Runs.{Going, going, going-on, run-end, run-on, run-ready}
+use Rattle.receiver.proofs.Runs.{Going, going, going-on, going-carried, run-end, run-on, run-ready}
 use Rattle.receiver.proofs.run.Statement.{statement}
 use Rattle.receiver.proofs.run.Tie as tie
 
@@ -44,106 +44,82 @@ add-words c =
     let h = c .before .hunt-on .ensures in
     omega (arith, g .most, g .from, g .within, g .small, h .most, h .before)
 
+carry-on-requires : tie.Need-carry-on-requires Inv-loop μ-loop
+carry-on-requires c κs =
+    let h = c .before .before .hunt-on .ensures in
+    let g = c .before .before .before .before .loop .inv in
+    (c .before .before .before .before .before .before .before .before .before .before .before .pre .0, c .before .before .before .before .before .before .before .before .before .mask-of .ensures, h .valid, g .small, h .before, g .within)
+
 digit-at-requires : tie.Need-digit-at-requires Inv-loop μ-loop
-digit-at-requires c κs =
-    let c3 = c .before .before .before in
-    omega (arith, c .before .hunt-on .ensures .before, c3 .loop .inv .within)
+digit-at-requires c κs = omega (arith, c .carry-on .ensures .before, c .before .before .before .before .before .loop .inv .within)
 
 step-requires : tie.Need-step-requires Inv-loop μ-loop
-step-requires c κs =
-    let c2 = c .before .before in
-    let c9 = c2 .before .before .before .before .before .before .before in
-    let b = c9 .before .before in
-    (b .pre .0, c9 .mask-of .ensures, c2 .hunt-on .ensures .valid, c .digit-at .ensures .1)
+step-requires c κs = (c .before .before .before .before .before .before .before .before .before .before .before .before .before .pre .0, c .before .before .before .before .before .before .before .before .before .before .before .mask-of .ensures, c .before .carry-on .ensures .valid, c .digit-at .ensures .1)
 
 add-words-2 : tie.Need-add-words-2 Inv-loop μ-loop
 add-words-2 c =
-    let c2 = c .before .before in
-    let c5 = c2 .before .before .before in
-    let c7 = c5 .before .before in
-    let g = c7 .loop .inv in
-    let h = c5 .hunt-on .ensures in
-    omega (arith, g .most, g .from, g .within, g .small, h .most, h .before, c2 .step .ensures .2)
+    let g = c .before .before .before .before .before .before .before .before .before .loop .inv in
+    let h = c .before .before .before .before .before .before .before .hunt-on .ensures in
+    omega (arith, g .most, g .from, g .within, g .small, h .most, h .before, c .before .before .step .ensures .2)
 
 keep-requires : tie.Need-keep-requires Inv-loop μ-loop
 keep-requires c κs =
-    let c3 = c .before .before .before in
-    let c4 = c3 .before in
-    let c6 = c4 .before .before in
-    let b = c6 .before .before .before .before .before .before .before .before .before in
-    let d = c4 .digit-at in
-    let valid = step-valid (b .args .row) (b .pre .0) _ (c6 .hunt-on .ensures .valid) (d .result) in
-    (b .pre .0, omega (arith, b .pre .0 .word-short), rw (c3 .step .ensures .0) valid, d .ensures .1)
+    let b = c .before .before .before .before .before .before .before .before .before .before .before .before .before .before .before .before .before in
+    let d = c .before .before .before .before .digit-at in
+    let valid = step-valid (b .args .row) (b .pre .0) _ (c .before .before .before .before .before .carry-on .ensures .valid) (d .result) in
+    (b .pre .0, omega (arith, b .pre .0 .word-short), rw (c .before .before .before .step .ensures .0) valid, d .ensures .1)
 
 add-p : tie.Need-add-p Inv-loop μ-loop
-add-p c =
-    let c7 = c .before .before .before .before .before .before .before in
-    let c9 = c7 .before .before in
-    omega (arith, c7 .hunt-on .ensures .before, c9 .loop .inv .within, c9 .loop .inv .small)
+add-p c = omega (arith, c .before .before .before .before .before .before .carry-on .ensures .before, c .before .before .before .before .before .before .before .before .before .before .before .loop .inv .within, c .before .before .before .before .before .before .before .before .before .before .before .loop .inv .small)
 
 is-ready-requires : tie.Need-is-ready-requires Inv-loop μ-loop
-is-ready-requires c κs =
-    let b = c .before .before .before .before .before .before .before .before .before .before .before .before .before .before .before .before in
-    b .pre .0
+is-ready-requires c κs = c .before .before .before .before .before .before .before .before .before .before .before .before .before .before .before .before .before .before .pre .0
 
 count-requires : tie.Need-count-requires Inv-loop μ-loop
 count-requires c κs =
-    let c9 = c .before .before .before .before .before .before .before .before .before in
-    let c11 = c9 .before .before in
-    let b = c11 .before .before .before .before .before .before .before in
-    let h = c9 .hunt-on .ensures in
-    (b .pre .0, b .pre .2, omega (arith, c11 .loop .inv .from, h .from), omega (arith, h .before, c11 .loop .inv .within), b .pre .3)
+    let b = c .before .before .before .before .before .before .before .before .before .before .before .before .before .before .before .before .before .before .before .before in
+    let g = c .before .before .before .before .before .before .before .before .before .before .before .before .before .loop .inv in
+    let on = c .before .before .before .before .before .before .before .before .carry-on .ensures in
+    (b .pre .0, b .pre .2, omega (arith, g .from, c .before .before .before .before .before .before .before .before .before .before .before .hunt-on .ensures .from, on .from), omega (arith, on .before, g .within), b .pre .3)
 
 sub-accept : tie.Need-sub-accept Inv-loop μ-loop
-sub-accept c =
-    let c10 = c .before .before .before .before .before .before .before .before .before .before in
-    let c12 = c10 .before .before in
-    omega (arith, c12 .loop .inv .from, c10 .hunt-on .ensures .from)
+sub-accept c = omega (arith, c .before .before .before .before .before .before .before .before .before .before .before .before .before .before .loop .inv .from, c .before .before .before .before .before .before .before .before .before .before .before .before .hunt-on .ensures .from, c .before .before .before .before .before .before .before .before .before .carry-on .ensures .from)
 
 returns : tie.Need-returns Inv-loop μ-loop
 returns c =
-    let c2 = c .before .before in
-    let c3 = c2 .before in
-    let c4 = c3 .before in
-    let c8 = c4 .before .before .before .before in
-    let c9 = c8 .before in
-    let c11 = c9 .before .before in
-    let c13 = c11 .before .before in
-    let c16 = c13 .before .before .before in
-    let h = c11 .hunt-on .ensures in
-    let g = going-on _ _ _ _ _ _ _ _ _ _ _ _ _ _ _ _ (c13 .loop .inv) h in
-    let ready = sym (c3 .is-ready .ensures) ∙ c2 .if1 .taken in
-    let s = c8 .step .ensures in
-    let whole = run-ready _ _ _ _ _ _ _ _ _ _ _ _ _ g (h .before) _ _ _ _ (c9 .digit-at .ensures .0) (s .0) (s .1) (c4 .keep .ensures) _ (c .before .count .ensures) ready in
-    c .accept .ensures ∙ (rw (c16 .core-of .ensures) at whole)
+    let on = c .before .before .before .before .before .before .before .before .before .before .carry-on .ensures in
+    let hunted = going-on _ _ _ _ _ _ _ _ _ _ _ _ _ _ _ _ (c .before .before .before .before .before .before .before .before .before .before .before .before .before .before .before .loop .inv) (c .before .before .before .before .before .before .before .before .before .before .before .before .before .hunt-on .ensures) in
+    let g = going-carried _ _ _ _ _ _ _ _ _ _ _ _ _ _ _ _ hunted on in
+    let ready = sym (c .before .before .before .is-ready .ensures) ∙ c .before .before .if1 .taken in
+    let s = c .before .before .before .before .before .before .before .before .step .ensures in
+    let whole = run-ready _ _ _ _ _ _ _ _ _ _ _ _ _ g (on .before) _ _ _ _ (c .before .before .before .before .before .before .before .before .before .digit-at .ensures .0) (s .0) (s .1) (c .before .before .before .before .keep .ensures) _ (c .before .count .ensures) ready in
+    c .accept .ensures ∙ (rw (c .before .before .before .before .before .before .before .before .before .before .before .before .before .before .before .before .before .before .core-of .ensures) at whole)
 
 loop-less : tie.Need-loop-less Inv-loop μ-loop
 loop-less c =
-    let c9 = c .before .before .before .before .before .before .before .before .before in
-    let h = c9 .hunt-on .ensures in
-    omega (arith, h .from, h .before)
+    let h = c .before .before .before .before .before .before .before .before .before .before .before .hunt-on .ensures in
+    let on = c .before .before .before .before .before .before .before .before .carry-on .ensures in
+    omega (arith, h .from, on .from, on .before)
 
 loop-again : tie.Need-loop-again Inv-loop μ-loop
 loop-again c =
-    let c2 = c .before .before in
-    let c6 = c2 .before .before .before .before in
-    let c7 = c6 .before in
-    let c9 = c7 .before .before in
-    let c11 = c9 .before .before in
-    let b = c11 .before .before .before .before .before .before .before in
-    let h = c9 .hunt-on .ensures in
-    let g = going-on _ _ _ _ _ _ _ _ _ _ _ _ _ _ _ _ (c11 .loop .inv) h in
-    let on = sym (c .before .is-ready .ensures) ∙ c .if1 .left in
+    let b = c .before .before .before .before .before .before .before .before .before .before .before .before .before .before .before .before .before .before .before .before in
+    let d = c .before .before .before .before .before .before .before .digit-at in
+    let s = c .before .before .before .before .before .before .step .ensures in
+    let on = c .before .before .before .before .before .before .before .before .carry-on .ensures in
+    let hunted = going-on _ _ _ _ _ _ _ _ _ _ _ _ _ _ _ _ (c .before .before .before .before .before .before .before .before .before .before .before .before .before .loop .inv) (c .before .before .before .before .before .before .before .before .before .before .before .hunt-on .ensures) in
+    let g = going-carried _ _ _ _ _ _ _ _ _ _ _ _ _ _ _ _ hunted on in
+    let unready = sym (c .before .is-ready .ensures) ∙ c .if1 .left in
     record {
-      valid = rw (c6 .step .ensures .0) (step-valid (b .args .row) (b .pre .0) _ (g .valid) (c7 .digit-at .result));
+      valid = rw (s .0) (step-valid (b .args .row) (b .pre .0) _ (g .valid) (d .result));
       counting = g .counting;
       from = omega (arith, g .from);
-      upto = omega (arith, h .before);
+      upto = omega (arith, on .before);
       ends = g .ends;
       within = g .within;
       small = g .small;
-      most = omega (arith, g .most, g .from, c6 .step .ensures .2);
-      same = run-on _ _ _ _ _ _ _ _ _ _ _ _ _ g (h .before) _ _ _ _ (c7 .digit-at .ensures .0) (c6 .step .ensures .0) (c6 .step .ensures .1) (c2 .keep .ensures) on;
+      most = omega (arith, g .most, g .from, s .2);
+      same = run-on _ _ _ _ _ _ _ _ _ _ _ _ _ g (on .before) _ _ _ _ (d .ensures .0) (s .0) (s .1) (c .before .before .keep .ensures) unready;
     }
 
 count-requires-2 : tie.Need-count-requires-2 Inv-loop μ-loop
@@ -167,6 +143,6 @@ returns-2 c =
 pub run-spec : {M : Type 1} → statement M
 run-spec =
     tie.close
-    (tie.spec Inv-loop μ-loop mask-of-requires sub-shift (λ c κs. search needs) add-end loop-holds hunt-on-requires add-words digit-at-requires
+    (tie.spec Inv-loop μ-loop mask-of-requires sub-shift (λ c κs. search needs) add-end loop-holds hunt-on-requires add-words carry-on-requires digit-at-requires
     step-requires add-words-2 keep-requires add-p is-ready-requires count-requires sub-accept (λ c κs. search needs) returns
     loop-less loop-again count-requires-2 sub-accept-2 (λ c κs. search needs) returns-2)

@@ -1,4 +1,5 @@
-//! Calls of the finder of 2048 kbit/s frames: any state, streams cut anywhere, hostile numbers.
+//! Calls of the finder of 2048 kbit/s frames: any state, streams cut anywhere, hostile numbers; and, since many digits are taken at a time,
+//! pieces of every length and offset, states at every place, and words that end at every place of some turns.
 
 use crate::call::{Call, Hunt};
 use crate::Run;
@@ -10,11 +11,77 @@ pub fn part(run: &mut Run) {
     for _ in 0..run.often(100) {
         run.compare(&Call::FinderFresh);
     }
-    for _ in 0..run.often(60_000) {
+    for _ in 0..run.often(55_000) {
         any_piece(run);
     }
     for _ in 0..run.often(200) {
         stream(run);
+    }
+    every_length(run);
+    every_place(run);
+    words_everywhere(run);
+}
+
+/// Pieces of every length, begun at every digit of a byte.
+fn every_length(run: &mut Run) {
+    for count in 0..=130 {
+        for before in 0..8 {
+            let state = any_state(&mut run.random);
+            let digits = run.random.digits(count);
+            let hunt = begun_at(&mut run.random, &digits, before, state);
+            run.compare(&Call::FinderFeed(hunt));
+        }
+    }
+}
+
+/// States at each place of each mode that has one.
+fn every_place(run: &mut Run) {
+    for mode in 1..6 {
+        let (low, high) = places(mode);
+        for place in low..high {
+            let random = &mut run.random;
+            let state = FinderState { mode, place, seen: 7, ..any_state(random) };
+            let digits = digits_for(random, &state);
+            let before = random.index(70);
+            let hunt = begun_at(random, &digits, before, state);
+            run.compare(&Call::FinderFeed(hunt));
+        }
+    }
+}
+
+/// A word that ends after each number of digits up to some turns, where nothing or anything stands before it, begun at every digit of a byte.
+fn words_everywhere(run: &mut Run) {
+    for end in 1..=200 {
+        for before in 0..8 {
+            let random = &mut run.random;
+            let state = FinderState { mode: 0, place: 0, seen: 7, ..any_state(random) };
+            let count = end + random.index(60);
+            let mut digits = if random.once_in(3) { random.digits(count) } else { vec![1; count] };
+            put(&mut digits, &WORD, end);
+            let hunt = begun_at(random, &digits, before, state);
+            run.compare(&Call::FinderFeed(hunt));
+        }
+    }
+}
+
+/// These digits after so many others, which often look like a word that is begun.
+fn begun_at(random: &mut Random, digits: &[u8], before: usize, state: FinderState) -> Hunt {
+    let (first, count) = (before as u64, digits.len() as u64);
+    let after = random.index(80);
+    let (mut front, back) = (random.digits(before), random.digits(after));
+    if random.once_in(2) {
+        front.fill(0);
+    }
+    Hunt { state, slice: pack(&[&front, digits, &back].concat()), first, count }
+}
+
+/// The places that go with a mode: from one on and before another.
+fn places(mode: u64) -> (u64, u64) {
+    match mode {
+        0 => (0, 1),
+        1 => (0, SECOND_PLACE),
+        2 => (SECOND_PLACE, WORD_PLACE),
+        _ => (0, WORD_PLACE),
     }
 }
 
@@ -46,12 +113,7 @@ fn any_piece(run: &mut Run) {
 fn any_state(random: &mut Random) -> FinderState {
     let mode = random.below(6);
     let seen = if mode == 0 { 7 - random.pick(&[0, 0, 0, 1, 2, 7]) } else { 7 };
-    let (low, high) = match mode {
-        0 => (0, 1),
-        1 => (0, SECOND_PLACE),
-        2 => (SECOND_PLACE, WORD_PLACE),
-        _ => (0, WORD_PLACE),
-    };
+    let (low, high) = places(mode);
     let place = match random.below(4) {
         0 => random.pick(&[low, low + 1, high - 2, high - 1]).clamp(low, high - 1),
         1 | 2 => high - 1 - random.below(14).min(high - 1 - low),

@@ -1,11 +1,12 @@
-//! Calls of the receiver and of the reader: any state, streams from fresh, any place.
+//! Calls of the receiver and of the reader: any state, streams from fresh, any place; and, since many digits are taken at a time, pieces
+//! of every length and offset, states at every place of a frame, and words that end at every place of some turns.
 
 use crate::call::{Call, Outcome, Piece};
 use crate::levels::{any_level, any_row, sendable};
 use crate::Run;
 use reference::digits::{of_number, pack};
 use reference::history::{self, HandedOver};
-use reference::level::Row;
+use reference::level::{row, Row, LEVELS};
 use reference::random::Random;
 use reference::{fresh, multiplex, State};
 
@@ -17,12 +18,76 @@ pub fn part(run: &mut Run) {
     for _ in 0..run.often(70_000) {
         any_digit(run);
     }
-    for _ in 0..run.often(60_000) {
+    for _ in 0..run.often(40_000) {
         any_piece(run);
     }
     for _ in 0..run.often(120) {
         stream_from_fresh(run);
     }
+    for level in LEVELS {
+        let row = row(level).expect("a level");
+        every_length(run, row);
+        every_place(run, row);
+        words_everywhere(run, row);
+    }
+}
+
+/// Pieces of every length, begun at every digit of a byte.
+fn every_length(run: &mut Run, row: &Row) {
+    for count in 0..=130 {
+        for before in 0..8 {
+            let state = any_state(&mut run.random, row);
+            let digits = run.random.digits(count);
+            let piece = begun_at(&mut run.random, &digits, before, state);
+            run.compare(&Call::Feed(Box::new(piece)));
+        }
+    }
+}
+
+/// States in the middle of a frame, at each of its places, in each mode that has one.
+fn every_place(run: &mut Run, row: &Row) {
+    for place in 0..row.frame_digits as u64 {
+        let random = &mut run.random;
+        let mut state = any_state(random, row);
+        (state.mode, state.seen) = (1 + random.below(6), row.word_length() as u64);
+        state.place = place;
+        let count = match random.below(4) {
+            0 => row.frame_digits - place as usize + random.index(3),
+            _ => random.index(100),
+        };
+        let mut digits = random.digits(count);
+        put(&mut digits, &row.word_digits(), row.frame_digits - place as usize);
+        let before = random.index(70);
+        let piece = begun_at(random, &digits, before, state);
+        run.compare(&Call::Feed(Box::new(piece)));
+    }
+}
+
+/// A word that ends after each number of digits up to some turns, where nothing or anything stands before it, begun at every digit of a byte.
+fn words_everywhere(run: &mut Run, row: &Row) {
+    for end in 1..=200 {
+        for before in 0..8 {
+            let random = &mut run.random;
+            let mut state = fresh(row.level).1;
+            (state.window, state.seen) = (window(random, row), row.word_length() as u64);
+            let count = end + random.index(60);
+            let mut digits = if random.once_in(3) { random.digits(count) } else { vec![0; count] };
+            put(&mut digits, &row.word_digits(), end);
+            let piece = begun_at(random, &digits, before, state);
+            run.compare(&Call::Feed(Box::new(piece)));
+        }
+    }
+}
+
+/// These digits after so many others, which often look like a word that is begun.
+fn begun_at(random: &mut Random, digits: &[u8], before: usize, state: State) -> Piece {
+    let (first, count) = (before as u64, digits.len() as u64);
+    let after = random.index(80);
+    let (mut front, back) = (random.digits(before), random.digits(after));
+    if random.once_in(2) {
+        front.fill(1);
+    }
+    Piece { state, slice: pack(&[&front, digits, &back].concat()), first, count }
 }
 
 fn any_digit(run: &mut Run) {

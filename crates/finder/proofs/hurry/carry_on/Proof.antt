@@ -1,6 +1,10 @@
 -- `carry_on` goes to the digit before the check, or to the last one (proofs/Hurries.antt).
 use borrow.Author.Needs.{needs}
+use mathlib.Core.Path.{_≡_, ap, _∙_}
+use Prim.Native.Nat.{_+_, _-_}
 use native.Mathlib.Omega.{arith}
+use Rattle.digits.specs.Digits.{digitsOf}
+use Rattle.strides.specs.Strides.{windowFrom}
 use Rattle.finder.proofs.Hurries.{placed-check, hurried-carry}
 use Rattle.finder.proofs.hurry.carry_on.Statement.{statement}
 use Rattle.finder.proofs.hurry.carry_on.Tie as tie
@@ -13,19 +17,18 @@ sub-lesser-2 c = omega (arith, c .before .check-at .ensures, placed-check (c .be
 
 returns : tie.Need-returns
 returns c =
-    let c2 = c .before .before in
-    let c3 = c2 .before in
-    let c5 = c3 .before .before in
-    let c7 = c5 .before .before in
-    let b = c7 in
-    let far = placed-check (c7 .args .s .mode) _ (c7 .pre .1) (c7 .pre .0 .place) in
-    let n = c3 .lesser .result in
-    let at-most = c3 .lesser .ensures in
-    hurried-carry _ _ _ _ n _ (b .pre .0) (b .pre .1) (omega (arith, at-most, b .pre .3)) (b .pre .4) (omega (arith, at-most, far, c5 .check-at .ensures))
-    (rw (c2 .lesser2 .ensures) at (c .before .window-over .ensures))
+    let b = c .before .before .before .before .before .before in
+    let far = placed-check (b .args .s .mode) _ (b .pre .1) (b .pre .0 .place) in
+    let first = b .args .first in
+    let n = c .before .before .lesser .result in
+    let at-most = c .before .before .lesser .ensures in
+    let some : first + n - first ≡ n = omega arith in
+    hurried-carry _ _ _ _ n _ (b .pre .0) (b .pre .1) (omega (arith, at-most, b .pre .3)) (b .pre .4)
+    (omega (arith, at-most, far, c .before .before .before .before .check-at .ensures))
+    (c .before .window-over .ensures ∙ ap (windowFrom 7 (digitsOf (b .args .piece .now)) first (b .args .s .window)) some)
 
 pub carry-on-spec : {M : Type 1} → statement M
 carry-on-spec =
     tie.close
     (tie.spec (λ c κs. search needs) sub-lesser sub-lesser-2 (λ c. search needs) (λ c. search needs) (λ c κs. search needs)
-    (λ c. search needs) (λ c κs. search needs) (λ c. search needs) (λ c κs. search needs) (λ c. search needs) returns)
+    (λ c. search needs) (λ c κs. search needs) (λ c. search needs) returns)
