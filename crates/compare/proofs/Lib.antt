@@ -1,6 +1,9 @@
 pub mod Listing
 pub mod Walking
 pub mod Files
+pub mod Groups
+pub mod Differing
+pub mod SumsByKind
 pub mod TwoLines
 pub mod Picked
 pub mod Lists

@@ -38,6 +38,7 @@ lines-fit row sh one other e =
       shared = sh;
       same-length = sym (eqb-true (length other) (length one) (equal-told (eqb (length other) (length one)) (two .1)));
       short = short-line row sh (framesOf row (length one)) (length one) (whole .1) frames;
+      whole = frames;
     }
 
 -- ---- a stretch, place by place

@@ -1,7 +1,9 @@
 // Where two recordings differ (request 6): two captures are read, held against each other and compared. specs/Compare.antt says what the comparison
 // answers and what it lists. lines.rt compares two lines that stand in no file.
 pub mod counting;
+pub mod entries;
 pub mod lines;
+pub mod masks;
 pub mod stretches;
 
 use captures::Part;
@@ -9,9 +11,10 @@ use captures::Reading;
 use table::Level;
 use table::Row;
 ghost use mathlib.Core.Path.{_≡_};
-ghost use Prim.Native.Nat.{_+_, _<_, _≤_};
+ghost use Prim.Native.Nat.{_+_, _*_, _<_, _≤_};
 ghost use lib.ListN.{length};
 ghost use Rattle.levels.specs.Table.{Shared};
+ghost use Rattle.levels.specs.Sizes.{framesOf};
 ghost use Rattle.captures.specs.Captures.{bytesIn};
 ghost use Rattle.compare.specs.Compare.{faultIn, faultOf, refusedBy, countedOn, listedOn, CompareMet};
 ghost use Rattle.compare.specs.Counting.{Lines};
@@ -89,7 +92,9 @@ pub fn counted_on(row: Row, one: &[u8], other: &[u8], places: &mut [u64; 128]) -
 {
     *places = [0; 128];
     let mut sums: [usize; 15] = [0; 15];
-    let all = counting::count_lines(row, one, other, &mut sums, places);
+    entries::list_lines(row, one, other, places);
+    counting::count_frames(row, one, other, &mut sums);
+    let all = counting::total(&sums);
     Compared {
         refusal: 0,
         file: 0,
@@ -115,6 +120,7 @@ fn compared_on(
         × (second .start + second .bytes ≤ length (now other))
         × (first .bytes ≡ second .bytes)
         × (first .bytes < 65536)
+        × (first .bytes ≡ framesOf row (first .bytes) * row .bytes)
         ⌝ }
     ensures { λ r. ⌜
         (r ≡ countedOn row (bytesIn (now (one .entry)) first) (bytesIn (now (other .entry)) second))

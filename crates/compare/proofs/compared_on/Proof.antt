@@ -7,7 +7,7 @@ use Rattle.compare.proofs.compared_on.Tie as tie
 counted-on-requires : tie.Need-counted-on-requires
 counted-on-requires c κs =
     let b = c .before .before .before .before .before .before .before .pre in
-    lent-lines _ (b .0) _ _ (c .before .before .before .before .before .before .before .args .first) (c .before .before .before .before .before .before .before .args .second) (b .1) (b .2) (b .3) (b .4)
+    lent-lines _ (b .0) _ _ (c .before .before .before .before .before .before .before .args .first) (c .before .before .before .before .before .before .before .args .second) (b .1) (b .2) (b .3) (b .4) (b .5)
 
 returns : tie.Need-returns
 returns c = of-parts _ _ _ (c .before .before .before .before .before .before .before .before .args .first) (c .before .before .before .before .before .before .before .before .args .second) _ _ (c .counted-on .ensures)

@@ -7,7 +7,9 @@ use Rattle.compare.proofs.lines.lines_on.Statement.{statement}
 use Rattle.compare.proofs.lines.lines_on.Tie as tie
 
 returns : tie.Need-returns
-returns c = rw (← c .before .before .before .lines-refusal .ensures, ne-eqb _ _ (c .before .before .if1 .taken)) (c .refused .ensures ∙ rw (c .before .fault-in .ensures) refl, refl)
+returns c =
+    let here = c .before .before in
+    rw (← here .before .lines-refusal .ensures, ne-eqb _ _ (here .if1 .taken)) (c .refused .ensures ∙ rw (c .before .fault-in .ensures) refl, refl)
 
 counted-on-requires : tie.Need-counted-on-requires
 counted-on-requires c κs = lines-fit _ (c .before .before .before .before .before .pre) _ _ (sym (c .before .before .lines-refusal .ensures) ∙ c .before .if1 .left)

@@ -2,8 +2,8 @@
 use mathlib.Core.Path.{refl}
 use borrow.Author.Tests.{lt-ltb, le-ltb}
 use borrow.Author.Needs.{needs}
-use Rattle.compare.proofs.counting.list_place.Statement.{statement}
-use Rattle.compare.proofs.counting.list_place.Tie as tie
+use Rattle.compare.proofs.entries.list_place.Statement.{statement}
+use Rattle.compare.proofs.entries.list_place.Tie as tie
 
 returns : tie.Need-returns
 returns c = rw (le-ltb _ _ (c .if1 .taken)) refl
