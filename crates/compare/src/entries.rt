@@ -12,7 +12,7 @@ ghost use Rattle.compare.specs.Compare.{listedOn};
 ghost use Rattle.compare.specs.Counting.{Lines, Listed, putPlace};
 
 // So many bytes are held against each other at once.
-const BLOCK: usize = 256;
+const BLOCK: usize = 64;
 
 // Lists the frame and the place of a differing digit behind so many others, where there is room.
 fn list_place(row: Row, p: FramePlace, before: usize, places: &mut [u64; 128])
@@ -93,7 +93,7 @@ fn list_block(
         Lines row (now one) (now other)
         × (from ≤ to)
         × (to ≤ length (now one))
-        × (to ≤ from + 256)
+        × (to ≤ from + 64)
         × Listed row (now one) (now other) (8 * from) before (now places)
         ⌝ }
     ensures { λ r. ⌜ Listed row (now (one .entry)) (now (other .entry)) (8 * to) r (now (places .exit)) ⌝ }

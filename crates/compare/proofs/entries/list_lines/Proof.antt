@@ -19,10 +19,10 @@ abbrev μ-loop : tie.MeasureT-loop
 record Block (from end to : ℕ) : Type 0 where
   pub forward : from ≤ to
   pub inside : to ≤ end
-  pub short : to ≤ from + 256
+  pub short : to ≤ from + 64
   pub nearer : end - to < end - from
 
-block : (from end to : ℕ) → from < end → to ≡ min (from + 256) end → Block from end to
+block : (from end to : ℕ) → from < end → to ≡ min (from + 64) end → Block from end to
 block from end to h e =
     record { forward = omega (arith, e); inside = omega (arith, e); short = omega (arith, e); nearer = omega (arith, e) }
 
