@@ -81,7 +81,7 @@ fn count_later(row: Row, one: &[u8], other: &[u8], f: usize, s: usize, sums: &mu
     let p = f * row.digits + s * row.set;
     masks::count_column(one, other, p, 3, sums);
     if s == row.sets - 1 {
-        masks::count_columns(one, other, p + 4, (row.last - 4) / 4, 4, sums);
+        masks::count_few(one, other, p + 4, (row.last - 4) / 4, 4, sums);
         return;
     }
     masks::count_kind(one, other, p + 4, row.middle - 4, 2, sums);

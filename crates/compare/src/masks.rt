@@ -196,6 +196,26 @@ pub fn count_column(one: &[u8], other: &[u8], p: usize, base: usize, sums: &mut 
     );
 }
 
+// k columns, which are mostly one.
+pub fn count_few(one: &[u8], other: &[u8], p: usize, k: usize, base: usize, sums: &mut [usize; 15])
+    requires { ⌜
+        Even (now one) (now other)
+        × (p + 4 * k ≤ 8 * length (now one))
+        × (k ≤ 192)
+        × (base ≤ 5)
+        × ((k : ℕ) → getD (now sums) k 0 < 2 ^ 62)
+        ⌝ }
+    ensures { λ _. ⌜
+        now (sums .exit) ≡ addedFour (now (sums .entry)) base (λ (j : ℕ). columnsOf (now (one .entry)) (now (other .entry)) p j k)
+        ⌝ }
+{
+    if k == 1 {
+        count_column(one, other, p, base, sums);
+        return;
+    }
+    count_columns(one, other, p, k, base, sums);
+}
+
 // n places of one sum from place p on, at most 32.
 pub fn count_kind(one: &[u8], other: &[u8], p: usize, n: usize, m: usize, sums: &mut [usize; 15])
     requires { ⌜

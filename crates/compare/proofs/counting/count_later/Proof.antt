@@ -45,19 +45,19 @@ count-column-requires c κs =
 sub-if1 : tie.Need-sub-if1
 sub-if1 c = omega (arith, c .before .before .before .before .before .before .before .pre .0 .shared .later-set)
 
-add-count-columns : tie.Need-add-count-columns
-add-count-columns c =
+add-count-few : tie.Need-add-count-few
+add-count-few c =
     let a = c .before .before .before .before .before .before .before .before .args in
     let b = c .before .before .before .before .before .before .before .before .pre in
     let sh = b .0 .shared in
     let i = set-inside (a .row) (a .one .now) (a .other .now) (b .0) (a .f) (b .1) (a .s) (b .3) in
     omega (arith, i, b .0 .short)
 
-sub-count-columns : tie.Need-sub-count-columns
-sub-count-columns c = omega (arith, c .before .before .before .before .before .before .before .before .before .pre .0 .shared .last-least)
+sub-count-few : tie.Need-sub-count-few
+sub-count-few c = omega (arith, c .before .before .before .before .before .before .before .before .before .pre .0 .shared .last-least)
 
-count-columns-requires : tie.Need-count-columns-requires
-count-columns-requires c κs =
+count-few-requires : tie.Need-count-few-requires
+count-few-requires c κs =
     let a = c .before .before .before .before .before .before .before .before .before .before .args in
     let b = c .before .before .before .before .before .before .before .before .before .before .pre in
     let sh = b .0 .shared in
@@ -77,7 +77,7 @@ returns c =
     let sh = b .0 .shared in
     let i = set-inside (a .row) (a .one .now) (a .other .now) (b .0) (a .f) (b .1) (a .s) (b .3) in
     let c1 = control-sums _ _ _ (b .0) (a .f) (b .1) _ _ (a .s) (b .3) (b .2) (b .4) (c .before .before .before .before .before .count-column .ensures) in
-    justification-sums _ _ _ (b .0) (a .f) (b .1) _ _ (a .s) (b .3) (b .2) (c .before .before .before .if1 .taken) c1 (c .count-columns .ensures)
+    justification-sums _ _ _ (b .0) (a .f) (b .1) _ _ (a .s) (b .3) (b .2) (c .before .before .before .if1 .taken) c1 (c .count-few .ensures)
 
 add-count-kind : tie.Need-add-count-kind
 add-count-kind c =
@@ -116,5 +116,5 @@ returns-2 c =
 pub count-later-spec : {M : Type 1} → statement M
 count-later-spec =
     tie.close
-    (tie.spec mul-p mul-p-2 add-p count-column-requires sub-if1 add-count-columns sub-count-columns count-columns-requires returns
+    (tie.spec mul-p mul-p-2 add-p count-column-requires sub-if1 add-count-few sub-count-few count-few-requires returns
     add-count-kind sub-count-kind count-kind-requires returns-2)
