@@ -1,11 +1,11 @@
 -- Two files and their lines: where a reading's line stands in its file, what two readings that fit each other have in common, and what the walk over
 -- their lines answers.
-use mathlib.Core.Path.{_≡_, refl, sym, _∙_}
+use mathlib.Core.Path.{_≡_, refl, sym, _∙_, ap}
 use mathlib.Core.Bool.{Bool, cond, true, false}
 use mathlib.Core.List.{List}
 use Prim.Native.Nat.{ℕ, _+_, _-_, _*_, _≤_, _<_, min}
 use native.Mathlib.Omega.{arith}
-use native.Mathlib.Nat.{min-comm}
+use native.Mathlib.Nat.{min-comm, div-add-mod'}
 use lib.Dec.{eqb}
 use lib.ListN.{length, take, drop, length-take, length-drop}
 use lib.Seq.{length-take-le}
@@ -16,13 +16,15 @@ use Rattle.table.specs.declared.Level.{Level}
 use Rattle.table.specs.declared.Level.the-variants.{Of, NoSuchLevel}
 use Rattle.table.specs.Table.{levelOf}
 use Rattle.levels.specs.Table.{Shared}
-use Rattle.levels.specs.Sizes.{onLevel, badLine}
+use Rattle.levels.specs.Sizes.{onLevel, framesOf, badLine}
+use Rattle.levels.proofs.Judged.{line-frames}
 use Rattle.levels.proofs.Choice.{cond-by}
 use Rattle.captures.specs.declared.Part.{Part}
 use Rattle.captures.specs.declared.Reading.{Reading}
 use Rattle.captures.specs.Captures.{endAt, partAt, fieldAt, unread, afterLine, fieldsOf, readOf, bytesIn}
 use Rattle.captures.proofs.Walking.{stands}
 use Rattle.tally.specs.Tally.{differAt}
+use Rattle.compare.specs.declared.Compared.{Compared}
 use Rattle.compare.specs.Compare.{faultIn, faultOf, placesTo, countedOn, listedOn}
 use Rattle.compare.specs.Counting.{Lines, Counted}
 use Rattle.compare.proofs.Listing.{places-length}
@@ -32,6 +34,10 @@ use Rattle.compare.proofs.Listing.{places-length}
 pub record Within (file : List ℕ) (part : Part) : Type 0 where
   pub inside : part .start + part .bytes ≤ length file
   pub short : part .bytes < 65536
+
+-- a line of whole frames
+abbrev Whole : Row → Reading → Type 0
+Whole row r = r .line .bytes ≡ framesOf row (r .line .bytes) * row .bytes
 
 module _ (file : List ℕ) where
   abbrev In : Reading → Type 0
@@ -62,6 +68,41 @@ module _ (file : List ℕ) where
   -- any reading's line lies in its file: one that is refused has none
   pub line-within : Within file (readOf file .line)
   line-within = cond-by In (eqb (fieldsOf file .refusal) 0) (judged-in (levelOf (fieldsOf file .level))) fields-in
+
+  -- and that of one that is not refused is whole frames of its level
+  pub line-whole : (row : Row) → readOf file .refusal ≡ 0 → levelOf (readOf file .level) ≡ Of row
+      → readOf file .line .bytes ≡ framesOf row (readOf file .line .bytes) * row .bytes
+  line-whole row good has = by-fields (eqb (fieldsOf file .refusal) 0) refl
+    where
+      no-level : _≡_ {A = ℕ} 1 0 → ⊥
+      no-level e = omega arith
+
+      two : _≡_ {A = ℕ} 2 0 → ⊥
+      two e = omega arith
+
+      framed : badLine row (fieldsOf file .line .bytes) ≡ false → Whole row (fieldsOf file)
+      framed e =
+          let n = fieldsOf file .line .bytes in
+          omega (arith, div-add-mod' n (row .bytes), line-frames row n e .0)
+
+      by-line : (r : Row) (t : Bool) → badLine r (fieldsOf file .line .bytes) ≡ t → cond t (unread 2 0) (fieldsOf file) .refusal ≡ 0
+          → levelOf (cond t (unread 2 0) (fieldsOf file) .level) ≡ Of row → levelOf (fieldsOf file .level) ≡ Of r → Whole row (cond t (unread 2 0) (fieldsOf file))
+      by-line r true x g h l = absurd (two g)
+      by-line r false x g h l =
+          let same : Of r ≡ Of row = sym l ∙ h in
+          let is-row : r ≡ row = ap (λ (v : Level). onLevel v (λ (q : Row). q) r) same in
+          framed (rw is-row at x)
+
+      by-level : (v : Level) → levelOf (fieldsOf file .level) ≡ v
+          → onLevel v (λ (r : Row). cond (badLine r (fieldsOf file .line .bytes)) (unread 2 0) (fieldsOf file)) (unread 1 0) .refusal ≡ 0
+          → levelOf (onLevel v (λ (r : Row). cond (badLine r (fieldsOf file .line .bytes)) (unread 2 0) (fieldsOf file)) (unread 1 0) .level) ≡ Of row
+          → Whole row (onLevel v (λ (r : Row). cond (badLine r (fieldsOf file .line .bytes)) (unread 2 0) (fieldsOf file)) (unread 1 0))
+      by-level (Of r) l g h = by-line r (badLine r (fieldsOf file .line .bytes)) refl g h l
+      by-level NoSuchLevel l g h = absurd (no-level g)
+
+      by-fields : (t : Bool) → eqb (fieldsOf file .refusal) 0 ≡ t → Whole row (readOf file)
+      by-fields true x = rw x (by-level (levelOf (fieldsOf file .level)) refl (rw x at good) (rw x at has))
+      by-fields false x = absurd (eqb-false (fieldsOf file .refusal) 0 x (rw x at good))
 
   pub line-length : length (bytesIn file (readOf file .line)) ≡ readOf file .line .bytes
   line-length =
@@ -110,11 +151,11 @@ pub lent-is : (file : List ℕ) (part : Part) → lent file part ≡ bytesIn fil
 lent-is file part = let e : part .start + part .bytes - part .start ≡ part .bytes = omega arith in rw e refl
 
 pub lent-lines : (row : Row) → Shared row → (one other : List ℕ) (first second : Part) → first .start + first .bytes ≤ length one
-    → second .start + second .bytes ≤ length other → first .bytes ≡ second .bytes → first .bytes < 65536
+    → second .start + second .bytes ≤ length other → first .bytes ≡ second .bytes → first .bytes < 65536 → first .bytes ≡ framesOf row (first .bytes) * row .bytes
     → Lines row (lent one first) (lent other second)
-lent-lines row sh one other first second a b same short =
+lent-lines row sh one other first second a b same short whole =
     rw (lent-is one first, lent-is other second)
-    (record { shared = sh; same-length = omega (arith, x, y); short = omega (arith, x) })
+    (record { shared = sh; same-length = omega (arith, x, y); short = omega (arith, x); whole = rw x whole })
   where
     x : length (bytesIn one first) ≡ first .bytes
     x = length-take-le (first .bytes) (drop (first .start) one) (omega (arith, length-drop (first .start) one))
@@ -123,27 +164,21 @@ lent-lines row sh one other first second a b same short =
     y = length-take-le (second .bytes) (drop (second .start) other) (omega (arith, length-drop (second .start) other))
 
 -- what was counted and listed at the end of the lines is the answer
-pub finished : (row : Row) (one other : List ℕ) (first second : Part) (all listed : ℕ) (sums places : List ℕ)
-    → Counted row (lent one first) (lent other second) (8 * length (lent one first)) all sums places → listed ≡ min all 64
-    → (record { refusal = 0; file = 0; byte = 0; sums = sums; all = all; listed = listed } ≡ countedOn row (bytesIn one first) (bytesIn other second))
-    × (places ≡ listedOn row (bytesIn one first) (bytesIn other second))
+pub finished : (row : Row) (one other : List ℕ) (all listed : ℕ) (sums places : List ℕ) → Counted row one other (8 * length one) all sums places
+    → listed ≡ min all 64
+    → (record { refusal = 0; file = 0; byte = 0; sums = sums; all = all; listed = listed } ≡ countedOn row one other)
+    × (places ≡ listedOn row one other)
 unfolding countedOn
-finished row one other first second all listed sums places counted few = (answer, c .the-places)
+finished row one other all listed sums places c few = (rw (shown, c .the-all, c .the-sums) refl, c .the-places)
   where
-    a : List ℕ
-    a = bytesIn one first
-
-    b : List ℕ
-    b = bytesIn other second
-
-    c : Counted row a b (8 * length a) all sums places
-    c = rw (lent-is one first, lent-is other second) at counted
-
     ps : List ℕ
-    ps = placesTo (differAt a b) (8 * length a)
+    ps = placesTo (differAt one other) (8 * length one)
 
     shown : listed ≡ length (take 64 ps)
-    shown = few ∙ min-comm all 64 ∙ rw (c .the-all, ← places-length (differAt a b) (8 * length a)) (sym (length-take 64 ps))
+    shown = few ∙ min-comm all 64 ∙ rw (c .the-all, ← places-length (differAt one other) (8 * length one)) (sym (length-take 64 ps))
 
-    answer : record { refusal = 0; file = 0; byte = 0; sums = sums; all = all; listed = listed } ≡ countedOn row a b
-    answer = rw (shown, c .the-all, c .the-sums) refl
+-- and that of the parts of two files as they are lent is that of their bytes
+pub of-parts : (row : Row) (one other : List ℕ) (first second : Part) (a : Compared) (l : List ℕ)
+    → (a ≡ countedOn row (lent one first) (lent other second)) × (l ≡ listedOn row (lent one first) (lent other second))
+    → (a ≡ countedOn row (bytesIn one first) (bytesIn other second)) × (l ≡ listedOn row (bytesIn one first) (bytesIn other second))
+of-parts row one other first second a l e = rw (lent-is one first, lent-is other second) at e

@@ -1,9 +1,14 @@
 pub mod Listing
 pub mod Walking
 pub mod Files
+pub mod Groups
+pub mod Differing
+pub mod SumsByKind
+pub mod TwoLines
 pub mod Picked
 pub mod Lists
 pub mod Answers
+pub mod LineAnswers
 pub mod Growing
 pub mod StretchAnswers
 pub mod AllListed

@@ -1,28 +1,23 @@
--- The walk over two lines: where they do not differ nothing changes, where they differ the place is counted and listed, and bytes that are equal
--- have no differing digits.
+-- The walks over two lines: where they do not differ nothing changes, where they differ the place is listed as long as there is room, and bytes that are
+-- equal have no differing digits.
 use mathlib.Core.Path.{_≡_, refl, sym, _∙_, ap}
 use mathlib.Core.Bool.{Bool, cond, true, false, not}
 use mathlib.Core.List.{List}
-use Prim.Native.Nat.{ℕ, zero, suc, _+_, _-_, _*_, _/_, _≤_, _<_}
+use Prim.Native.Nat.{ℕ, zero, suc, _+_, _-_, _*_, _/_, _≤_, _<_, min}
 use native.Mathlib.Omega.{arith}
-use native.Mathlib.Decide.{ℕ-discrete}
+use native.Mathlib.Decide.{ℕ-discrete, decLt}
 use lib.Dec.{eqb}
 use lib.ListN.{length, getD, replicate}
-use borrow.Author.Tests.{eq-eqb, ne-eqb}
+use borrow.Author.Tests.{eq-eqb, ne-eqb, le-ltb}
 use Rattle.digits.specs.Digits.{digitsOf}
 use Rattle.digits.specs.Sums.{sumTo}
 use Rattle.digits.proofs.Laws.{digit-at}
-use Rattle.digits.proofs.Sums.{sum-most}
 use Rattle.table.specs.declared.Row.{Row}
-use Rattle.tally.specs.Tally.{numberAt, oneMore, differAt}
-use Rattle.tally.proofs.Sums.{all-more, sums-same, sums-more, sums-none, sum-small}
-use Rattle.compare.specs.Compare.{placesTo, listOf}
-use Rattle.compare.specs.Counting.{Counted, putPlace, EqualBytes}
+use Rattle.tally.specs.Tally.{allOf, differAt}
+use Rattle.tally.proofs.Sums.{all-more, sums-same, sums-none}
+use Rattle.compare.specs.Compare.{placesTo, listOf, listedOn}
+use Rattle.compare.specs.Counting.{Counted, Listed, putPlace, EqualBytes}
 use Rattle.compare.proofs.Listing.{places-length, places-same, places-more, list-none, list-put}
-
-at-most-one : (t : Bool) → cond {A = ℕ} t 1 0 ≤ 1
-at-most-one true = omega arith
-at-most-one false = omega arith
 
 module _ (row : Row) (one other : List ℕ) where
   pub counted-none : Counted row one other 0 0 (replicate 15 0) (replicate 128 0)
@@ -30,33 +25,13 @@ module _ (row : Row) (one other : List ℕ) where
   counted-none = record { the-all = refl; the-sums = sym (sums-none row (differAt one other)); the-places = sym (list-none row) }
 
   module _ (p all : ℕ) (sums places : List ℕ) (c : Counted row one other p all sums places) where
-    pub counted-pass : differAt one other p ≡ false → Counted row one other (p + 1) all sums places
+    counted-pass : differAt one other p ≡ false → Counted row one other (p + 1) all sums places
     counted-pass e =
         record {
           the-all = c .the-all ∙ sym (all-more row (differAt one other) p ∙ rw e (omega arith));
           the-sums = c .the-sums ∙ sym (sums-same row (differAt one other) p e);
           the-places = c .the-places ∙ sym (ap (listOf row) (places-same (differAt one other) p e));
         }
-
-    pub counted-more : differAt one other p ≡ true → Counted row one other (p + 1) (all + 1) (oneMore sums (numberAt row p)) (putPlace row p all places)
-    counted-more e =
-        let n : all ≡ length (placesTo (differAt one other) p) = c .the-all ∙ sym (places-length (differAt one other) p) in
-        record {
-          the-all = sym (all-more row (differAt one other) p ∙ rw (e, ← c .the-all) refl);
-          the-sums = rw (c .the-sums) (sym (sums-more row (differAt one other) p e));
-          the-places =
-              rw (n, c .the-places)
-              (sym (ap (listOf row) (places-more (differAt one other) p e) ∙ list-put row (placesTo (differAt one other) p) p));
-        }
-
-    -- no sum is larger than the places are many
-    pub counted-small : (k : ℕ) → getD sums k 0 ≤ p
-    counted-small k = rw (c .the-sums) (sum-small row (differAt one other) p k)
-
-    -- nor are all of them
-    pub counted-all : all ≤ p
-    counted-all =
-        omega (arith, c .the-all, sum-most p 1 (λ (q : ℕ). cond (differAt one other q) 1 0) (λ q _. at-most-one (differAt one other q)))
 
   -- a stretch without differing digits
   pub counted-over : (k p all : ℕ) (sums places : List ℕ) → Counted row one other p all sums places
@@ -80,15 +55,6 @@ pub equal-digits : (one other : List ℕ) (from to : ℕ) → EqualBytes one oth
 equal-digits one other from to same q l h =
     not-differ one other q (digit-at one q ∙ rw (same (q / 8) (omega arith) (omega arith)) (sym (digit-at other q)))
 
--- whole bytes that are equal are passed over
-pub bytes-over : (row : Row) (one other : List ℕ) (from to all : ℕ) (sums places : List ℕ) → from ≤ to
-    → Counted row one other (8 * from) all sums places → EqualBytes one other from to → Counted row one other (8 * to) all sums places
-bytes-over row one other from to all sums places h c same =
-    let e : 8 * to ≡ 8 * from + (8 * to - 8 * from) = omega arith in
-    rw e
-    (counted-over row one other (8 * to - 8 * from) (8 * from) all sums places c
-    (λ q l k. equal-digits one other from to same q l (omega arith)))
-
 -- one byte more that is equal
 pub equal-more : (one other : List ℕ) (from i : ℕ) → EqualBytes one other from i → getD one i 0 ≡ getD other i 0 → EqualBytes one other from (i + 1)
 equal-more one other from i same e k l h =
@@ -99,3 +65,86 @@ equal-more one other from i same e k l h =
 
 pub equal-one : (one other : List ℕ) (i : ℕ) → getD one i 0 ≡ getD other i 0 → EqualBytes one other i (i + 1)
 equal-one one other i e k l h = let s : k ≡ i = omega arith in rw s e
+
+-- a step nearer to the end
+pub less : (end p : ℕ) → p < end → end - (p + 1) < end - p
+less end p h = omega arith
+
+-- ---- the list, as far as there is room in it
+
+module _ (row : Row) (one other : List ℕ) where
+  pub listed-none : Listed row one other 0 0 (replicate 128 0)
+  unfolding sumTo placesTo
+  listed-none = record { the-places = sym (list-none row); the-all = refl; few = omega arith }
+
+  module _ (p all : ℕ) (places : List ℕ) (l : Listed row one other p all places) where
+    pub listed-pass : differAt one other p ≡ false → Listed row one other (p + 1) all places
+    listed-pass e =
+        record {
+          the-places = l .the-places ∙ sym (ap (listOf row) (places-same (differAt one other) p e));
+          the-all = l .the-all ∙ ap (λ (n : ℕ). min n 64) (sym (all-more row (differAt one other) p ∙ rw e (omega arith)));
+          few = omega (arith, l .few);
+        }
+
+    -- a place is put where the number of those before it says, or nowhere
+    put-same : putPlace row p all places ≡ putPlace row p (allOf (differAt one other) p) places
+    put-same =
+        elim (decLt all 64) [
+          | yes h ↦ let e : all ≡ allOf (differAt one other) p = omega (arith, l .the-all) in rw e refl
+          | no h ↦ rw (le-ltb all 64 (omega arith), le-ltb (allOf (differAt one other) p) 64 (omega (arith, l .the-all))) refl
+        ]
+
+    pub listed-more : differAt one other p ≡ true → Listed row one other (p + 1) (all + 1) (putPlace row p all places)
+    listed-more e =
+        let test = differAt one other in
+        let more : allOf test (p + 1) ≡ allOf test p + 1 = all-more row test p ∙ rw e refl in
+        record {
+          the-places =
+              put-same
+              ∙ rw (l .the-places, ← places-length test p) (sym (ap (listOf row) (places-more test p e) ∙ list-put row (placesTo test p) p));
+          the-all = rw more (omega (arith, l .the-all));
+          few = omega (arith, l .few);
+        }
+
+    -- a full list stays
+    pub listed-on : 64 ≤ all → Listed row one other (p + 1) all places
+    listed-on h = go (differAt one other p) refl
+      where
+        go : (t : Bool) → differAt one other p ≡ t → Listed row one other (p + 1) all places
+        go false e = listed-pass e
+        go true e =
+            let more = listed-more e in
+            record { the-places = rw (le-ltb all 64 h) at (more .the-places); the-all = omega (arith, more .the-all); few = omega (arith, l .few) }
+
+  pub listed-full : (k p all : ℕ) (places : List ℕ) → 64 ≤ all → Listed row one other p all places → Listed row one other (p + k) all places
+  listed-full zero p all places h l = let e : p + 0 ≡ p = omega arith in rw e l
+  listed-full (suc k) p all places h l =
+      let e : p + suc k ≡ p + 1 + k = omega arith in
+      rw e (listed-full k (p + 1) all places h (listed-on p all places l h))
+
+  pub listed-over : (k p all : ℕ) (places : List ℕ) → Listed row one other p all places
+      → ((q : ℕ) → p ≤ q → q < p + k → differAt one other q ≡ false) → Listed row one other (p + k) all places
+  listed-over zero p all places l same = let e : p + 0 ≡ p = omega arith in rw e l
+  listed-over (suc k) p all places l same =
+      let e : p + suc k ≡ p + 1 + k = omega arith in
+      rw e
+      (listed-over k (p + 1) all places (listed-pass p all places l (same p (omega arith) (omega arith)))
+      (λ q m h. same q (omega arith) (omega arith)))
+
+-- whole bytes that are equal are passed over
+pub list-over : (row : Row) (one other : List ℕ) (from to all : ℕ) (places : List ℕ) → from ≤ to → Listed row one other (8 * from) all places
+    → EqualBytes one other from to → Listed row one other (8 * to) all places
+list-over row one other from to all places h l same =
+    let e : 8 * to ≡ 8 * from + (8 * to - 8 * from) = omega arith in
+    rw e
+    (listed-over row one other (8 * to - 8 * from) (8 * from) all places l (λ q m k. equal-digits one other from to same q m (omega arith)))
+
+-- and so is all that follows a full list
+pub list-full : (row : Row) (one other : List ℕ) (n m all : ℕ) (places : List ℕ) → n ≤ m → 64 ≤ all → Listed row one other n all places
+    → Listed row one other m all places
+list-full row one other n m all places h full l = let e : m ≡ n + (m - n) = omega arith in rw e (listed-full row one other (m - n) n all places full l)
+
+-- at the end the list is whole
+pub list-end : (row : Row) (one other : List ℕ) (n all : ℕ) (places : List ℕ) → n ≡ length one → Listed row one other (8 * n) all places
+    → places ≡ listedOn row one other
+list-end row one other n all places e l = (rw e at l) .the-places

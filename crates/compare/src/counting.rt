@@ -1,18 +1,19 @@
-// The walk over two lines. Blocks of bytes that are equal are passed over at once, and single bytes that are equal; only a differing byte is looked
-// at digit by digit.
-use levels::lent;
-use levels::places::FramePlace;
+// The fifteen sums of two lines, by the layout: the head of a set is places of one kind, or columns that have a place of each tributary, and so is the run
+// behind it. masks.rt counts each such stretch by the word. A frame that is equal in both is passed over.
+use crate::masks;
+use levels::places;
 use table::Row;
 ghost use mathlib.Core.Path.{_≡_};
 ghost use mathlib.Core.Bool.{true};
-ghost use Prim.Native.Nat.{_+_, _*_, _<_, _≤_};
+ghost use Prim.Native.Nat.{ℕ, _+_, _*_, _^_, _<_, _≤_};
 ghost use Prim.Native.Nat.{min};
-ghost use lib.ListN.{length, replicate};
-ghost use Rattle.levels.specs.Table.{Shared};
-ghost use Rattle.compare.specs.Counting.{Lines, Counted, putPlace, EqualBytes};
+ghost use lib.ListN.{length, getD, replicate};
+ghost use Rattle.digits.specs.Sums.{sumTo};
+ghost use Rattle.levels.specs.Places.{headEnd};
+ghost use Rattle.compare.specs.Counting.{Lines, SumsTo, InFrame, EqualBytes};
 
-// So many bytes are held against each other at once.
-const BLOCK: usize = 256;
+// So many columns go in one turn.
+const MOST: usize = 192;
 
 // A number, or the most it may be.
 pub fn at_most(n: usize, most: usize) -> usize
@@ -22,74 +23,6 @@ pub fn at_most(n: usize, most: usize) -> usize
         return n;
     }
     most
-}
-
-// Lists the frame and the place of a differing digit behind so many others, where there is room.
-fn list_place(row: Row, p: FramePlace, before: usize, places: &mut [u64; 128])
-    requires { ⌜ Shared row ⌝ }
-    ensures { λ _. ⌜ now (places .exit) ≡ putPlace row (p .0) before (now (places .entry)) ⌝ }
-{
-    if crate::LISTED_MOST <= before {
-        return;
-    }
-    let k = p.0;
-    places[2 * before] = (k / row.digits) as u64;
-    places[2 * before + 1] = (k % row.digits) as u64;
-}
-
-// Place p: counted and listed if the lines differ there. Answers how many differ so far.
-fn count_place(
-    row: Row,
-    one: &[u8],
-    other: &[u8],
-    p: usize,
-    all: usize,
-    sums: &mut [usize; 15],
-    places: &mut [u64; 128],
-) -> usize
-    requires { ⌜
-        Lines row (now one) (now other)
-        × (p < 8 * length (now one))
-        × Counted row (now one) (now other) p all (now sums) (now places)
-        ⌝ }
-    ensures { λ r. ⌜ Counted row (now (one .entry)) (now (other .entry)) (p + 1) r (now (sums .exit)) (now (places .exit)) ⌝ }
-{
-    if lent::line_digit(one, FramePlace(p)) == lent::line_digit(other, FramePlace(p)) {
-        return all;
-    }
-    tally::count_at(row, FramePlace(p), sums);
-    list_place(row, FramePlace(p), all, places);
-    all + 1
-}
-
-// Byte i: passed over if the lines have the same there.
-fn count_byte(
-    row: Row,
-    one: &[u8],
-    other: &[u8],
-    i: usize,
-    before: usize,
-    sums: &mut [usize; 15],
-    places: &mut [u64; 128],
-) -> usize
-    requires { ⌜
-        Lines row (now one) (now other)
-        × (i < length (now one))
-        × Counted row (now one) (now other) (8 * i) before (now sums) (now places)
-        ⌝ }
-    ensures { λ r. ⌜ Counted row (now (one .entry)) (now (other .entry)) (8 * (i + 1)) r (now (sums .exit)) (now (places .exit)) ⌝ }
-{
-    if one[i] == other[i] {
-        return before;
-    }
-    let mut all = before;
-    let mut p = 8 * i;
-    let end = 8 * (i + 1);
-    while p < end {
-        all = count_place(row, one, other, p, all, sums, places);
-        p += 1;
-    }
-    all
 }
 
 fn unequal(a: u8, b: u8) -> u16
@@ -102,8 +35,8 @@ fn unequal(a: u8, b: u8) -> u16
 }
 
 // Whether the bytes from one on and before another are equal: every pair is looked at, which a machine does many at once.
-fn equal_bytes(one: &[u8], other: &[u8], from: usize, to: usize) -> bool
-    requires { ⌜ (from ≤ to) × (to ≤ length (now one)) × (length (now one) ≡ length (now other)) × (to ≤ from + 256) ⌝ }
+pub fn equal_bytes(one: &[u8], other: &[u8], from: usize, to: usize) -> bool
+    requires { ⌜ (from ≤ to) × (to ≤ length (now one)) × (length (now one) ≡ length (now other)) × (to ≤ from + 4096) ⌝ }
     ensures { λ r. ⌜ (r ≡ true → EqualBytes (now (one .entry)) (now (other .entry)) from to) ⌝ }
 {
     let mut i = from;
@@ -115,58 +48,143 @@ fn equal_bytes(one: &[u8], other: &[u8], from: usize, to: usize) -> bool
     n == 0
 }
 
-// The bytes from one on and before another: passed over if they are all equal.
-fn count_block(
-    row: Row,
-    one: &[u8],
-    other: &[u8],
-    from: usize,
-    to: usize,
-    before: usize,
-    sums: &mut [usize; 15],
-    places: &mut [u64; 128],
-) -> usize
+// The head of the first set: the word, the remote alarm digit where there is one, and the other service digits.
+fn count_first(row: Row, one: &[u8], other: &[u8], f: usize, sums: &mut [usize; 15])
     requires { ⌜
         Lines row (now one) (now other)
-        × (from ≤ to)
-        × (to ≤ length (now one))
-        × (to ≤ from + 256)
-        × Counted row (now one) (now other) (8 * from) before (now sums) (now places)
+        × InFrame row (now one) f
+        × SumsTo row (now one) (now other) (f * row .digits) (now sums)
         ⌝ }
-    ensures { λ r. ⌜ Counted row (now (one .entry)) (now (other .entry)) (8 * to) r (now (sums .exit)) (now (places .exit)) ⌝ }
+    ensures { λ _. ⌜ SumsTo row (now (one .entry)) (now (other .entry)) (f * row .digits + row .first) (now (sums .exit)) ⌝ }
 {
-    if equal_bytes(one, other, from, to) {
-        return before;
-    }
-    let mut all = before;
-    let mut i = from;
-    while i < to {
-        all = count_byte(row, one, other, i, all, sums, places);
-        i += 1;
-    }
-    all
+    let p = f * row.digits;
+    masks::count_kind(one, other, p, row.len, 0, sums);
+    let q = p + row.len;
+    masks::count_kind(one, other, q, row.alarms, 1, sums);
+    let r = q + row.alarms;
+    masks::count_kind(one, other, r, row.first - (row.len + row.alarms), 2, sums);
 }
 
-// Two lines of one length, block by block. Answers all differing digits.
-pub fn count_lines(
-    row: Row,
-    one: &[u8],
-    other: &[u8],
-    sums: &mut [usize; 15],
-    places: &mut [u64; 128],
-) -> usize
-    requires { ⌜ Lines row (now one) (now other) × (now sums ≡ replicate 15 0) × (now places ≡ replicate 128 0) ⌝ }
-    ensures { λ r. ⌜
-        Counted row (now (one .entry)) (now (other .entry)) (8 * length (now (one .entry))) r (now (sums .exit)) (now (places .exit))
+// The head of a later set: a control digit of each tributary, then the justification places of the last set, or service digits.
+fn count_later(row: Row, one: &[u8], other: &[u8], f: usize, s: usize, sums: &mut [usize; 15])
+    requires { ⌜
+        Lines row (now one) (now other)
+        × InFrame row (now one) f
+        × (0 < s)
+        × (s < row .sets)
+        × SumsTo row (now one) (now other) (f * row .digits + s * row .set) (now sums)
+        ⌝ }
+    ensures { λ _. ⌜
+        SumsTo row (now (one .entry)) (now (other .entry)) (f * row .digits + s * row .set + headEnd row s) (now (sums .exit))
         ⌝ }
 {
-    let end = one.len();
+    let p = f * row.digits + s * row.set;
+    masks::count_column(one, other, p, 3, sums);
+    if s == row.sets - 1 {
+        masks::count_few(one, other, p + 4, (row.last - 4) / 4, 4, sums);
+        return;
+    }
+    masks::count_kind(one, other, p + 4, row.middle - 4, 2, sums);
+}
+
+// The head of set s of frame f.
+fn count_head(row: Row, one: &[u8], other: &[u8], f: usize, s: usize, sums: &mut [usize; 15])
+    requires { ⌜
+        Lines row (now one) (now other)
+        × InFrame row (now one) f
+        × (s < row .sets)
+        × SumsTo row (now one) (now other) (f * row .digits + s * row .set) (now sums)
+        ⌝ }
+    ensures { λ _. ⌜
+        SumsTo row (now (one .entry)) (now (other .entry)) (f * row .digits + s * row .set + headEnd row s) (now (sums .exit))
+        ⌝ }
+{
+    if s == 0 {
+        count_first(row, one, other, f, sums);
+        return;
+    }
+    count_later(row, one, other, f, s, sums);
+}
+
+// The run behind the head: a tributary digit of each in every column. The runs of every level go in one turn; no row of the table has more than two.
+fn count_run(row: Row, one: &[u8], other: &[u8], f: usize, s: usize, sums: &mut [usize; 15])
+    requires { ⌜
+        Lines row (now one) (now other)
+        × InFrame row (now one) f
+        × (s < row .sets)
+        × SumsTo row (now one) (now other) (f * row .digits + s * row .set + headEnd row s) (now sums)
+        ⌝ }
+    ensures { λ _. ⌜
+        SumsTo row (now (one .entry)) (now (other .entry)) (f * row .digits + s * row .set + row .set) (now (sums .exit))
+        ⌝ }
+{
+    let head = places::head_end(row, s);
+    let p = f * row.digits + s * row.set + head;
+    let columns = (row.set - head) / 4;
+    if columns <= MOST {
+        masks::count_columns(one, other, p, columns, 5, sums);
+        return;
+    }
+    masks::count_columns(one, other, p, MOST, 5, sums);
+    masks::count_columns(one, other, p + 4 * MOST, columns - MOST, 5, sums);
+}
+
+// Frame f, set after set.
+fn count_frame(row: Row, one: &[u8], other: &[u8], f: usize, sums: &mut [usize; 15])
+    requires { ⌜
+        Lines row (now one) (now other)
+        × InFrame row (now one) f
+        × SumsTo row (now one) (now other) (f * row .digits) (now sums)
+        ⌝ }
+    ensures { λ _. ⌜ SumsTo row (now (one .entry)) (now (other .entry)) ((f + 1) * row .digits) (now (sums .exit)) ⌝ }
+{
+    let mut s: usize = 0;
+    while s < row.sets {
+        count_head(row, one, other, f, s, sums);
+        count_run(row, one, other, f, s, sums);
+        s += 1;
+    }
+}
+
+// Frame f, if there is anything to count.
+fn count_unequal(row: Row, one: &[u8], other: &[u8], f: usize, sums: &mut [usize; 15])
+    requires { ⌜
+        Lines row (now one) (now other)
+        × InFrame row (now one) f
+        × SumsTo row (now one) (now other) (f * row .digits) (now sums)
+        ⌝ }
+    ensures { λ _. ⌜ SumsTo row (now (one .entry)) (now (other .entry)) ((f + 1) * row .digits) (now (sums .exit)) ⌝ }
+{
+    let from = f * row.bytes;
+    if equal_bytes(one, other, from, from + row.bytes) {
+        return;
+    }
+    count_frame(row, one, other, f, sums);
+}
+
+// Every frame of two lines.
+pub fn count_frames(row: Row, one: &[u8], other: &[u8], sums: &mut [usize; 15])
+    requires { ⌜ Lines row (now one) (now other) × (now sums ≡ replicate 15 0) ⌝ }
+    ensures { λ _. ⌜ SumsTo row (now (one .entry)) (now (other .entry)) (8 * length (now (one .entry))) (now (sums .exit)) ⌝ }
+{
+    let frames = one.len() / row.bytes;
+    let mut f: usize = 0;
+    while f < frames {
+        count_unequal(row, one, other, f, sums);
+        f += 1;
+    }
+}
+
+// All of the fifteen together.
+pub fn total(sums: &[usize; 15]) -> usize
+    requires { ⌜ ((k : ℕ) → getD (now sums) k 0 < 2 ^ 59) ⌝ }
+    ensures { λ r. ⌜ r ≡ sumTo 15 (λ (k : ℕ). getD (now (sums .entry)) k 0) ⌝ }
+{
     let mut all: usize = 0;
-    let mut from: usize = 0;
-    while from < end {
-        let to = at_most(from + BLOCK, end);
-        all = count_block(row, one, other, from, to, all, sums, places);
-        from = to;
+    let mut k: usize = 0;
+    while k < 15 {
+        all += sums[k];
+        k += 1;
     }
     all
 }

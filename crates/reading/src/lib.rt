@@ -5,7 +5,6 @@ use levels::places::FramePlace;
 use levels::sizes;
 use levels::vote;
 use levels::vote::Vote;
-use levels::word;
 use table::Level;
 use table::Row;
 ghost use mathlib.Core.Path.{_≡_};
@@ -13,6 +12,7 @@ ghost use Prim.Native.Nat.{_+_, _*_, _<_, _≤_};
 ghost use lib.ListN.{length, getD};
 ghost use Rattle.digits.specs.Digits.{digitsOf};
 ghost use Rattle.levels.specs.Table.{Shared};
+ghost use Rattle.levels.specs.Word.{wrongDigits};
 ghost use Rattle.reading.specs.Notes.{voteAt, serviceAt, noteOf, notesOf, dissentsIn, fourSums};
 ghost use Rattle.reading.specs.Reading.{refusedWith, notedFrom, answerOn, notesOn, ReadNotesMet};
 
@@ -80,6 +80,15 @@ pub fn read_note(row: Row, line: &[u8], f: usize) -> FrameRead
     }
 }
 
+// How many digits of the word at place p of a line are wrong: the ones in the difference of the two numbers, read at once.
+fn word_errors(row: Row, line: &[u8], p: FramePlace) -> u32
+    requires { ⌜ Shared row × (p .0 + row .len ≤ 8 * length (now line)) × (length (now line) ≤ 65536) ⌝ }
+    ensures { λ r. ⌜ r ≡ wrongDigits row (digitsOf (now (line .entry))) (p .0) ⌝ }
+{
+    let window = words::read_digits(line, p.0, row.len);
+    u64::count_ones(window ^ row.word as u64)
+}
+
 // Four counts, each with one more.
 fn four_sums(a: [usize; 4], b: [usize; 4]) -> [usize; 4]
     requires { ⌜
@@ -111,7 +120,7 @@ pub fn read_frames(row: Row, line: &[u8], notes: &mut [u8]) -> Noted
         let sums = four_sums(dissent, here);
         dissent = sums;
         let start = FramePlace(f * row.digits);
-        alignment += word::word_errors(row, line, start) as usize;
+        alignment += word_errors(row, line, start) as usize;
         f += 1;
     }
     Noted {

@@ -3,7 +3,7 @@ use mathlib.Core.Path.{refl, sym, _∙_}
 use borrow.Author.Tests.{eq-eqb, ne-eqb}
 use Rattle.levels.proofs.Rows.{shared-row}
 use Rattle.compare.specs.Compare.{comparedOf, listedOf}
-use Rattle.compare.proofs.Files.{fitting, line-within}
+use Rattle.compare.proofs.Files.{fitting, line-within, line-whole}
 use borrow.Author.Needs.{needs}
 use Rattle.compare.proofs.compare.Statement.{statement}
 use Rattle.compare.proofs.compare.Tie as tie
@@ -11,10 +11,11 @@ use Rattle.compare.proofs.compare.Tie as tie
 returns : tie.Need-returns
 unfolding comparedOf listedOf
 returns c =
-    let c3 = c .before .before .before in
+    let here = c .before in
+    let c3 = here .before .before in
     let c4 = c3 .before in
     let c5 = c4 .before in
-    rw (← c5 .read .ensures, ← c4 .read2 .ensures, ← c3 .fault-of .ensures, ne-eqb _ _ (c .before .if1 .taken)) (c .refused .ensures, refl)
+    rw (← c5 .read .ensures, ← c4 .read2 .ensures, ← c3 .fault-of .ensures, ne-eqb _ _ (here .if1 .taken)) (c .refused .ensures, refl)
 
 compared-on-requires : tie.Need-compared-on-requires
 compared-on-requires c κs =
@@ -23,11 +24,13 @@ compared-on-requires c κs =
     let c7 = c5 .before .before in
     let c8 = c7 .before in
     let c9 = c8 .before in
-    let c13 = c9 .before .before .before .before in
+    let c12 = c9 .before .before .before in
     let fits = fitting (c9 .read .result) (c8 .read2 .result) (rw (← c7 .fault-of .ensures) (c5 .if1 .left)) in
-    let one = rw (← c9 .read .ensures) at (line-within (c13 .args .one .now)) in
-    let other = rw (← c8 .read2 .ensures) at (line-within (c13 .args .other .now)) in
-    (shared-row _ _ (sym (c4 .level-of .ensures) ∙ c .before .before .found .given .1), one .inside, other .inside, fits .same-bytes, one .short, refl)
+    let one = rw (← c9 .read .ensures) at (line-within (c12 .args .one .now)) in
+    let other = rw (← c8 .read2 .ensures) at (line-within (c12 .args .other .now)) in
+    let level = sym (c4 .level-of .ensures) ∙ c .before .before .found .given .1 in
+    let whole = rw (← c9 .read .ensures) at (line-whole (c12 .args .one .now) (c .before .before .found .given .0 .0)) in
+    (shared-row _ _ level, one .inside, other .inside, fits .same-bytes, one .short, whole (fits .one-good) level)
 
 returns-2 : tie.Need-returns-2
 unfolding comparedOf listedOf

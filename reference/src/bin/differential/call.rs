@@ -1,7 +1,8 @@
 //! A call with its inputs, what came of it, and what the reference says of it.
 
+use crate::face::UNWRITTEN;
 use reference::{build_multiframe, take_multiframe_apart};
-use reference::{compare, Differences, MOST_LISTED};
+use reference::{compare, compare_lines, compare_stretch, Differences, MOST_LISTED};
 use reference::{extract, feed, fresh, line_digit, multiplex, read_notes, Counted, State};
 use reference::{finder_feed, FinderState};
 use reference::{judge, Judged};
@@ -74,6 +75,14 @@ pub struct Whole {
     pub spare: Vec<u8>,
 }
 
+/// What a comparison of two lines is lent; a stretch has its first place and how many.
+#[derive(Clone)]
+pub struct Pair {
+    pub level: u64,
+    pub one: Vec<u8>,
+    pub other: Vec<u8>,
+}
+
 pub enum Call {
     Multiplex(Lending),
     ReadNotes(Lending),
@@ -92,10 +101,12 @@ pub enum Call {
     Swap(Lending, u64),
     Repair(Worn),
     Judge(Trace),
+    CompareLines(Pair),
+    CompareStretch(Pair, u64, u64),
 }
 
 /// The names of the calls, in the order of their numbers.
-pub const NAMES: [&str; 19] = [
+pub const NAMES: [&str; 21] = [
     "multiplex",
     "read_notes",
     "receiver_fresh",
@@ -115,6 +126,8 @@ pub const NAMES: [&str; 19] = [
     "swap",
     "repair",
     "judge",
+    "compare_lines",
+    "compare_stretch",
 ];
 
 /// All that a call answers and leaves: two outcomes are equal or there is a disagreement.
@@ -150,6 +163,8 @@ impl Call {
             Call::Swap(..) => 16,
             Call::Repair(_) => 17,
             Call::Judge(_) => 18,
+            Call::CompareLines(_) => 19,
+            Call::CompareStretch(..) => 20,
         }
     }
 
@@ -176,6 +191,8 @@ impl Call {
             Call::Repair(_) => "changed: word, control of four, stuffing of four, national",
             Call::Judge(_) => "of each: fits, wrong by own, before and after, changes",
             Call::Compare(..) => "file, byte, fifteen sums, all, listed; frame and place of each",
+            Call::CompareLines(_) => "fifteen sums, all, listed; frame and place of each",
+            Call::CompareStretch(..) => "fifteen sums, all",
         }
     }
 
@@ -235,6 +252,10 @@ impl Call {
             Call::Compare(one, other) => {
                 format!("one {}; other {}", in_short(one), in_short(other))
             }
+            Call::CompareLines(pair) => pair.short(),
+            Call::CompareStretch(pair, first, count) => {
+                format!("{}; first {first} count {count}", pair.short())
+            }
         }
     }
 
@@ -270,6 +291,16 @@ impl Call {
                 let (refusal, numbers) = compared_numbers(&compare(one, other));
                 outcome(refusal, numbers, vec![("one", one.clone()), ("other", other.clone())])
             }
+            Call::CompareLines(pair) => {
+                let found = compare_lines(pair.level, &pair.one, &pair.other);
+                let (refusal, numbers) = compared_numbers(&found);
+                outcome(refusal, numbers[2..].to_vec(), pair.lines())
+            }
+            Call::CompareStretch(pair, first, count) => {
+                let found = compare_stretch(pair.level, &pair.one, &pair.other, *first, *count);
+                let (refusal, numbers) = compared_numbers(&found);
+                outcome(refusal, numbers[2..18].to_vec(), pair.lines())
+            }
         }
     }
 }
@@ -278,6 +309,17 @@ impl Worn {
     /// The level, the earlier vote and the line of a call that is lent more, and the switch.
     pub fn of(with: Lending, national: u64) -> Worn {
         Worn { level: with.level, earlier: with.earlier, national, line: with.line }
+    }
+}
+
+impl Pair {
+    fn short(&self) -> String {
+        let (one, other) = (in_short(&self.one), in_short(&self.other));
+        format!("level {}; one {one}; other {other}", self.level)
+    }
+
+    fn lines(&self) -> Vec<(&'static str, Vec<u8>)> {
+        vec![("one", self.one.clone()), ("other", self.other.clone())]
     }
 }
 
@@ -418,7 +460,8 @@ pub fn read_numbers(file: &[u8]) -> (u64, [u64; 7]) {
     (read.refusal, [read.level, line[0], line[1], labelled, label[0], label[1], read.byte])
 }
 
-/// What the reference finds, in the face's order: the answer, then the list with its zeros.
+/// What the reference finds, in the face's order: the answer, then the list with its zeros, which a
+/// refusal leaves unwritten.
 pub fn compared_numbers(found: &Differences) -> (u64, Vec<u64>) {
     let all = found.places.len();
     let listed = all.min(MOST_LISTED);
@@ -428,7 +471,8 @@ pub fn compared_numbers(found: &Differences) -> (u64, Vec<u64>) {
     for (frame, place) in &found.places[..listed] {
         numbers.extend([*frame as u64, *place as u64]);
     }
-    numbers.resize(19 + 2 * MOST_LISTED, 0);
+    let after = if found.refusal == 0 { 0 } else { UNWRITTEN };
+    numbers.resize(19 + 2 * MOST_LISTED, after);
     (found.refusal, numbers)
 }
 

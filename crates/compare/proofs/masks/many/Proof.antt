@@ -1,0 +1,12 @@
+-- `many`: 56 of the 64 digits that are loaded.
+use mathlib.Core.Path.{refl}
+use Rattle.compare.proofs.Differing.{differing-part}
+use borrow.Author.Needs.{needs}
+use Rattle.compare.proofs.masks.many.Statement.{statement}
+use Rattle.compare.proofs.masks.many.Tie as tie
+
+returns : tie.Need-returns
+returns c = rw (c .before .eight .ensures, c .eight2 .ensures) (differing-part _ _ (c .before .before .before .before .args .p))
+
+pub many-spec : {M : Type 1} → statement M
+many-spec = tie.close (tie.spec (λ c κs. search needs) (λ c κs. search needs) (λ c. search needs) (λ c. search needs) returns)
