@@ -16,7 +16,7 @@
 //!   reads the stream too.
 //! - A [`Rack`] keeps the receivers of up to 64 lines.
 //! - A [`Finder`] finds the frames of a 2048 kbit/s line.
-//! - [`digits`] walks over the digits of a line.
+//! - [`digits`] walks over the digits of a line; [`copy_digits`] carries digits from slice to slice.
 //! - [`write_capture`] keeps a line in a file, [`read_capture`] reads it back.
 //! - [`compare`] says where two captures differ, by the kind of place and the tributary.
 //! - [`Multiframe::build`] builds a multiframe of 2048 kbit/s, [`Multiframe::apart`] takes one apart.
@@ -85,6 +85,7 @@
 
 mod capture;
 mod comparison;
+mod copying;
 mod finder;
 mod judging;
 mod level;
@@ -104,6 +105,7 @@ pub use capture::{capture_bytes, read_capture, write_capture, Capture, MOST_LABE
 pub use comparison::{
     compare, Differences, FileOf, LinePlace, NotCompared, OfTributary, MOST_LISTED,
 };
+pub use copying::copy_digits;
 pub use finder::{Finder, FinderMode, FinderState, FinderTaken, Turn, Turns};
 pub use judging::{judge, Pattern, Reading, SentInto, Verdict};
 pub use level::{Level, MOST_BYTES, MOST_FRAMES};
