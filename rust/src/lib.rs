@@ -20,6 +20,8 @@
 //! - [`write_capture`] keeps a line in a file, [`read_capture`] reads it back.
 //! - [`compare`] says where two captures differ, by the kind of place and the tributary.
 //! - [`Multiframe::build`] builds a multiframe of 2048 kbit/s, [`Multiframe::apart`] takes one apart.
+//! - [`place`](place()) and [`multiframe_place`] say what a place of a frame is, and of a multiframe.
+//! - [`version`] is that of the library.
 //!
 //! # Digits, quarters, notes
 //!
@@ -92,6 +94,7 @@ mod level;
 mod line;
 mod multiframe;
 mod multiplexing;
+mod place;
 pub mod plain;
 mod rack;
 mod raw;
@@ -100,6 +103,7 @@ mod refusal;
 mod repairing;
 mod stream;
 mod swapping;
+mod version;
 
 pub use capture::{capture_bytes, read_capture, write_capture, Capture, MOST_LABEL_BYTES};
 pub use comparison::{
@@ -112,9 +116,11 @@ pub use level::{Level, MOST_BYTES, MOST_FRAMES};
 pub use line::{digits, line_digit, Digits};
 pub use multiframe::{Multiframe, MULTIFRAME_BYTES};
 pub use multiplexing::{extract, multiplex, read_notes, vote_after, Extracted, Noted, Sent};
+pub use place::{multiframe_place, place, Kind, MultiframePlace, Place};
 pub use rack::{Rack, MOST_LINES};
 pub use receiver::{Frame, Frames, Mode, Receiver, State, Taken};
 pub use refusal::Refusal;
 pub use repairing::{repair, repair_capture, Repaired};
 pub use stream::FrameStream;
 pub use swapping::swap;
+pub use version::{version, Version};

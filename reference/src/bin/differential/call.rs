@@ -107,7 +107,7 @@ pub enum Call {
 }
 
 /// The names of the calls, in the order of their numbers.
-pub const NAMES: [&str; 20] = [
+pub const NAMES: [&str; 23] = [
     "multiplex",
     "read_notes",
     "receiver_fresh",
@@ -128,6 +128,9 @@ pub const NAMES: [&str; 20] = [
     "repair",
     "judge",
     "copy_digits",
+    "place",
+    "multiframe_place",
+    "version",
 ];
 
 /// All that a call answers and leaves: two outcomes are equal or there is a disagreement.
