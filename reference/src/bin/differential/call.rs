@@ -1,6 +1,6 @@
 //! A call with its inputs, what came of it, and what the reference says of it.
 
-use reference::copy_digits;
+use reference::{begins, copy_digits, late_multiplex, multiframe_start};
 use reference::{build_multiframe, take_multiframe_apart};
 use reference::{compare, Differences, MOST_LISTED};
 use reference::{extract, feed, fresh, line_digit, multiplex, read_notes, Counted, State};
@@ -76,6 +76,16 @@ pub struct Copying {
     pub count: u64,
 }
 
+/// What a search for a recording's beginning is lent.
+#[derive(Clone)]
+pub struct Search {
+    pub read: Vec<u8>,
+    pub digits: u64,
+    pub sent: Vec<u8>,
+    pub first: u64,
+    pub count: u64,
+}
+
 /// What a call on a multiframe is lent.
 #[derive(Clone)]
 pub struct Whole {
@@ -104,10 +114,13 @@ pub enum Call {
     Repair(Worn),
     Judge(Trace),
     Copy(Copying),
+    LateMultiplex(Lending),
+    Begins(Search),
+    MultiframeStart(Vec<u8>),
 }
 
 /// The names of the calls, in the order of their numbers.
-pub const NAMES: [&str; 23] = [
+pub const NAMES: [&str; 26] = [
     "multiplex",
     "read_notes",
     "receiver_fresh",
@@ -131,6 +144,9 @@ pub const NAMES: [&str; 23] = [
     "place",
     "multiframe_place",
     "version",
+    "late_multiplex",
+    "begins",
+    "multiframe_start",
 ];
 
 /// All that a call answers and leaves: two outcomes are equal or there is a disagreement.
@@ -167,6 +183,9 @@ impl Call {
             Call::Repair(_) => 17,
             Call::Judge(_) => 18,
             Call::Copy(_) => 19,
+            Call::LateMultiplex(_) => 23,
+            Call::Begins(_) => 24,
+            Call::MultiframeStart(_) => 25,
         }
     }
 
@@ -193,6 +212,9 @@ impl Call {
             Call::Repair(_) => "changed: word, control of four, stuffing of four, national",
             Call::Judge(_) => "of each: fits, wrong by own, before and after, changes",
             Call::Copy(_) => "none",
+            Call::LateMultiplex(_) => "four counts, frame",
+            Call::Begins(_) => "number, differing",
+            Call::MultiframeStart(_) => "frame",
             Call::Compare(..) => "file, byte, fifteen sums, all, listed; frame and place of each",
         }
     }
@@ -200,6 +222,16 @@ impl Call {
     pub fn short(&self) -> String {
         match self {
             Call::Multiplex(with) | Call::ReadNotes(with) | Call::Extract(with) => with.short(),
+            Call::LateMultiplex(with) => with.short(),
+            Call::Begins(search) => format!(
+                "read {}; digits {}; sent {}; first {} count {}",
+                in_short(&search.read),
+                search.digits,
+                in_short(&search.sent),
+                search.first,
+                search.count
+            ),
+            Call::MultiframeStart(frames) => format!("frames {}", in_short(frames)),
             Call::Swap(with, tributary) => format!("tributary {tributary}; {}", with.short()),
             Call::Repair(worn) => format!(
                 "level {}; earlier {}; national {}; line {}",
@@ -293,6 +325,17 @@ impl Call {
             Call::Repair(worn) => repaired(worn.clone()),
             Call::Judge(trace) => judged(trace.clone()),
             Call::Copy(with) => copied(with.clone()),
+            Call::LateMultiplex(with) => late(with.clone()),
+            Call::Begins(search) => {
+                let Search { read, digits, sent, first, count } = search;
+                let [refusal, numbers @ ..] = begins(read, *digits, sent, *first, *count);
+                let lent = vec![("read", read.clone()), ("sent", sent.clone())];
+                outcome(refusal, numbers.to_vec(), lent)
+            }
+            Call::MultiframeStart(frames) => {
+                let [refusal, frame] = multiframe_start(frames);
+                outcome(refusal, vec![frame], vec![("frames", frames.clone())])
+            }
             Call::Compare(one, other) => {
                 let (refusal, numbers) = compared_numbers(&compare(one, other));
                 outcome(refusal, numbers, vec![("one", one.clone()), ("other", other.clone())])
@@ -352,6 +395,12 @@ fn repaired(mut worn: Worn) -> Outcome {
     let numbers =
         [&[answer.word], &answer.control[..], &answer.stuffing, &[answer.national]].concat();
     outcome(answer.refusal, numbers, vec![("line", worn.line)])
+}
+
+fn late(mut with: Lending) -> Outcome {
+    let (level, earlier) = (with.level, with.earlier);
+    let answer = late_multiplex(level, earlier, &mut with.line, &with.notes, &with.buffer);
+    outcome(answer.refusal, counted_numbers(&answer), slices(with))
 }
 
 fn copied(mut with: Copying) -> Outcome {
