@@ -10,8 +10,10 @@
 #![forbid(unsafe_code)]
 
 pub mod alarm;
+mod beginning;
 mod captures;
 mod comparison;
+mod copying;
 pub mod digits;
 mod finder;
 pub mod frame;
@@ -25,16 +27,21 @@ pub mod random;
 mod receiver;
 mod repairing;
 mod swapping;
+pub mod verdict;
 
+pub use beginning::{begins, begins_refusal, multiframe_start};
 pub use captures::{read_capture, write_capture, Read, Written};
 pub use comparison::{compare, compare_lines, compare_stretch, lines_refusal};
 pub use comparison::{sum, Differences, MOST_LISTED};
+pub use copying::{copy_digits, copy_refusal};
 pub use finder::{finder_feed, finder_refusal, FinderState, Found};
 pub use finder::{FRAME_DIGITS, SECOND_PLACE, WORD, WORD_PLACE};
 pub use judging::{judge, judge_refusal, Judged, Reading, Verdict};
-pub use multiframe::{build_multiframe, multiframe_refusal, take_multiframe_apart};
+pub use multiframe::{
+    build_multiframe, multiframe_place, multiframe_refusal, take_multiframe_apart,
+};
 pub use multiplexing::{
-    extract, frames_refusal, length_refusal, multiplex, read_notes, Counted, Noted,
+    extract, frames_refusal, late_multiplex, length_refusal, multiplex, read_notes, Counted, Noted,
 };
 pub use rack::{rack_aligned, rack_feed, rack_refusal, rack_reset, Told, MOST_RECORDS};
 pub use receiver::{feed, feed_refusal, fresh, line_digit, Fed, State};

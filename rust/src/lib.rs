@@ -13,17 +13,22 @@
 //!   same three by a second engine, digit by digit.
 //! - [`swap`] rewrites one tributary of a line in place; [`repair`] sets right what is known of a worn
 //!   line, and [`repair_capture`] that of a capture.
+//! - [`late_multiplex`] builds the line of a multiplexer that acts a frame late, for demonstrations.
+//! - [`begins`] finds where a recording begins in what was sent.
 //! - [`judge`] reads a line by the decision of its own frame, of the frame before and of the frame
 //!   after, and says by which it is what was sent.
 //! - A [`Receiver`] finds frames in a stream that comes in pieces of any size; a [`FrameStream`]
 //!   reads the stream too.
 //! - A [`Rack`] keeps the receivers of up to 64 lines.
 //! - A [`Finder`] finds the frames of a 2048 kbit/s line.
-//! - [`digits`] walks over the digits of a line.
+//! - [`digits`] walks over the digits of a line; [`copy_digits`] carries digits from slice to slice.
 //! - [`write_capture`] keeps a line in a file, [`read_capture`] reads it back.
 //! - [`compare`] says where two captures differ, by the kind of place and the tributary;
 //!   [`compare_lines`] and [`compare_stretch`] say it of two lines and of a stretch of them.
-//! - [`Multiframe::build`] builds a multiframe of 2048 kbit/s, [`Multiframe::apart`] takes one apart.
+//! - [`Multiframe::build`] builds a multiframe of 2048 kbit/s, [`Multiframe::apart`] takes one apart,
+//!   [`Multiframe::start`] finds where one begins.
+//! - [`place`](place()) and [`multiframe_place`] say what a place of a frame is, and of a multiframe.
+//! - [`version`] is that of the library.
 //!
 //! # Digits, quarters, notes
 //!
@@ -88,39 +93,53 @@
 #![cfg_attr(not(feature = "std"), no_std)]
 #![warn(missing_docs)]
 
+mod beginning;
 mod capture;
 mod comparison;
+mod copying;
 mod finder;
 mod judging;
 mod level;
 mod line;
 mod multiframe;
 mod multiplexing;
+mod note;
+mod place;
 pub mod plain;
 mod rack;
 mod raw;
 mod receiver;
 mod refusal;
 mod repairing;
+mod span;
 #[cfg(feature = "std")]
 mod stream;
 mod swapping;
+mod version;
 
+pub use beginning::{begins, Beginning};
 pub use capture::{capture_bytes, read_capture, write_capture, Capture, MOST_LABEL_BYTES};
 pub use comparison::{
-    compare, compare_lines, compare_stretch, Differences, FileOf, LinePlace, NotCompared,
+    compare, compare_lines, compare_stretch, Differences, FileOf, LinePlace, Listed, NotCompared,
     OfTributary, MOST_LISTED,
 };
+pub use copying::copy_digits;
 pub use finder::{Finder, FinderMode, FinderState, FinderTaken, Turn, Turns};
 pub use judging::{judge, Pattern, Reading, SentInto, Verdict};
 pub use level::{Level, MOST_BYTES, MOST_FRAMES};
 pub use line::{digits, line_digit, Digits};
 pub use multiframe::{Multiframe, MULTIFRAME_BYTES};
-pub use multiplexing::{extract, multiplex, read_notes, vote_after, Extracted, Noted, Sent};
+pub use multiplexing::{
+    extract, late_multiplex, multiplex, read_notes, vote_after, Extracted, Noted, Sent,
+};
+pub use note::Note;
+pub use place::{multiframe_place, place, Kind, MultiframePlace, Place};
 pub use rack::{Rack, RackFrames, MOST_LINES};
 pub use receiver::{Frame, Frames, Mode, Receiver, State, Taken};
 pub use refusal::Refusal;
 pub use repairing::{repair, repair_capture, Repaired};
+pub use span::{digits_in, span, whole_bytes, Span};
 #[cfg(feature = "std")]
 pub use stream::FrameStream;
 pub use swapping::swap;
+pub use version::{version, Version};

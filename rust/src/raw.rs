@@ -125,6 +125,19 @@ extern "C" {
         answer: &mut [u64; 5],
     ) -> u64;
 
+    /// Answer: four digit counts, named frame.
+    pub fn spritbobbin_late_multiplex(
+        level: u64,
+        earlier: u64,
+        line: *mut u8,
+        line_bytes: usize,
+        notes: *const u8,
+        notes_bytes: usize,
+        buffer: *const u8,
+        buffer_bytes: usize,
+        answer: &mut [u64; 5],
+    ) -> u64;
+
     /// Answer: digits taken.
     pub fn spritbobbin_swap(
         level: u64,
@@ -211,6 +224,16 @@ extern "C" {
     /// 0 or 1, or 2 where the line has ended.
     pub fn spritbobbin_line_digit(line: *const u8, line_bytes: usize, place: u64) -> u64;
 
+    pub fn spritbobbin_copy_digits(
+        to: *mut u8,
+        to_bytes: usize,
+        at: u64,
+        from: *const u8,
+        from_bytes: usize,
+        first: u64,
+        count: u64,
+    ) -> u64;
+
     /// State: window, digits seen, mode, place.
     pub fn spritbobbin_finder_fresh(state: &mut [u64; 4]) -> u64;
 
@@ -278,6 +301,33 @@ extern "C" {
         count: u64,
         answer: &mut [u64; 16],
     ) -> u64;
+    /// Answer: the number, and how many digits differ there.
+    pub fn spritbobbin_begins(
+        read: *const u8,
+        read_bytes: usize,
+        digits: u64,
+        sent: *const u8,
+        sent_bytes: usize,
+        first: u64,
+        count: u64,
+        answer: &mut [u64; 2],
+    ) -> u64;
+
+    /// Answer: the frame, or 16.
+    pub fn spritbobbin_multiframe_start(
+        frames: *const u8,
+        frames_bytes: usize,
+        answer: &mut [u64; 1],
+    ) -> u64;
+
+    /// Answer: the kind's number, the tributary or 0.
+    pub fn spritbobbin_place(level: u64, place: u64, answer: &mut [u64; 2]) -> u64;
+
+    /// Answer: the kind's number; the digit fixed there, or the channel, or 0.
+    pub fn spritbobbin_multiframe_place(place: u64, answer: &mut [u64; 2]) -> u64;
+
+    /// MAJOR * 1000000 + MINOR * 1000 + PATCH.
+    pub fn spritbobbin_version() -> u64;
 
     /// Answer: named channel.
     pub fn spritbobbin_multiframe_build(

@@ -6,3 +6,8 @@ pub mod PlainAnswers
 pub mod SwapAnswers
 pub mod RepairAnswers
 pub mod JudgeAnswers
+pub mod CopyAnswers
+pub mod NamingAnswers
+pub mod LateAnswers
+pub mod BeginsAnswers
+pub mod VersionAnswers

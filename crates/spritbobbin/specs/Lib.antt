@@ -5,3 +5,7 @@ pub mod PlainFace
 pub mod SwapFace
 pub mod RepairFace
 pub mod JudgeFace
+pub mod NamingFace
+pub mod LateFace
+pub mod BeginsFace
+pub mod VersionFace

@@ -12,9 +12,11 @@
 //! call before it is made, for a face that does not return. The first disagreement is
 //! printed and ends the run with 1.
 
+mod beginnings;
 mod call;
 mod captures;
 mod comparisons;
+mod copying;
 mod face;
 mod finder;
 mod judging;
@@ -22,6 +24,7 @@ mod lengths;
 mod levels;
 mod multiframes;
 mod multiplexing;
+mod naming;
 mod rack;
 mod receiver;
 mod repairing;
@@ -150,7 +153,7 @@ fn arguments() -> Run {
 }
 
 /// The parts of a run by name, in their order.
-const PARTS: [(&str, fn(&mut Run)); 10] = [
+const PARTS: [(&str, fn(&mut Run)); 13] = [
     ("multiplexing", multiplexing::part),
     ("receiver", receiver::part),
     ("captures", captures::part),
@@ -161,6 +164,9 @@ const PARTS: [(&str, fn(&mut Run)); 10] = [
     ("swapping", swapping::part),
     ("repairing", repairing::part),
     ("judging", judging::part),
+    ("copying", copying::part),
+    ("naming", naming::part),
+    ("beginnings", beginnings::part),
 ];
 
 fn main() {
