@@ -1,0 +1,4 @@
+pub mod Patterns
+pub mod Blocks
+pub mod Readings
+pub mod Feed
