@@ -1,3 +1,5 @@
 pub mod Best
 pub mod Least
 pub mod Runs
+pub mod Frames
+pub mod Cuts
