@@ -124,6 +124,37 @@ module _ (row : Row) (sh : Shared row) (F : ℕ) (one two : List ℕ) (whole : l
       two-parts : (a b : List ℕ) → a ≡ notesOf row one F → b ≡ notesOf row two G → a ++ b ≡ notesOf row one F ++ notesOf row two G
       two-parts a b e g = rw (e, g)
 
+-- ---- lengths of runs
+
+module _ (row : Row) (sh : Shared row) where
+  half : columns row ≡ 2 * row .bytes
+  half = omega (arith, sh .packed)
+
+  in-columns : (n N : ℕ) → n ≡ N * row .bytes → 2 * n ≡ N * columns row
+  in-columns n N e = ap (λ (k : ℕ). 2 * k) e ∙ mul-left-comm 2 N (row .bytes) ∙ ap (λ (k : ℕ). N * k) (sym half)
+
+  some-bytes : 0 < row .bytes
+  some-bytes = omega (arith, sh .packed, some-digits)
+    where
+      some-digits : 0 < row .digits
+      some-digits = omega (arith, in-line row sh 0 0 0 0 (omega (arith, zero-mul (row .digits), zero-mul (row .set))) (omega (arith, sh .later-set)) (omega (arith, sh .room)) 1 (omega arith))
+
+  pub frames-of : (n N : ℕ) → n ≡ N * row .bytes → framesOf row n ≡ N
+  frames-of n N e = ap (λ (k : ℕ). k / row .bytes) e ∙ ap (λ (k : ℕ). k / row .bytes) (sym (add-zero (N * row .bytes))) ∙ digits-div N some-bytes
+
+  module _ (F G : ℕ) (one two : List ℕ) (first : length one ≡ F * row .bytes) (second : length two ≡ G * row .bytes) where
+    pub line-long : length (one ++ two) ≡ (F + G) * row .bytes
+    line-long = length-append one two ∙ omega (arith, first, second, add-mul F G (row .bytes))
+
+    pub whole-digits : length (digitsOf one) ≡ F * row .digits
+    whole-digits = digits-length one ∙ ap (λ (k : ℕ). 8 * k) first ∙ mul-left-comm 8 F (row .bytes) ∙ ap (λ (k : ℕ). F * k) (sym (sh .packed))
+
+    -- the notes of the line are those of its parts
+    pub majorities-cat : majorities row (one ++ two) ≡ majorities row one ++ majorities row two
+    majorities-cat =
+        rw (frames-of (length (one ++ two)) (F + G) line-long, frames-of (length one) F first, frames-of (length two) G second, digits-append one two)
+        (notes-cat row sh F (digitsOf one) (digitsOf two) whole-digits G)
+
 -- ---- how many digits a frame has
 
 -- tributary j's bit of a list of votes
@@ -187,18 +218,6 @@ module _ (row : Row) (sh : Shared row) (j : ℕ) (hj : j < 4) where
         acts-bits row w j f
         ∙ rw (gone f (omega arith), gone (suc f) (omega arith), add-suc F f) (sym (acts-bits row votes j (F + f)))
 
-    half : columns row ≡ 2 * row .bytes
-    half = omega (arith, sh .packed)
-
-    in-columns : (n N : ℕ) → n ≡ N * row .bytes → 2 * n ≡ N * columns row
-    in-columns n N e = ap (λ (k : ℕ). 2 * k) e ∙ mul-left-comm 2 N (row .bytes) ∙ ap (λ (k : ℕ). N * k) (sym half)
-
-    line-long : length line ≡ (F + G) * row .bytes
-    line-long = length-append one two ∙ omega (arith, first, second, add-mul F G (row .bytes))
-
-    whole : length (digitsOf one) ≡ F * row .digits
-    whole = digits-length one ∙ ap (λ (k : ℕ). 8 * k) first ∙ mul-left-comm 8 F (row .bytes) ∙ ap (λ (k : ℕ). F * k) (sym (sh .packed))
-
     abbrev readOne : List ℕ
     readOne = readBy row one v j
 
@@ -212,12 +231,12 @@ module _ (row : Row) (sh : Shared row) (j : ℕ) (hj : j < 4) where
         let ds = digitsOf one in
         let es = digitsOf two in
         let acts = actsOf row votes j in
-        let all : 2 * length line ≡ F * columns row + G * columns row = in-columns (length line) (F + G) line-long ∙ add-mul F G (columns row) in
+        let all : 2 * length line ≡ F * columns row + G * columns row = in-columns row sh (length line) (F + G) (line-long row sh F G one two first second) ∙ add-mul F G (columns row) in
         let a : placesOf row (actsOf row v j) j (F * columns row) ≡ placesOf row acts j (F * columns row) = places-same row sh F j hj (actsOf row v j) acts acts-first (F * columns row) (omega arith) in
         let b : placesOf row (actsOf row w j) j (G * columns row) ≡ placesOf row (λ (f : ℕ). acts (F + f)) j (G * columns row) =
         places-same row sh G j hj (actsOf row w j) (λ (f : ℕ). acts (F + f)) acts-later (G * columns row) (omega arith) in
-        rw (all, digits-append one two, in-columns (length one) F first, in-columns (length two) G second, a, b)
-        (columns-cat row sh F acts j hj ds es whole (G * columns row))
+        rw (all, digits-append one two, in-columns row sh (length one) F first, in-columns row sh (length two) G second, a, b)
+        (columns-cat row sh F acts j hj ds es (whole-digits row sh F G one two first second) (G * columns row))
 
     counts-first : (f : ℕ) → f < F → countsBy row v j f ≡ countsBy row votes j f
     unfolding countsBy
@@ -227,29 +246,17 @@ module _ (row : Row) (sh : Shared row) (j : ℕ) (hj : j < 4) where
     unfolding countsBy
     counts-later f h = ap (carriedIn row) (acts-later f h)
 
-    frames-of : (n N : ℕ) → n ≡ N * row .bytes → framesOf row n ≡ N
-    frames-of n N e = ap (λ (k : ℕ). k / row .bytes) e ∙ whole-frames N
-      where
-        some : 0 < row .bytes
-        some = omega (arith, sh .packed, in-frame-some)
-          where
-            in-frame-some : 0 < row .digits
-            in-frame-some = omega (arith, sh .room, in-line row sh 0 0 0 0 (omega (arith, zero-mul (row .digits), zero-mul (row .set))) (omega (arith, sh .later-set)) (omega (arith, sh .room)) 1 (omega arith))
-
-        whole-frames : (N : ℕ) → N * row .bytes / row .bytes ≡ N
-        whole-frames N = ap (λ (k : ℕ). k / row .bytes) (sym (add-zero (N * row .bytes))) ∙ digits-div N some
-
     -- and what they make of a block
     pub ran-cat : (pattern : ℕ) (lent : ℕ → ℕ) (b : Block) → ranBy row pattern lent line votes j b ≡ ranBy row pattern lent two w j (ranBy row pattern lent one v j b)
     unfolding ranBy
     ran-cat pattern lent b =
         let starts : startOf (countsBy row votes j) F ≡ length readOne =
-        sym (start-alike pattern lent (countsBy row v j) (countsBy row votes j) F counts-first) ∙ sym (read-length v one F (in-columns (length one) F first)) in
+        sym (start-alike pattern lent (countsBy row v j) (countsBy row votes j) F counts-first) ∙ sym (read-length v one F (in-columns row sh (length one) F first)) in
         let cut =
         frames-cat pattern lent (readBy row line votes j) readTwo (countsBy row votes j) (countsBy row w j) b F G counts-later
         (λ i h. ap (λ (p : ℕ). getD (readBy row line votes j) (p + i) 0) starts ∙ ap (λ (ds : List ℕ). getD ds (length readOne + i) 0) read-cat ∙ getD-append-add readOne readTwo i 0) in
         let same : framesTo pattern lent (readBy row line votes j) (countsBy row votes j) b F ≡ framesTo pattern lent readOne (countsBy row v j) b F =
         frames-alike pattern lent (readBy row line votes j) readOne (countsBy row votes j) (countsBy row v j) b F (λ f h. sym (counts-first f h))
         (λ i h. ap (λ (ds : List ℕ). getD ds i 0) read-cat ∙ List·getD-append readOne readTwo 0 i (omega (arith, starts))) in
-        rw (frames-of (length line) (F + G) line-long, frames-of (length one) F first, frames-of (length two) G second)
+        rw (frames-of row sh (length line) (F + G) (line-long row sh F G one two first second), frames-of row sh (length one) F first, frames-of row sh (length two) G second)
         (cut ∙ ap (λ (c : Block). framesTo pattern lent readTwo (countsBy row w j) c G) same)

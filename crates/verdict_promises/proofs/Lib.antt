@@ -3,3 +3,4 @@ pub mod Least
 pub mod Runs
 pub mod Frames
 pub mod Cuts
+pub mod Turns
