@@ -130,7 +130,7 @@ module _ (row : Row) (sh : Shared row) where
   half : columns row ≡ 2 * row .bytes
   half = omega (arith, sh .packed)
 
-  in-columns : (n N : ℕ) → n ≡ N * row .bytes → 2 * n ≡ N * columns row
+  pub in-columns : (n N : ℕ) → n ≡ N * row .bytes → 2 * n ≡ N * columns row
   in-columns n N e = ap (λ (k : ℕ). 2 * k) e ∙ mul-left-comm 2 N (row .bytes) ∙ ap (λ (k : ℕ). N * k) (sym half)
 
   some-bytes : 0 < row .bytes

@@ -4,3 +4,4 @@ pub mod Runs
 pub mod Frames
 pub mod Cuts
 pub mod Turns
+pub mod Steady
