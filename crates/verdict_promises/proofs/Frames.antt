@@ -132,7 +132,7 @@ module _ (row : Row) (sh : Shared row) (F : ℕ) where
     unfolding placesOf
     places-more acts x = refl
 
-    taken-more : (ds : List ℕ) (acts : ℕ → Action) (x : ℕ)
+    pub taken-more : (ds : List ℕ) (acts : ℕ → Action) (x : ℕ)
         → map (λ (p : ℕ). getD ds p 0) (placesOf row acts j (suc x))
         ≡ map (λ (p : ℕ). getD ds p 0) (placesOf row acts j x) ++ cond (carries row acts (4 * x + j)) (getD ds (4 * x + j) 0 ∷ []) []
     taken-more ds acts x =

@@ -5,3 +5,4 @@ pub mod Frames
 pub mod Cuts
 pub mod Turns
 pub mod Steady
+pub mod Worn

@@ -1,3 +1,4 @@
 pub mod Paths
 pub mod Turns
 pub mod Steady
+pub mod Worn

@@ -1,0 +1,45 @@
+-- The physics of a worn line: a multiplexer put a tributary's digits into it by the decisions of its own frames, or by those of the frames before or after; on the way some
+-- digits changed; and the tributary itself was what was sent, with digits lost and doubled on the way to the multiplexer.
+use mathlib.Core.Path.{_≡_}
+use mathlib.Core.Bool.{Bool, cond}
+use mathlib.Core.List.{List}
+use Prim.Native.Nat.{ℕ, suc, _+_, _*_, _/_, _≤_, _<_}
+use lib.Dec.{eqb}
+use lib.ListN.{length, getD, drop}
+use Rattle.digits.specs.Digits.{digitsOf, differing}
+use Rattle.digits.specs.Sums.{sumTo}
+use Rattle.table.specs.declared.Row.{Row}
+use Rattle.levels.specs.declared.order.Action.{Action}
+use Rattle.levels.specs.Order.{actions, carries}
+use Rattle.promises.specs.Damage.{groupAt, allowed}
+use Rattle.promises.specs.Carried.{Room}
+use Rattle.judge_promises.specs.Verdicts.{Index, actsOn, actedLine}
+use Rattle.slips.specs.Slips.{leastOf}
+use Rattle.verdict.specs.Blocks.{Block}
+
+-- in how many of the first x columns of tributary j a place carries a digit, by what the frames do, and the digit has changed
+unfoldable pub changedIn : Row → (ℕ → Action) → ℕ → List ℕ → List ℕ → ℕ → ℕ
+changedIn row acts j sent received x =
+    sumTo x (λ (y : ℕ). cond (carries row acts (4 * y + j)) (cond (eqb (getD sent (4 * y + j) 0) (getD received (4 * y + j) 0)) 0 1) 0)
+
+-- a multiplexer with this index made the line of these tributaries' digits, a frame for each note; on its way "changed as demand 3 allows and besides in e of the tributary's
+-- carrying places": of each of tributary j's control groups fewer than half, of the digits that it carries e at most, and of all others as many as one likes
+pub record Worn (row : Row) (index : Index) (earlier : ℕ) (tributary : ℕ → List ℕ) (line : List ℕ) (j e : ℕ) : Type 0 where
+  pub notes : List ℕ
+  pub unknown : ℕ
+  pub whole : length line ≡ length notes * row .bytes
+  pub room : Room row (length notes) tributary
+  pub few-controls : (f : ℕ) → f < length notes
+      → differing (groupAt row (actedLine row earlier notes (actsOn row index earlier notes unknown) tributary) f j) (groupAt row (digitsOf line) f j) ≤ allowed row
+  pub few-digits :
+      changedIn row (actions row (getD (actsOn row index earlier notes unknown) 0 0) (drop 1 (actsOn row index earlier notes unknown)) j) j
+      (actedLine row earlier notes (actsOn row index earlier notes unknown) tributary) (digitsOf line) (2 * length line)
+      ≤ e
+
+-- "T is S along a path": each of a tributary's first n digits is the one that was sent at the number that the path gives it
+abbrev pub Along : (ℕ → ℕ) → List ℕ → (ℕ → ℕ) → ℕ → Type 0
+Along sent t path n = (i : ℕ) → i < n → getD t i 0 ≡ sent (i + path (suc i))
+
+-- what a reading costs, as the answer tells it: wrong digits and sixteen times the slips
+abbrev pub costTold : Block → ℕ
+costTold b = leastOf (b .lanes) / 4294967296
