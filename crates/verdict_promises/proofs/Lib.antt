@@ -4,5 +4,6 @@ pub mod Runs
 pub mod Frames
 pub mod Cuts
 pub mod Turns
+pub mod Blocks
 pub mod Steady
 pub mod Worn

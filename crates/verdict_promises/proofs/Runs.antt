@@ -75,7 +75,7 @@ module _ (sent : ℕ → ℕ) where
           let laid = laid-known (startOf counts f + counts f) (lowIn sent ds counts f) (blockIn f (counts f)) k .is-low in
           omega (arith, laid, low-far f)
 
-      run-lanes : (F : ℕ) → F ≤ 144115188075855872 → ((f : ℕ) → f < F → 0 < counts f) → Lanes sent ds (lowIn sent ds counts) counts F lanesIn
+      pub run-lanes : (F : ℕ) → F ≤ 144115188075855872 → ((f : ℕ) → f < F → 0 < counts f) → Lanes sent ds (lowIn sent ds counts) counts F lanesIn
       unfolding framesTo digitsTo frameTo startOf
       run-lanes F few some =
           record {

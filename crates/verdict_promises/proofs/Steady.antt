@@ -27,6 +27,7 @@ use Rattle.verdict.specs.Readings.{majorities, readBy, carriedIn, countsBy, ran
 use Rattle.verdict.specs.Feed.{State, freshState, fedBlock, fedState}
 use Rattle.verdict_promises.specs.Steady.{Steady, recorded, byBefore, byAfter, NoDearer}
 use Rattle.verdict_promises.proofs.Frames.{frames-alike}
+use Rattle.verdict_promises.proofs.Blocks.{own-block, none-block, all-block, after-block}
 use Rattle.verdict_promises.proofs.Cuts.{bitAt, actsOf, acts-bits, in-columns, frames-of}
 
 -- ---- readings by votes with the same bits; the first one counts only where a level looks at it
@@ -160,37 +161,13 @@ module _ (row : Row) (sh : Shared row) (level earlier pattern F : ℕ) (line : L
   abbrev after-all : State
   after-all = recorded row level earlier pattern line next lent
 
-  abbrev b0 : Block
-  b0 = freshBlock pattern
-
   abbrev ran : List ℕ → Block
-  ran v = ranBy row pattern l line v j b0
-
-  -- the blocks are what the votes of their ways make of a fresh one
-  block-at : (k w : ℕ) → k / 4 ≡ w → k % 4 ≡ j → after-all .blocks k ≡ fedBlock row s0 line next lent w j
-  unfolding fedState
-  block-at k w e g = rw (e, g) refl
-
-  own-block : after-all .blocks j ≡ ran (ownVotes (cond (hasNegative row) earlier 0) notes)
-  unfolding fedBlock freshState
-  own-block = block-at j 0 (omega arith) (omega arith)
-
-  none-block : after-all .blocks (4 + j) ≡ ran (beforeVotes 0 (cond (hasNegative row) earlier 0) notes)
-  unfolding fedBlock freshState
-  none-block = block-at (4 + j) 1 (omega arith) (omega arith)
-
-  all-block : after-all .blocks (8 + j) ≡ ran (beforeVotes 15 (cond (hasNegative row) earlier 15) notes)
-  unfolding fedBlock freshState
-  all-block = block-at (8 + j) 2 (omega arith) (omega arith)
-
-  after-block : after-all .blocks (12 + j) ≡ ranAfter row pattern l line notes next j b0
-  unfolding fedBlock freshState
-  after-block = block-at (12 + j) 3 (omega arith) (omega arith)
+  ran v = ranBy row pattern l line v j (freshBlock pattern)
 
   as-own : (v : List ℕ) → Stands v → ran v ≡ after-all .blocks j
   as-own v stands =
-      ran-alike row sh j F hj line whole pattern l v (ownVotes (cond (hasNegative row) earlier 0) notes) (stand-alike v (ownVotes (cond (hasNegative row) earlier 0) notes) stands (own-stands 0)) b0
-      ∙ sym own-block
+      ran-alike row sh j F hj line whole pattern l v (ownVotes (cond (hasNegative row) earlier 0) notes) (stand-alike v (ownVotes (cond (hasNegative row) earlier 0) notes) stands (own-stands 0)) (freshBlock pattern)
+      ∙ sym (own-block row level earlier pattern line next lent j hj)
 
   tried-bits : (t : Bool) → stuffed (tried t) j ≡ t
   unfolding tried
@@ -215,10 +192,10 @@ module _ (row : Row) (sh : Shared row) (level earlier pattern F : ℕ) (line : L
 
   -- by the frames before, with the unknown vote taken as the decision stands, the reading is that by its own frames
   pub before-none : is ≡ false → after-all .blocks (4 + j) ≡ after-all .blocks j
-  before-none e = none-block ∙ as-own (beforeVotes 0 (cond (hasNegative row) earlier 0) notes) (before-stands 0 (bit-none e))
+  before-none e = none-block row level earlier pattern line next lent j hj ∙ as-own (beforeVotes 0 (cond (hasNegative row) earlier 0) notes) (before-stands 0 (bit-none e))
 
   pub before-all : is ≡ true → after-all .blocks (8 + j) ≡ after-all .blocks j
-  before-all e = all-block ∙ as-own (beforeVotes 15 (cond (hasNegative row) earlier 15) notes) (before-stands 15 (bit-all e))
+  before-all e = all-block row level earlier pattern line next lent j hj ∙ as-own (beforeVotes 15 (cond (hasNegative row) earlier 15) notes) (before-stands 15 (bit-all e))
 
   pub before-no-dearer : NoDearer (after-all .blocks j) (byBefore after-all j)
   before-no-dearer = one-of (after-all .blocks (4 + j)) (after-all .blocks (8 + j)) (after-all .blocks j) before-none before-all
@@ -226,7 +203,7 @@ module _ (row : Row) (sh : Shared row) (level earlier pattern F : ℕ) (line : L
   -- by the frames after, with a vote behind all that decides the same, it is that too
   pub after-known : next ≢ 16 → stuffed next j ≡ is → byAfter after-all j ≡ after-all .blocks j
   unfolding ranAfter
-  after-known known bit = after-block ∙ rw (ne-eqb next 16 known) (as-own (afterVotes notes next) (after-stands next bit))
+  after-known known bit = after-block row level earlier pattern line next lent j hj ∙ rw (ne-eqb next 16 known) (as-own (afterVotes notes next) (after-stands next bit))
 
   pub after-no-dearer : next ≡ 16 → NoDearer (after-all .blocks j) (byAfter after-all j)
   unfolding ranAfter
@@ -235,4 +212,4 @@ module _ (row : Row) (sh : Shared row) (level earlier pattern F : ℕ) (line : L
       (one-of (ran (afterVotes notes 0)) (ran (afterVotes notes 15)) (after-all .blocks j) (λ e. as-own (afterVotes notes 0) (after-stands 0 (bit-none e))) (λ e. as-own (afterVotes notes 15) (after-stands 15 (bit-all e))))
     where
       both : after-all .blocks (12 + j) ≡ betterOf (ran (afterVotes notes 0)) (ran (afterVotes notes 15))
-      both = after-block ∙ rw (eq-eqb next 16 unknown) refl
+      both = after-block row level earlier pattern line next lent j hj ∙ rw (eq-eqb next 16 unknown) refl

@@ -1,5 +1,6 @@
 -- Physics: the reading that goes with a multiplexer costs no more than the digits that changed on the way and sixteen times the digits that were lost and doubled before it.
 use mathlib.Core.Path.{_≡_, refl, sym, _∙_, ap, subst}
+use mathlib.Core.Logic.{_≢_}
 use mathlib.Core.Bool.{Bool, cond, true, false}
 use mathlib.Core.List.{List, [], _∷_, _++_, map, append-nil}
 use Prim.Native.Nat.{ℕ, zero, suc, _+_, _*_, _-_, _/_, _%_, _≤_, _<_}
@@ -9,9 +10,11 @@ use native.Mathlib.Nat.{add-zero, add-suc, zero-add, suc-mul, mul-left-comm, mul
 use lib.Dec.{eqb}
 use lib.ListN.{length, getD, drop, length-append, length-map, List·getD-append}
 use lib.Seq.{getD-append-add}
+use borrow.Author.Tests.{eq-eqb, ne-eqb}
 use Rattle.digits.specs.Digits.{digitsOf, differing, Binary}
 use Rattle.digits.specs.Sums.{sumTo}
 use Rattle.digits.proofs.Laws.{digits-binary, tab-length}
+use Rattle.digits.proofs.Lists.{of-four}
 use Rattle.digits.proofs.Sums.{sum-same}
 use Rattle.table.specs.declared.Row.{Row}
 use Rattle.levels.specs.Table.{Shared}
@@ -31,16 +34,21 @@ use Rattle.promises.proofs.Sent.{sent-carried}
 use Rattle.promises.proofs.Recovered.{group-vote}
 use Rattle.judge_promises.specs.Verdicts.{Index, right, late, early, actsOn, actedLine}
 use Rattle.judge_promises.proofs.Acted.{carried-other, line-group}
+use Rattle.judge_promises.proofs.Readings.{index-alike}
 use Rattle.judge_promises.proofs.Acted as Acted
-use Rattle.slips.specs.Slips.{wrongOf, leastOf}
-use Rattle.verdict.specs.Blocks.{Block, freshBlock, betterOf, startOf}
-use Rattle.verdict.specs.Readings.{majorities, readBy, carriedIn, countsBy, ranBy}
-use Rattle.verdict_promises.specs.Paths.{wrongsOn, slipsOn, costOn, Path, Cheapest, fromFresh, lowIn}
-use Rattle.verdict_promises.specs.Worn.{changedIn, Worn, Along, costTold}
+use Rattle.slips.specs.Slips.{wrongPrice, stepPrice, wrongOf, leastOf}
+use Rattle.verdict.specs.Blocks.{Block, freshBlock, isBetter, betterOf, digitsTo, startOf}
+use Rattle.verdict.specs.Readings.{majorities, readBy, carriedIn, countsBy, ranBy, ranAfter, ownVotes, beforeVotes, afterVotes}
+use Rattle.verdict_promises.specs.Paths.{wrongsOn, slipsOn, Path, fromFresh, lowIn}
+use Rattle.verdict.specs.Feed.{State}
+use Rattle.verdict_promises.specs.Steady.{recorded, byBefore, byAfter, NoDearer}
+use Rattle.verdict_promises.specs.Worn.{changedIn, Worn, Along, costTold, readCount, Explains, tried}
 use Rattle.verdict_promises.proofs.Frames.{taken-more}
 use Rattle.verdict_promises.proofs.Cuts.{bitAt, actsOf, in-columns, frames-of, start-counts}
-use Rattle.verdict_promises.proofs.Steady.{Alike, acts-alike}
-use Rattle.verdict_promises.proofs.Runs.{cheapest}
+use Rattle.verdict_promises.proofs.Blocks.{own-block, none-block, all-block, after-block}
+use Rattle.verdict_promises.proofs.Steady.{Alike, acts-alike, better-both}
+use Rattle.verdict_promises.proofs.Least.{least-below}
+use Rattle.verdict_promises.proofs.Runs.{Known, lanesIn, run-known, run-lanes}
 
 -- ---- a frame has some digits of each tributary, stuffed or not
 
@@ -226,10 +234,122 @@ module _ (row : Row) (sh : Shared row) (index : Index) (earlier : ℕ) (tributar
       block = ranBy row 0 lent line by j (freshBlock 0)
 
       -- so the reading costs no more than e and sixteen times the path's steps
-      pub costs-at-most : F ≤ 144115188075855872 → leastOf (block .lanes) < 9223372036854775808 → Path low counts F path → Along lent (tributary j) path n → costTold block ≤ e + 16 * slipsOn path n
-      unfolding ranBy
+      pub costs-at-most : F ≤ 144115188075855872 → slipsOn path n < 4294967296 → Path low counts F path → Along lent (tributary j) path n → costTold block ≤ e + 16 * slipsOn path n
+      unfolding ranBy digitsTo
       costs-at-most few small is along =
           let same : fromFresh lent R counts F ≡ block = ap (fromFresh lent R counts) (sym frames) in
-          let c = cheapest lent R counts F few (λ f h. some-counts row sh by j f) (subst (λ (b : Block). leastOf (b .lanes) < 9223372036854775808) (sym same) small) in
-          let told : costTold block ≡ costOn lent R (c .path) n = ap costTold (sym same) ∙ c .cost-told in
-          omega (arith, told, c .cost path is, wrong-along along)
+          let least = least-below lent R low counts F (lanesIn lent R counts) (run-lanes lent R counts F few (λ f h. some-counts row sh by j f)) path is in
+          let number : leastOf (block .lanes) ≡ leastOf (fromFresh lent R counts F .lanes) = ap (λ (b : Block). leastOf (b .lanes)) (sym same) in
+          told (leastOf (block .lanes)) (wrongsOn lent R path n) (slipsOn path n) (omega (arith, number, least)) (wrong-along along) small
+        where
+          told : (x w k : ℕ) → x ≤ wrongPrice * w + stepPrice * k → w ≤ e → k < 4294967296 → x / 4294967296 ≤ e + 16 * k
+          told x w k h l g = omega arith
+
+-- ---- the three readings of a recording, fed to a fresh state and held against digits that were sent
+
+module _ (row : Row) (sh : Shared row) (level earlier next : ℕ) (tributary : ℕ → List ℕ) (line : List ℕ) (lent : ℕ → ℕ → ℕ) (j e : ℕ) (hj : j < 4) where
+  abbrev recording : State
+  recording = recorded row level earlier 0 line next lent
+
+  abbrev ran : List ℕ → Block
+  ran by = ranBy row 0 (lent j) line by j (freshBlock 0)
+
+  abbrev maj : List ℕ
+  maj = majorities row line
+
+  module _ (index : Index) (worn : Worn row index earlier tributary line j e) (path : ℕ → ℕ) where
+    abbrev G : ℕ
+    G = length (worn .notes)
+
+    frames-all : framesOf row (length line) ≡ G
+    frames-all = frames-of row sh (length line) G (worn .whole)
+
+    -- the index's votes, by the majorities and a vote with the bit of the one that nobody said
+    by-index : (u : ℕ) → stuffed u j ≡ stuffed (worn .unknown) j → Alike row j G (actsOn row index earlier maj u) (actsOn row index earlier (worn .notes) (worn .unknown))
+    by-index u bit =
+        let a = index-alike row j earlier maj (worn .notes) (long row sh index earlier tributary line j e hj worn) (said row sh index earlier tributary line j e hj worn) u (worn .unknown) bit index in
+        record { before = a .before; own = a .own }
+
+    costs-by : (by : List ℕ) → Alike row j G by (actsOn row index earlier (worn .notes) (worn .unknown)) → Explains row line (lent j) j by (tributary j) path → costTold (ran by) ≤ e + 16 * slipsOn path (readCount row line j by)
+    costs-by by alike x =
+        rw frames-all
+        (costs-at-most row sh index earlier tributary line j e hj worn by alike (lent j) path (rw frames-all at (x .few-frames)) (rw frames-all at (x .few-slips)) (rw frames-all at (x .is-path)) (rw frames-all at (x .along)))
+
+  tried-bit : (t : Bool) → stuffed (tried t) j ≡ t
+  tried-bit true = of-four (λ (j : ℕ). stuffed 15 j ≡ true) refl refl refl refl j hj
+  tried-bit false = of-four (λ (j : ℕ). stuffed 0 j ≡ false) refl refl refl refl j hj
+
+  -- what was sent is known to every reading, so of two ways the better one costs no more
+  known : (by : List ℕ) → ran by .standing .taken ≡ 1
+  unfolding ranBy
+  known by = run-known (lent j) (readBy row line by j) (countsBy row by j) (framesOf row (length line)) .taken
+
+  better-known : (a b : List ℕ) → betterOf (ran a) (ran b) .standing .taken ≡ 1
+  better-known a b = go (isBetter (ran a) (ran b))
+    where
+      go : (t : Bool) → cond t (ran b) (ran a) .standing .taken ≡ 1
+      go true = known b
+      go false = known a
+
+  at-most-either : (a b : List ℕ) → (costTold (betterOf (ran a) (ran b)) ≤ costTold (ran a)) × (costTold (betterOf (ran a) (ran b)) ≤ costTold (ran b))
+  at-most-either a b =
+      let both = better-both (ran a) (ran b) in
+      let first = both .0 .costs (known a ∙ sym (better-known a b)) in
+      let second = both .1 .costs (known b ∙ sym (better-known a b)) in
+      (omega (arith, first), omega (arith, second))
+
+  -- of the two ways of an unknown vote one has its bit
+  either : (a b c : List ℕ) (t : Bool) → (t ≡ false → a ≡ c) → (t ≡ true → b ≡ c) → costTold (betterOf (ran a) (ran b)) ≤ costTold (ran c)
+  either a b c true none all = subst (λ (v : List ℕ). costTold (betterOf (ran a) (ran b)) ≤ costTold (ran v)) (all refl) (at-most-either a b .1)
+  either a b c false none all = subst (λ (v : List ℕ). costTold (betterOf (ran a) (ran b)) ≤ costTold (ran v)) (none refl) (at-most-either a b .0)
+
+  -- a right multiplexer's line, by the decisions of its own frames
+  abbrev pub ownBy : List ℕ
+  ownBy = ownVotes (cond (hasNegative row) earlier 0) maj
+
+  pub right-costs : (worn : Worn row right earlier tributary line j e) (path : ℕ → ℕ) → Explains row line (lent j) j ownBy (tributary j) path
+      → costTold (recording .blocks j) ≤ e + 16 * slipsOn path (readCount row line j ownBy)
+  right-costs worn path x =
+      let a = by-index right worn path (worn .unknown) refl in
+      let alike : Alike row j (length (worn .notes)) ownBy (actsOn row right earlier (worn .notes) (worn .unknown)) = record { before = λ n. rw n refl; own = a .own } in
+      subst (λ (b : Block). costTold b ≤ e + 16 * slipsOn path (readCount row line j ownBy)) (sym (own-block row level earlier 0 line next lent j hj))
+      (costs-by right worn path ownBy alike x)
+
+  -- a late one's, by those of the frames before: the vote that nobody said is the one that it took
+  abbrev pub beforeBy : Bool → List ℕ
+  beforeBy t = beforeVotes (tried t) (cond (hasNegative row) earlier (tried t)) maj
+
+  pub late-costs : (worn : Worn row late earlier tributary line j e) (path : ℕ → ℕ) → Explains row line (lent j) j (beforeBy (stuffed (worn .unknown) j)) (tributary j) path
+      → costTold (byBefore recording j) ≤ e + 16 * slipsOn path (readCount row line j (beforeBy (stuffed (worn .unknown) j)))
+  late-costs worn path x =
+      let t = stuffed (worn .unknown) j in
+      let way = costs-by late worn path (beforeBy t) (by-index late worn path (tried t) (tried-bit t)) x in
+      let is : byBefore recording j ≡ betterOf (ran (beforeBy false)) (ran (beforeBy true)) =
+      rw (none-block row level earlier 0 line next lent j hj, all-block row level earlier 0 line next lent j hj) refl in
+      let best : costTold (byBefore recording j) ≤ costTold (ran (beforeBy t)) =
+      rw is (either (beforeBy false) (beforeBy true) (beforeBy t) t (λ g. ap beforeBy (sym g)) (λ g. ap beforeBy (sym g))) in
+      omega (arith, best, way)
+
+  -- an early one's, by those of the frames after: at the end of the recording, where the vote after all is unknown, and where it is told
+  abbrev pub afterBy : ℕ → List ℕ
+  afterBy x = afterVotes maj x
+
+  pub early-costs : next ≡ 16 → (worn : Worn row early earlier tributary line j e) (path : ℕ → ℕ)
+      → Explains row line (lent j) j (afterBy (tried (stuffed (worn .unknown) j))) (tributary j) path
+      → costTold (byAfter recording j) ≤ e + 16 * slipsOn path (readCount row line j (afterBy (tried (stuffed (worn .unknown) j))))
+  unfolding ranAfter
+  early-costs unknown worn path x =
+      let t = stuffed (worn .unknown) j in
+      let way = costs-by early worn path (afterBy (tried t)) (by-index early worn path (tried t) (tried-bit t)) x in
+      let is : byAfter recording j ≡ betterOf (ran (afterBy 0)) (ran (afterBy 15)) = after-block row level earlier 0 line next lent j hj ∙ rw (eq-eqb next 16 unknown) refl in
+      let best : costTold (byAfter recording j) ≤ costTold (ran (afterBy (tried t))) =
+      rw is (either (afterBy 0) (afterBy 15) (afterBy (tried t)) t (λ g. ap (λ (b : Bool). afterBy (tried b)) (sym g)) (λ g. ap (λ (b : Bool). afterBy (tried b)) (sym g))) in
+      omega (arith, best, way)
+
+  pub early-costs-told : next ≢ 16 → (worn : Worn row early earlier tributary line j e) → stuffed next j ≡ stuffed (worn .unknown) j → (path : ℕ → ℕ)
+      → Explains row line (lent j) j (afterBy next) (tributary j) path → costTold (byAfter recording j) ≤ e + 16 * slipsOn path (readCount row line j (afterBy next))
+  unfolding ranAfter
+  early-costs-told told worn bit path x =
+      let is : byAfter recording j ≡ ran (afterBy next) = after-block row level earlier 0 line next lent j hj ∙ rw (ne-eqb next 16 told) refl in
+      subst (λ (b : Block). costTold b ≤ e + 16 * slipsOn path (readCount row line j (afterBy next))) (sym is)
+      (costs-by early worn path (afterBy next) (by-index early worn path next bit) x)

@@ -10,12 +10,15 @@ use Rattle.digits.specs.Digits.{digitsOf, differing}
 use Rattle.digits.specs.Sums.{sumTo}
 use Rattle.table.specs.declared.Row.{Row}
 use Rattle.levels.specs.declared.order.Action.{Action}
+use Rattle.levels.specs.Sizes.{framesOf}
 use Rattle.levels.specs.Order.{actions, carries}
 use Rattle.promises.specs.Damage.{groupAt, allowed}
 use Rattle.promises.specs.Carried.{Room}
 use Rattle.judge_promises.specs.Verdicts.{Index, actsOn, actedLine}
 use Rattle.slips.specs.Slips.{leastOf}
-use Rattle.verdict.specs.Blocks.{Block}
+use Rattle.verdict.specs.Blocks.{Block, startOf}
+use Rattle.verdict.specs.Readings.{readBy, countsBy}
+use Rattle.verdict_promises.specs.Paths.{slipsOn, Path, lowIn}
 
 -- in how many of the first x columns of tributary j a place carries a digit, by what the frames do, and the digit has changed
 unfoldable pub changedIn : Row → (ℕ → Action) → ℕ → List ℕ → List ℕ → ℕ → ℕ
@@ -43,3 +46,18 @@ Along sent t path n = (i : ℕ) → i < n → getD t i 0 ≡ sent (i + path (suc
 -- what a reading costs, as the answer tells it: wrong digits and sixteen times the slips
 abbrev pub costTold : Block → ℕ
 costTold b = leastOf (b .lanes) / 4294967296
+
+-- the digits that a reading of tributary j by these votes has
+abbrev pub readCount : Row → List ℕ → ℕ → List ℕ → ℕ
+readCount row line j by = startOf (countsBy row by j) (framesOf row (length line))
+
+-- a path that explains a tributary t: its digits are what was sent along the path, and in each frame the path stays within the lanes of the reading by these votes
+pub record Explains (row : Row) (line : List ℕ) (sent : ℕ → ℕ) (j : ℕ) (by t : List ℕ) (path : ℕ → ℕ) : Type 0 where
+  pub few-frames : framesOf row (length line) ≤ 144115188075855872
+  pub few-slips : slipsOn path (readCount row line j by) < 4294967296
+  pub is-path : Path (lowIn sent (readBy row line by j) (countsBy row by j)) (countsBy row by j) (framesOf row (length line)) path
+  pub along : Along sent t path (readCount row line j by)
+
+-- an unknown vote is tried as stuffed for no tributary and for all four
+abbrev pub tried : Bool → ℕ
+tried t = cond t 15 0
