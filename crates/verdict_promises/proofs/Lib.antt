@@ -1,6 +1,7 @@
 pub mod Best
 pub mod Least
 pub mod Runs
+pub mod Right
 pub mod Frames
 pub mod Cuts
 pub mod Turns
