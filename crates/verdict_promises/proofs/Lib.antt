@@ -8,3 +8,4 @@ pub mod Turns
 pub mod Blocks
 pub mod Steady
 pub mod Worn
+pub mod Fits

@@ -2,3 +2,4 @@ pub mod Paths
 pub mod Turns
 pub mod Steady
 pub mod Worn
+pub mod Fits
