@@ -4,3 +4,4 @@ pub mod Fitting
 pub mod Verdicts
 pub mod Steady
 pub mod Beginnings
+pub mod Shown

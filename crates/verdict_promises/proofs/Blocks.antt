@@ -44,4 +44,3 @@ module _ (row : Row) (level earlier pattern : ℕ) (line : List ℕ) (next : ℕ
   pub after-block : recording .blocks (12 + j) ≡ ranAfter row pattern (lent j) line notes next j b0
   unfolding fedBlock freshState
   after-block = block-at (12 + j) 3 (omega arith) (omega arith)
-
