@@ -9,3 +9,4 @@ pub mod Blocks
 pub mod Steady
 pub mod Worn
 pub mod Fits
+pub mod Exhibits
