@@ -291,7 +291,7 @@ module _ (row : Row) (sh : Shared row) (level earlier next : ℕ) (tributary : �
       go true = known b
       go false = known a
 
-  at-most-either : (a b : List ℕ) → (costTold (betterOf (ran a) (ran b)) ≤ costTold (ran a)) × (costTold (betterOf (ran a) (ran b)) ≤ costTold (ran b))
+  pub at-most-either : (a b : List ℕ) → (costTold (betterOf (ran a) (ran b)) ≤ costTold (ran a)) × (costTold (betterOf (ran a) (ran b)) ≤ costTold (ran b))
   at-most-either a b =
       let both = better-both (ran a) (ran b) in
       let first = both .0 .costs (known a ∙ sym (better-known a b)) in
