@@ -159,19 +159,19 @@ goodLanes v (suc k) =
     && (leb (getD v (suc k) 0) 4611686018427387904
     && (leb (getD v (suc k) 0) (getD v k 0 + stepPrice) && leb (getD v k 0) (getD v (suc k) 0 + stepPrice)))
 
--- digits up to 2^60, a shift within 2^60, a pattern's window at lane 0 or no more than 23 digits before it
+-- digits up to 2^60, a shift within 2^60, a pattern's window no further than that
 unfoldable pub goodStanding : ℕ → Standing → Bool
 goodStanding pattern s =
     leb (s .read) 1152921504606846976
-    && (leb (s .from) (s .read)
+    && (leb (s .from + s .right) (s .read)
     && (leb (s .taken) 1
     && ((eqb (s .taken) 1 || not (eqb pattern 0))
-    && (leb (s .right) (s .read)
     && (leb 1152921504606846976 (s .low)
     && (leb (s .low) 3458764513820540928
+    && (leb (s .at) 6917529027641081856
     && (ltb (s .window) (2 ^ 23)
     && (ltb (s .follows) 64
-    && (eqb pattern 0 || (eqb (s .taken) 0 || (leb (s .at) (s .read + s .low) && leb (s .read + s .low) (s .at + 23))))))))))))
+    && (eqb (s .follows) 0 || leb (pattern + s .follows) (s .read))))))))))
 
 abbrev pub goodBlock : ℕ → Block → Bool
 goodBlock pattern b = goodStanding pattern (b .standing) && goodLanes (b .lanes) 16

@@ -1,4 +1,5 @@
 pub mod Patterns
 pub mod Blocks
+pub mod Going
 pub mod Readings
 pub mod Feed

@@ -1,8 +1,17 @@
 -- The test patterns: "the pseudo-random sequences of O.150 that test sets send, 2^15 − 1 (stages 14 and 15 fed back) and 2^23 − 1 (18 and 23), both sent
 -- inverted". Digits are held in a window: the 23 last ones as a number, the newest worth 1.
-use mathlib.Core.Bool.{Bool, cond, _&&_}
+use mathlib.Core.Path.{_≡_}
+use mathlib.Core.Logic.{_≢_}
+use mathlib.Core.Bool.{cond}
+use mathlib.Core.List.{List}
 use Prim.Native.Nat.{ℕ, zero, suc, _+_, _-_, _*_, _/_, _%_, _^_}
-use lib.Dec.{eqb, leb}
+use lib.Dec.{eqb}
+use Rattle.digits.specs.Digits.{tab}
+use Rattle.slips.specs.Slips.{lentFrom}
+
+-- a pattern that is not refused and not 0
+abbrev pub OneOfTwo : ℕ → Type 0
+OneOfTwo pattern = pattern ≢ 15 → pattern ≡ 23
 
 -- a pattern is known by its last stage, 15 or 23, which is fed back with this one
 abbrev pub stageOf : ℕ → ℕ
@@ -25,6 +34,10 @@ unfoldable pub windowAfter : ℕ → ℕ → ℕ → ℕ
 windowAfter pattern window zero = window
 windowAfter pattern window (suc n) = pushed (windowAfter pattern window n) (madeOf pattern (windowAfter pattern window n))
 
--- what was sent: the pattern goes on for ever from a window whose first digit has number `at`; before that there is none
-unfoldable pub patternFrom : ℕ → ℕ → ℕ → ℕ → ℕ
-patternFrom pattern window at m = cond (leb at m) (windowAfter pattern window (m - at) / 2 ^ 22 % 2) 2
+-- what was sent: the 1024 digits from a window on, whose first has number `at`. The window goes along with the lanes, a frame at a time, so that a frame
+-- asks for no other
+unfoldable pub patternDigits : ℕ → ℕ → List ℕ
+patternDigits pattern window = tab 1024 0 (λ (i : ℕ). windowAfter pattern window i / 2 ^ 22 % 2)
+
+abbrev pub patternFrom : ℕ → ℕ → ℕ → ℕ → ℕ
+patternFrom pattern window at = lentFrom at (patternDigits pattern window)

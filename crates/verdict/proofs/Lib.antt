@@ -1,0 +1,4 @@
+pub mod Windows
+pub mod FirstRight
+pub mod Carried
+pub mod Sizes
