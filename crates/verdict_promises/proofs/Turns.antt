@@ -1,7 +1,7 @@
 -- In turn: two feeds, each over whole frames, leave the state of one feed over both; the first is told the vote of the frame that the second begins with.
-use mathlib.Core.Path.{_≡_, refl, sym, _∙_, ap}
+use mathlib.Core.Path.{_≡_, refl, sym, _∙_, ap, subst}
 use mathlib.Core.Bool.{Bool, cond, true, false, _&&_}
-use mathlib.Core.List.{List, [], _∷_, _++_, append-assoc}
+use mathlib.Core.List.{List, [], _∷_, _++_, append-nil, append-assoc}
 use Prim.Native.Nat.{ℕ, zero, suc, _+_, _*_, _-_, _/_, _%_, _^_, _≤_, _<_}
 use native.Mathlib.Omega.{arith}
 use native.Mathlib.Decide.{decLt, ℕ-discrete}
@@ -23,7 +23,7 @@ use Rattle.reading.specs.Notes.{noteOf, notesOf}
 use Rattle.verdict.specs.Blocks.{Block, betterOf}
 use Rattle.verdict.specs.Readings.{majorities, ownVotes, beforeVotes, afterVotes, ranBy, ranAfter}
 use Rattle.verdict.specs.Feed.{State, ownWay, beforeNone, beforeAll, afterWay, decided, changesIn, voteAgo, fedBlock, fedState}
-use Rattle.verdict_promises.specs.Turns.{Same}
+use Rattle.verdict_promises.specs.Turns.{Same, fedInTurn, joined, Whole, AllWhole, no-more, one-more}
 use Rattle.verdict_promises.proofs.Cuts.{bitAt, frames-of, line-long, majorities-cat, ran-cat}
 
 -- ---- a vote of four bits
@@ -350,3 +350,65 @@ module _ (row : Row) (sh : Shared row) (s : State) (F G : ℕ) (one two : List �
         changes = λ j hj. changes-at j hj (framesOf row (length one)) (framesOf row (length two)) (framesOf row (length line)) (majorities row line) one-frames two-frames all-frames notes;
         blocks = λ b hb. block-cat (b % 4) (omega arith) (b / 4) (omega arith);
       }
+
+-- ---- and so is any number of them
+
+same-trans : (a b c : State) → Same a b → Same b c → Same a c
+same-trans a b c x y =
+    record {
+      level = x .level ∙ y .level;
+      pattern = x .pattern ∙ y .pattern;
+      came = x .came ∙ y .came;
+      older = x .older ∙ y .older;
+      last = x .last ∙ y .last;
+      older-all = x .older-all ∙ y .older-all;
+      last-all = x .last-all ∙ y .last-all;
+      changes = λ j h. x .changes j h ∙ y .changes j h;
+      blocks = λ k h. x .blocks k h ∙ y .blocks k h;
+    }
+
+same-refl : (a : State) → Same a a
+same-refl a =
+    record {
+      level = refl;
+      pattern = refl;
+      came = refl;
+      older = refl;
+      last = refl;
+      older-all = refl;
+      last-all = refl;
+      changes = λ j h. refl;
+      blocks = λ k h. refl;
+    }
+
+module _ (row : Row) (sh : Shared row) (next : ℕ) (lent : ℕ → ℕ → ℕ) where
+  all-bytes : (run : List ℕ) (runs : List (List ℕ)) → Whole row run → AllWhole row runs → Whole row (joined (run ∷ runs))
+  unfolding joined
+  all-bytes run [] w no-more = record { frames = w .frames; some = w .some; bytes = ap length (append-nil run) ∙ w .bytes }
+  all-bytes run (more ∷ runs) w (one-more m all) =
+      let rest = all-bytes more runs m all in
+      record { frames = w .frames + rest .frames; some = omega (arith, w .some); bytes = line-long row sh (w .frames) (rest .frames) run (joined (more ∷ runs)) (w .bytes) (rest .bytes) }
+
+  -- the vote that comes is the first run's
+  first-of : (run : List ℕ) (runs : List (List ℕ)) → Whole row run → AllWhole row runs → getD (majorities row (joined (run ∷ runs))) 0 0 ≡ getD (majorities row run) 0 0
+  unfolding joined
+  first-of run [] w no-more = ap (λ (l : List ℕ). getD (majorities row l) 0 0) (append-nil run)
+  first-of run (more ∷ runs) w (one-more m all) =
+      let rest = all-bytes more runs m all in
+      let long : length (majorities row run) ≡ w .frames = tab-length (framesOf row (length run)) 0 (noteOf row (digitsOf run)) ∙ frames-of row sh (length run) (w .frames) (w .bytes) in
+      ap (λ (l : List ℕ). getD l 0 0) (majorities-cat row sh (w .frames) (rest .frames) run (joined (more ∷ runs)) (w .bytes) (rest .bytes))
+      ∙ List·getD-append (majorities row run) (majorities row (joined (more ∷ runs))) 0 0 (omega (arith, long, w .some))
+
+  pub all-in-turn : (s : State) (run : List ℕ) (runs : List (List ℕ)) → Whole row run → AllWhole row runs
+      → Same (fedInTurn row s (run ∷ runs) next lent) (fedState row s (joined (run ∷ runs)) next lent)
+  unfolding fedInTurn joined
+  all-in-turn s run [] w no-more = subst (λ (l : List ℕ). Same (fedState row s run next lent) (fedState row s l next lent)) (sym (append-nil run)) (same-refl (fedState row s run next lent))
+  all-in-turn s run (more ∷ runs) w (one-more m all) =
+      let rest = all-bytes more runs m all in
+      let vote = getD (majorities row more) 0 0 % 16 in
+      let vote-is : getD (majorities row (joined (more ∷ runs))) 0 0 % 16 ≡ vote = ap (λ (n : ℕ). n % 16) (first-of more runs m all) in
+      let then-one = all-in-turn (fedState row s run vote lent) more runs m all in
+      let two = in-turn row sh s (w .frames) (rest .frames) run (joined (more ∷ runs)) (w .bytes) (rest .bytes) (rest .some) next lent in
+      same-trans (fedInTurn row (fedState row s run vote lent) (more ∷ runs) next lent) (fedState row (fedState row s run vote lent) (joined (more ∷ runs)) next lent)
+      (fedState row s (run ++ joined (more ∷ runs)) next lent) then-one
+      (subst (λ (v : ℕ). Same (fedState row (fedState row s run v lent) (joined (more ∷ runs)) next lent) (fedState row s (run ++ joined (more ∷ runs)) next lent)) vote-is two)
