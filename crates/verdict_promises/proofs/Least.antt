@@ -374,6 +374,10 @@ module _ (sent : ℕ → ℕ) (ds : List ℕ) (low counts : ℕ → ℕ) (F : �
       let costs : getD (lanes F 0) (f .at) 0 ≡ priceOn (to .path) (start F) + stepPrice * apart (low F + f .at) (to .path (start F)) = rw (add-zero (start F)) at (to .price) in
       record { path = to .path; is-path = is; price = omega (arith, f .least, costs, least-below (to .path) is) }
 
+  least-of : (v : List ℕ) (m : ℕ) → m ≤ 16 → leastOf v ≤ getD v m 0
+  unfolding leastOf
+  least-of v m h = least-le 16 (λ (k : ℕ). getD v k 0) m h
+
   -- as cost and slips: a number below 2^63 is a cost below 2^31, and a path has no more slips than a sixteenth of its cost
   as-number : (w s : ℕ) → wrongPrice * w + stepPrice * s ≡ 2 ^ 32 * (w + 16 * s) + s
   as-number w s = omega arith
@@ -413,3 +417,95 @@ module _ (sent : ℕ → ℕ) (ds : List ℕ) (low counts : ℕ → ℕ) (F : �
     where
       other-number : (other : ℕ → ℕ) → Path low counts F other → leastOf (lanes F 0) ≤ 2 ^ 32 * costOn sent ds other (start F) + slipsOn other (start F)
       other-number other is = rw (← as-number (wrongsOn sent ds other (start F)) (slipsOn other (start F))) (least-below other is)
+
+  -- ---- a path with few wrong digits and few slips stays in the lanes: they cannot have gone far from it
+
+  -- a path is no further from shift 0 than it has slips
+  far-slips : (path : ℕ → ℕ) → path 0 ≡ zeroAt → (n : ℕ) → apart (path n) zeroAt ≤ slipsOn path n
+  unfolding slipsOn sumTo
+  far-slips path begins zero = omega (arith, begins)
+  far-slips path begins (suc n) = omega (arith, far-slips path begins n, triangle (path (suc n)) (path n) zeroAt)
+
+  slips-up : (path : ℕ → ℕ) (n m : ℕ) → slipsOn path n ≤ slipsOn path (n + m)
+  unfolding slipsOn sumTo
+  slips-up path n zero = rw (add-zero n) (omega arith)
+  slips-up path n (suc m) = rw (add-suc n m) (omega (arith, slips-up path n m))
+
+  wrongs-up : (path : ℕ → ℕ) (n m : ℕ) → wrongsOn sent ds path n ≤ wrongsOn sent ds path (n + m)
+  unfolding wrongsOn sumTo
+  wrongs-up path n zero = rw (add-zero n) (omega arith)
+  wrongs-up path n (suc m) = rw (add-suc n m) (omega (arith, wrongs-up path n m))
+
+  -- a lane costs at least the steps that lie between it and shift 0
+  lane-far : (f n k : ℕ) → Reached f n k → stepPrice * apart (low f + k) zeroAt ≤ getD (lanes f n) k 0
+  lane-far f n k to =
+      far (getD (lanes f n) k 0) (wrongsOn sent ds (to .path) (start f + n)) (slipsOn (to .path) (start f + n)) (apart (low f + k) (to .path (start f + n))) (apart (to .path (start f + n)) zeroAt)
+      (apart (low f + k) zeroAt) (to .price) (far-slips (to .path) (to .passed .begins) (start f + n)) (triangle (low f + k) (to .path (start f + n)) zeroAt)
+    where
+      far : (v w s a b c : ℕ) → v ≡ wrongPrice * w + stepPrice * s + stepPrice * a → b ≤ s → c ≤ a + b → stepPrice * c ≤ v
+      far v w s a b c x y z = omega arith
+
+  module _ (path : ℕ → ℕ) (begins : path 0 ≡ zeroAt) (e k : ℕ) (wrong : wrongsOn sent ds path (start F) ≤ e) (slipped : slipsOn path (start F) ≤ k) (few : e + 32 * k ≤ 143) where
+    start-to : (f : ℕ) → f ≤ F → (g : ℕ) → f + g ≡ F → start F ≡ start f + (start F - start f)
+    start-to f hf g it = omega (arith, up f g, ap (λ (x : ℕ). startOf counts x) it)
+      where
+        up : (f g : ℕ) → start f ≤ start (f + g)
+        up f zero = rw (add-zero f) (omega arith)
+        up f (suc g) = rw (add-suc f g) (omega (arith, up f g, start-next (f + g)))
+
+    -- the middle of a frame is no further from shift 0 than the path's cost allows
+    middle-near : (f : ℕ) → f ≤ F → ((g m : ℕ) → g < f → m < counts g → Near (low g) (path (suc (start g + m)))) → 16 * apart (low f + 8) zeroAt ≤ e + 16 * k
+    middle-near zero hf whole = omega (arith, runs .first-low)
+    middle-near (suc f) hf whole =
+        let here : NearIn path f (counts f) = λ m l. whole f m (omega arith) l in
+        let near = near-end path f (omega arith) here in
+        let v = lanes f (counts f) in
+        let n = start f + counts f in
+        let m = path n - low f in
+        let below = digits-below path f (omega arith) (frames-below path begins f (omega arith) (λ g i hg hi. whole g i (omega arith) hi)) (counts f) (omega arith) here m (omega (arith, near .0, near .1)) in
+        let none : apart (low f + m) (path n) ≡ 0 = omega (arith, near .0) in
+        let least : getD v (best f) 0 ≤ getD v m 0 = best-under v m (omega (arith, near .0, near .1)) in
+        let far = lane-far f (counts f) (best f) (digits-reached f (omega arith) (frames-reached f (omega arith)) (counts f) (omega arith) (best f) (best-lane v)) in
+        let to : start F ≡ n + (start F - n) = rw (start-next f) at (start-to (suc f) hf (F - suc f) (omega arith)) in
+        let w : wrongsOn sent ds path n ≤ e = omega (arith, wrongs-up path n (start F - n), ap (wrongsOn sent ds path) to, wrong) in
+        let s : slipsOn path n ≤ k = omega (arith, slips-up path n (start F - n), ap (slipsOn path) to, slipped) in
+        let middle : low (suc f) + 8 ≡ low f + best f = omega (arith, runs .next-low f (omega arith), runs .far f (omega arith)) in
+        rw middle
+        (few-steps (apart (low f + best f) zeroAt) (getD v (best f) 0) (getD v m 0) (wrongsOn sent ds path n) (slipsOn path n) (apart (low f + m) (path n)) far least below none w s)
+      where
+        best-under : (v : List ℕ) (m : ℕ) → m ≤ 16 → getD v (bestOf v) 0 ≤ getD v m 0
+        best-under v m h = omega (arith, best-least v, least-of v m h)
+
+        few-steps : (a x y w s z : ℕ) → stepPrice * a ≤ x → x ≤ y → y ≤ wrongPrice * w + stepPrice * s + stepPrice * z → z ≡ 0 → w ≤ e → s ≤ k → 16 * a ≤ e + 16 * k
+        few-steps a x y w s z h g l n hw hs = omega (arith, few)
+
+    -- so every digit of the path is within 8 of the middle of its frame
+    pub few-stays : (f : ℕ) → f ≤ F → (g m : ℕ) → g < f → m < counts g → Near (low g) (path (suc (start g + m)))
+    few-stays zero hf g m hg hm = absurd (none g hg)
+      where
+        none : (g : ℕ) → g < 0 → ⊥
+        none g h = omega arith
+    few-stays (suc f) hf g m hg hm =
+        elim (ℕ-discrete g f) [
+          | yes it ↦
+              let inside : start g + m < start F = start-below F g m (omega (arith, it)) hm in
+              let i = suc (start g + m) in
+              let s : slipsOn path i ≤ k = slips-to i (omega arith) in
+              let middle = middle-near g (omega (arith, it)) (λ h n hh hn. few-stays f (omega arith) h n (omega (arith, it)) hn) in
+              near-by (low g) (path i) middle (omega (arith, far-slips path begins i, s)) (runs-far g (omega (arith, it)))
+          | no it ↦ few-stays f (omega arith) g m (omega arith) hm
+        ]
+      where
+        slips-to : (i : ℕ) → i ≤ start F → slipsOn path i ≤ k
+        slips-to i h =
+            let to : start F ≡ i + (start F - i) = omega arith in
+            omega (arith, slips-up path i (start F - i), ap (slipsOn path) to, slipped)
+
+        runs-far : (g : ℕ) → g < F → 8 ≤ low g
+        runs-far g h = runs .far g h
+
+        near-by : (l p : ℕ) → 16 * apart (l + 8) zeroAt ≤ e + 16 * k → apart p zeroAt ≤ k → 8 ≤ l → Near l p
+        near-by l p h g far = (omega (arith, few), omega (arith, few))
+
+    pub few-path : Path low counts F path
+    few-path = record { begins = begins; within = few-stays F (omega arith) }
