@@ -37,17 +37,17 @@ use Rattle.judge_promises.proofs.Acted.{carried-other, line-group}
 use Rattle.judge_promises.proofs.Readings.{index-alike}
 use Rattle.judge_promises.proofs.Acted as Acted
 use Rattle.slips.specs.Slips.{wrongPrice, stepPrice, wrongOf, leastOf}
-use Rattle.verdict.specs.Blocks.{Block, freshBlock, isBetter, betterOf, digitsTo, startOf}
+use Rattle.verdict.specs.Blocks.{Block, zeroAt, freshBlock, isBetter, betterOf, digitsTo, startOf}
 use Rattle.verdict.specs.Readings.{majorities, readBy, carriedIn, countsBy, ranBy, ranAfter, ownVotes, beforeVotes, afterVotes}
 use Rattle.verdict_promises.specs.Paths.{wrongsOn, slipsOn, Path, fromFresh, lowIn}
 use Rattle.verdict.specs.Feed.{State}
 use Rattle.verdict_promises.specs.Steady.{recorded, byBefore, byAfter, NoDearer}
-use Rattle.verdict_promises.specs.Worn.{changedIn, Worn, Along, costTold, readCount, Explains, tried}
+use Rattle.verdict_promises.specs.Worn.{changedIn, Worn, Along, costTold, readCount, Explains, Few, tried}
 use Rattle.verdict_promises.proofs.Frames.{taken-more}
 use Rattle.verdict_promises.proofs.Cuts.{bitAt, actsOf, in-columns, frames-of, start-counts}
 use Rattle.verdict_promises.proofs.Blocks.{own-block, none-block, all-block, after-block}
 use Rattle.verdict_promises.proofs.Steady.{Alike, acts-alike, better-both}
-use Rattle.verdict_promises.proofs.Least.{least-below}
+use Rattle.verdict_promises.proofs.Least.{least-below, few-path}
 use Rattle.verdict_promises.proofs.Runs.{Known, lanesIn, run-known, run-lanes}
 
 -- ---- a frame has some digits of each tributary, stuffed or not
@@ -245,6 +245,12 @@ module _ (row : Row) (sh : Shared row) (index : Index) (earlier : ℕ) (tributar
           told : (x w k : ℕ) → x ≤ wrongPrice * w + stepPrice * k → w ≤ e → k < 4294967296 → x / 4294967296 ≤ e + 16 * k
           told x w k h l g = omega arith
 
+      -- with few digits changed and few slips the path cannot leave the lanes
+      pub few-inside : F ≤ 144115188075855872 → path 0 ≡ zeroAt → Along lent (tributary j) path n → e + 32 * slipsOn path n ≤ 143 → Path low counts F path
+      unfolding digitsTo
+      few-inside few begins along small =
+          few-path lent R low counts F (lanesIn lent R counts) (run-lanes lent R counts F few (λ f h. some-counts row sh by j f)) path begins e (slipsOn path n) (wrong-along along) (omega arith) small
+
 -- ---- the three readings of a recording, fed to a fresh state and held against digits that were sent
 
 module _ (row : Row) (sh : Shared row) (level earlier next : ℕ) (tributary : ℕ → List ℕ) (line : List ℕ) (lent : ℕ → ℕ → ℕ) (j e : ℕ) (hj : j < 4) where
@@ -274,6 +280,19 @@ module _ (row : Row) (sh : Shared row) (level earlier next : ℕ) (tributary : �
     costs-by by alike x =
         rw frames-all
         (costs-at-most row sh index earlier tributary line j e hj worn by alike (lent j) path (rw frames-all at (x .few-frames)) (rw frames-all at (x .few-slips)) (rw frames-all at (x .is-path)) (rw frames-all at (x .along)))
+
+    few-explains : (by : List ℕ) → Alike row j G by (actsOn row index earlier (worn .notes) (worn .unknown)) → Few row line (lent j) j by (tributary j) e path
+        → Explains row line (lent j) j by (tributary j) path
+    few-explains by alike x =
+        record {
+          few-frames = x .few-frames;
+          few-slips = omega (arith, x .few);
+          is-path =
+              rw frames-all
+              (few-inside row sh index earlier tributary line j e hj worn by alike (lent j) path (rw frames-all at (x .few-frames)) (x .begins) (rw frames-all at (x .along))
+              (rw frames-all at (x .few)));
+          along = x .along;
+        }
 
   tried-bit : (t : Bool) → stuffed (tried t) j ≡ t
   tried-bit true = of-four (λ (j : ℕ). stuffed 15 j ≡ true) refl refl refl refl j hj
@@ -307,11 +326,13 @@ module _ (row : Row) (sh : Shared row) (level earlier next : ℕ) (tributary : �
   abbrev pub ownBy : List ℕ
   ownBy = ownVotes (cond (hasNegative row) earlier 0) maj
 
+  own-alike : (worn : Worn row right earlier tributary line j e) → Alike row j (length (worn .notes)) ownBy (actsOn row right earlier (worn .notes) (worn .unknown))
+  own-alike worn = let a = by-index right worn (λ i. 0) (worn .unknown) refl in record { before = λ n. rw n refl; own = a .own }
+
   pub right-costs : (worn : Worn row right earlier tributary line j e) (path : ℕ → ℕ) → Explains row line (lent j) j ownBy (tributary j) path
       → costTold (recording .blocks j) ≤ e + 16 * slipsOn path (readCount row line j ownBy)
   right-costs worn path x =
-      let a = by-index right worn path (worn .unknown) refl in
-      let alike : Alike row j (length (worn .notes)) ownBy (actsOn row right earlier (worn .notes) (worn .unknown)) = record { before = λ n. rw n refl; own = a .own } in
+      let alike = own-alike worn in
       subst (λ (b : Block). costTold b ≤ e + 16 * slipsOn path (readCount row line j ownBy)) (sym (own-block row level earlier 0 line next lent j hj))
       (costs-by right worn path ownBy alike x)
 
@@ -353,3 +374,22 @@ module _ (row : Row) (sh : Shared row) (level earlier next : ℕ) (tributary : �
       let is : byAfter recording j ≡ ran (afterBy next) = after-block row level earlier 0 line next lent j hj ∙ rw (ne-eqb next 16 told) refl in
       subst (λ (b : Block). costTold b ≤ e + 16 * slipsOn path (readCount row line j (afterBy next))) (sym is)
       (costs-by early worn path (afterBy next) (by-index early worn path next bit) x)
+
+  -- ---- and where few digits changed and few slipped nothing more is asked: the path stays in the lanes
+
+  pub right-few : (worn : Worn row right earlier tributary line j e) (path : ℕ → ℕ) → Few row line (lent j) j ownBy (tributary j) e path
+      → costTold (recording .blocks j) ≤ e + 16 * slipsOn path (readCount row line j ownBy)
+  right-few worn path x = right-costs worn path (few-explains right worn path ownBy (own-alike worn) x)
+
+  pub late-few : (worn : Worn row late earlier tributary line j e) (path : ℕ → ℕ) → Few row line (lent j) j (beforeBy (stuffed (worn .unknown) j)) (tributary j) e path
+      → costTold (byBefore recording j) ≤ e + 16 * slipsOn path (readCount row line j (beforeBy (stuffed (worn .unknown) j)))
+  late-few worn path x =
+      let t = stuffed (worn .unknown) j in
+      late-costs worn path (few-explains late worn path (beforeBy t) (by-index late worn path (tried t) (tried-bit t)) x)
+
+  pub early-few : next ≡ 16 → (worn : Worn row early earlier tributary line j e) (path : ℕ → ℕ)
+      → Few row line (lent j) j (afterBy (tried (stuffed (worn .unknown) j))) (tributary j) e path
+      → costTold (byAfter recording j) ≤ e + 16 * slipsOn path (readCount row line j (afterBy (tried (stuffed (worn .unknown) j))))
+  early-few unknown worn path x =
+      let t = stuffed (worn .unknown) j in
+      early-costs unknown worn path (few-explains early worn path (afterBy (tried t)) (by-index early worn path (tried t) (tried-bit t)) x)

@@ -16,7 +16,7 @@ use Rattle.promises.specs.Damage.{groupAt, allowed}
 use Rattle.promises.specs.Carried.{Room}
 use Rattle.judge_promises.specs.Verdicts.{Index, actsOn, actedLine}
 use Rattle.slips.specs.Slips.{leastOf}
-use Rattle.verdict.specs.Blocks.{Block, startOf}
+use Rattle.verdict.specs.Blocks.{Block, zeroAt, startOf}
 use Rattle.verdict.specs.Readings.{readBy, countsBy}
 use Rattle.verdict_promises.specs.Paths.{slipsOn, Path, lowIn}
 
@@ -57,6 +57,13 @@ pub record Explains (row : Row) (line : List ℕ) (sent : ℕ → ℕ) (j : ℕ)
   pub few-slips : slipsOn path (readCount row line j by) < 4294967296
   pub is-path : Path (lowIn sent (readBy row line by j) (countsBy row by j)) (countsBy row by j) (framesOf row (length line)) path
   pub along : Along sent t path (readCount row line j by)
+
+-- the same of few: e changed digits and twice the slips, each for sixteen digits, come to no more than 143; then nothing is asked of lanes
+pub record Few (row : Row) (line : List ℕ) (sent : ℕ → ℕ) (j : ℕ) (by t : List ℕ) (e : ℕ) (path : ℕ → ℕ) : Type 0 where
+  pub few-frames : framesOf row (length line) ≤ 144115188075855872
+  pub begins : path 0 ≡ zeroAt
+  pub along : Along sent t path (readCount row line j by)
+  pub few : e + 32 * slipsOn path (readCount row line j by) ≤ 143
 
 -- an unknown vote is tried as stuffed for no tributary and for all four
 abbrev pub tried : Bool → ℕ
