@@ -55,7 +55,7 @@ pub record Lanes (sent : ℕ → ℕ) (ds : List ℕ) (low counts : ℕ → ℕ)
   pub next-low : (f : ℕ) → f < F → low (suc f) ≡ low f + bestOf (lanes f (counts f)) - 8
   pub next : (f : ℕ) → f < F → lanes (suc f) 0 ≡ laidOf (lanes f (counts f)) (bestOf (lanes f (counts f)))
   pub far : (f : ℕ) → f < F → 8 ≤ low f
-  pub some : (f : ℕ) → f < F → 0 < counts f
+  pub some : (f : ℕ) → 0 < f → f < F → 0 < counts f
 
 module _ (sent : ℕ → ℕ) (ds : List ℕ) (low counts : ℕ → ℕ) (F : ℕ) (lanes : ℕ → ℕ → List ℕ) (runs : Lanes sent ds low counts F lanes) where
   abbrev start : ℕ → ℕ
@@ -140,10 +140,19 @@ module _ (sent : ℕ → ℕ) (ds : List ℕ) (low counts : ℕ → ℕ) (F : �
         (below-step (low f) (lanes f n) path (start f + n) (near n (omega arith)) (digits-below f hf base n (omega arith) (λ m l. near m (omega arith))))
 
     -- where it holds the last digit of a frame
-    near-end : (f : ℕ) → f < F → NearIn f (counts f) → Near (low f) (path (start f + counts f))
-    near-end f hf near =
-        let e : start f + counts f ≡ suc (start f + (counts f - 1)) = omega (arith, runs .some f hf) in
-        rw e (near (counts f - 1) (omega (arith, runs .some f hf)))
+    near-end : path 0 ≡ zeroAt → (f : ℕ) → f < F → NearIn f (counts f) → Near (low f) (path (start f + counts f))
+    near-end begins f hf near =
+        elim (ℕ-discrete (counts f) 0) [
+          | yes none ↦ at-start f hf none
+          | no some ↦ let e : start f + counts f ≡ suc (start f + (counts f - 1)) = omega (arith, some) in rw e (near (counts f - 1) (omega (arith, some)))
+        ]
+      where
+        at-start : (f : ℕ) → f < F → counts f ≡ 0 → Near (low f) (path (start f + counts f))
+        at-start zero hf none = rw (none, add-zero (start 0), start-none, begins, runs .first-low) (omega arith, omega arith)
+        at-start (suc f) hf none = absurd (never (runs .some (suc f) (omega arith) hf))
+          where
+            never : 0 < counts (suc f) → ⊥
+            never h = omega (arith, none)
 
     frames-below : path 0 ≡ zeroAt → (f : ℕ) → f ≤ F → ((g m : ℕ) → g < f → m < counts g → Near (low g) (path (suc (start g + m))))
         → Below (low f) (lanes f 0) path (start f)
@@ -156,7 +165,7 @@ module _ (sent : ℕ → ℕ) (ds : List ℕ) (low counts : ℕ → ℕ) (F : �
         let here : NearIn f (counts f) = λ m l. near f m (omega arith) l in
         let before = frames-below begins f (omega arith) (λ g m h l. near g m (omega arith) l) in
         rw (runs .next f (omega arith), runs .next-low f (omega arith), start-next f)
-        (below-laid (low f) (bestOf (lanes f (counts f))) (lanes f (counts f)) path (start f + counts f) (runs .far f (omega arith)) (near-end f (omega arith) here)
+        (below-laid (low f) (bestOf (lanes f (counts f))) (lanes f (counts f)) path (start f + counts f) (runs .far f (omega arith)) (near-end begins f (omega arith) here)
         (digits-below f (omega arith) before (counts f) (omega arith) here))
 
   -- ---- and one has it: each lane was come to by a path
@@ -304,7 +313,7 @@ module _ (sent : ℕ → ℕ) (ds : List ℕ) (low counts : ℕ → ℕ) (F : �
 
       below : getD (laidOf v (best f)) k 0 ≤ priceOn path N + stepPrice * apart (l + k) (path N)
       below =
-          below-laid (low f) (best f) v path N (runs .far f hf) (near-end path f hf (to .passed .part))
+          below-laid (low f) (best f) v path N (runs .far f hf) (near-end path (to .passed .begins) f hf (to .passed .part))
           (digits-below path f hf (frames-below path (to .passed .begins) f (omega arith) (to .passed .whole)) (counts f) (omega arith) (to .passed .part)) k hk
 
       same : getD (laidOf v (best f)) k 0 ≡ priceOn path N + stepPrice * apart (l + k) (path N)
@@ -353,7 +362,7 @@ module _ (sent : ℕ → ℕ) (ds : List ℕ) (low counts : ℕ → ℕ) (F : �
           (frames-below path (is .begins) 0 hf (path-whole path is 0 hf))
       go (suc f) hf =
           let here : NearIn path f (counts f) = λ m l. is .within f m (omega arith) l in
-          let near = near-end path f (omega arith) here in
+          let near = near-end path (is .begins) f (omega arith) here in
           let v = lanes f (counts f) in
           let below = digits-below path f (omega arith) (frames-below path (is .begins) f (omega arith) (path-whole path is f (omega arith))) (counts f) (omega arith) here in
           let least = under v (low f) (start f + counts f) (path (start f + counts f) - low f) (omega (arith, near .0, near .1)) (omega (arith, near .0)) below in
@@ -458,7 +467,7 @@ module _ (sent : ℕ → ℕ) (ds : List ℕ) (low counts : ℕ → ℕ) (F : �
     middle-near zero hf whole = omega (arith, runs .first-low)
     middle-near (suc f) hf whole =
         let here : NearIn path f (counts f) = λ m l. whole f m (omega arith) l in
-        let near = near-end path f (omega arith) here in
+        let near = near-end path begins f (omega arith) here in
         let v = lanes f (counts f) in
         let n = start f + counts f in
         let m = path n - low f in

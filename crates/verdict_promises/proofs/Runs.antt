@@ -85,7 +85,7 @@ module _ (sent : ℕ → ℕ) where
             next-low = λ f hf. laid-known (startOf counts f + counts f) (lowIn sent ds counts f) (blockIn f (counts f)) (within f (counts f)) .is-low;
             next = λ f hf. laid-lanes (startOf counts f + counts f) (lowIn sent ds counts f) (blockIn f (counts f)) (within f (counts f));
             far = λ f hf. omega (arith, low-far f);
-            some = some;
+            some = λ f h hf. some f hf;
           }
         where
           within : (f n : ℕ) → Known (startOf counts f + n) (lowIn sent ds counts f) (blockIn f n)
