@@ -39,16 +39,9 @@ use Rattle.verdict_promises.specs.Paths.{fromFresh}
 use Rattle.verdict_promises.proofs.Cuts.{actsOf, in-columns, frames-of, start-counts, read-length}
 use Rattle.verdict_promises.proofs.Blocks.{own-block, none-block, all-block, after-block}
 use Rattle.verdict_promises.proofs.Steady.{Alike, ran-alike}
+use Rattle.verdict_promises.proofs.Pattern.{lent-at}
 use Rattle.verdict_promises.proofs.Right.{Right, right-free, free-right}
 use Rattle.verdict_promises.proofs.Worn.{some-counts, at-most-either}
-
--- ---- a digit that is lent
-
-lent-at : (base : ℕ) (sent : List ℕ) (m i : ℕ) → m ≡ base + i → i < length sent → lentFrom base sent m ≡ getD sent i 0
-unfolding lentFrom
-lent-at base sent m i e h =
-    let back : m - base ≡ i = omega (arith, e) in
-    rw (le-leb base m (omega (arith, e)), lt-ltb m (base + length sent) (omega (arith, e)), back) refl
 
 none-or-one : (t : Bool) → _≡_ {A = ℕ} (cond t 0 1) 0 → t ≡ true
 none-or-one true e = refl

@@ -2,6 +2,7 @@ pub mod Best
 pub mod Least
 pub mod Runs
 pub mod Right
+pub mod Pattern
 pub mod Frames
 pub mod Cuts
 pub mod Turns

@@ -2,11 +2,12 @@
 -- at number i + s. It costs 1 for each digit that differs and 16 for each step of the shift by one. Shifts are held `zeroAt` too high, so that none is below 0.
 use mathlib.Core.Path.{_≡_}
 use mathlib.Core.List.{List}
-use Prim.Native.Nat.{ℕ, suc, _+_, _*_, _/_, _%_, _≤_, _<_}
+use Prim.Native.Nat.{ℕ, suc, _+_, _-_, _*_, _/_, _%_, _^_, _≤_, _<_}
 use lib.ListN.{getD}
 use Rattle.digits.specs.Sums.{sumTo}
-use Rattle.slips.specs.Slips.{apart, wrongOf}
-use Rattle.verdict.specs.Blocks.{Block, zeroAt, freshBlock, startOf, framesTo}
+use Rattle.slips.specs.Slips.{apart, wrongOf, fresh}
+use Rattle.verdict.specs.Patterns.{windowAfter}
+use Rattle.verdict.specs.Blocks.{Block, zeroAt, freshLow, freshBlock, startOf, framesTo}
 
 -- ---- a path: `path 0` is where it begins, `path (suc i)` the shift of digit i
 
@@ -50,3 +51,23 @@ fromFresh sent ds counts f = framesTo 0 sent ds counts (freshBlock 0) f
 -- the shift of lane 0 in frame f
 abbrev pub lowIn : (ℕ → ℕ) → List ℕ → (ℕ → ℕ) → ℕ → ℕ
 lowIn sent ds counts f = fromFresh sent ds counts f .standing .low
+
+-- ---- with a pattern: from the digit on after which it was taken up
+
+-- what was sent: the pattern goes on for ever from a window whose first digit has number `at`
+unfoldable pub goesOn : ℕ → ℕ → ℕ → ℕ → ℕ
+goesOn pattern window at m = windowAfter pattern window (m - at) / 2 ^ 22 % 2
+
+-- a block whose pattern has just been taken up: lanes as fresh, and a window of the last 23 digits
+pub record JustTaken (b : Block) : Type 0 where
+  pub taken : b .standing .taken ≡ 1
+  pub is-low : b .standing .low ≡ freshLow
+  pub is-fresh : b .lanes ≡ fresh
+  pub window-at : b .standing .at + 23 ≡ zeroAt + b .standing .read
+
+-- the frames from there on: the first is the rest of the one in which it was taken up
+abbrev pub sentFrom : ℕ → Block → ℕ → ℕ
+sentFrom pattern b m = goesOn pattern (b .standing .window) (b .standing .at) (b .standing .read + m)
+
+abbrev pub lowFrom : ℕ → (ℕ → ℕ) → List ℕ → (ℕ → ℕ) → Block → ℕ → ℕ
+lowFrom pattern lent ds counts b f = framesTo pattern lent ds counts b f .standing .low
