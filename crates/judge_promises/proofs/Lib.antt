@@ -5,3 +5,4 @@ pub mod Verdicts
 pub mod Steady
 pub mod Beginnings
 pub mod Shown
+pub mod Late

@@ -38,6 +38,16 @@ use Rattle.judge_promises.proofs.Fitting.{stage-least}
 
 -- ---- the line of a multiplexer
 
+module _ (row : Row) (sh : Shared row) where
+  some-bytes : 0 < row .bytes
+  some-bytes = omega (arith, sh .packed, digits-some)
+    where
+      digits-some : 0 < row .digits
+      digits-some = omega (arith, in-frame row sh 0 0 (omega (arith, sh .later-set)) (omega (arith, sh .room)))
+
+  pub whole-frames : (n F : ℕ) → n ≡ F * row .bytes → framesOf row n ≡ F
+  whole-frames n F e = ap (λ (k : ℕ). k / row .bytes) (e ∙ sym (add-zero (F * row .bytes))) ∙ digits-div F some-bytes
+
 module _ (row : Row) (sh : Shared row) (index : Index) (earlier : ℕ) (notes : List ℕ) (unknown : ℕ) (t : ℕ → List ℕ) (binary : (j : ℕ) → j < 4 → Binary (t j)) where
   abbrev F : ℕ
   F = length notes
@@ -69,17 +79,11 @@ module _ (row : Row) (sh : Shared row) (index : Index) (earlier : ℕ) (notes : 
   pub line-bytes : length (madeLine row index earlier notes unknown t) ≡ F * row .bytes
   line-bytes = bytes-length (F * row .bytes) line
 
-  some-bytes : 0 < row .bytes
-  some-bytes = omega (arith, sh .packed, digits-some)
-    where
-      digits-some : 0 < row .digits
-      digits-some = omega (arith, in-frame row sh 0 0 (omega (arith, sh .later-set)) (omega (arith, sh .room)))
-
   pub line-frames : framesOf row (length (madeLine row index earlier notes unknown t)) ≡ F
-  line-frames = ap (λ (k : ℕ). k / row .bytes) (line-bytes ∙ sym (add-zero (F * row .bytes))) ∙ digits-div F some-bytes
+  line-frames = whole-frames row sh (length (madeLine row index earlier notes unknown t)) F line-bytes
 
   pub line-whole : length (madeLine row index earlier notes unknown t) % row .bytes ≡ 0
-  line-whole = ap (λ (k : ℕ). k % row .bytes) (line-bytes ∙ sym (add-zero (F * row .bytes))) ∙ digits-mod F some-bytes
+  line-whole = ap (λ (k : ℕ). k % row .bytes) (line-bytes ∙ sym (add-zero (F * row .bytes))) ∙ digits-mod F (some-bytes row sh)
 
   -- a right, a late and an early multiplexer have made it, of these digits, and nothing was changed
   pub made-shown : Room row F t → Made row index earlier t (madeLine row index earlier notes unknown t)
