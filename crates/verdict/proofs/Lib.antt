@@ -2,3 +2,4 @@ pub mod Windows
 pub mod FirstRight
 pub mod Carried
 pub mod Sizes
+pub mod Kept

@@ -2,7 +2,7 @@
 use mathlib.Core.Path.{_≡_}
 use mathlib.Core.Bool.{Bool, cond, true, _&&_, _||_, not}
 use mathlib.Core.List.{List, [], _∷_, _++_}
-use Prim.Native.Nat.{ℕ, zero, suc, _+_, _-_, _*_, _/_, _%_, _^_, _≤_, _<_}
+use Prim.Native.Nat.{ℕ, zero, suc, _+_, _-_, _*_, _/_, _%_, _^_, _≤_, _<_, min}
 use lib.Dec.{eqb, leb, ltb}
 use lib.ListN.{length, getD, take, drop, replicate}
 use Rattle.digits.specs.Digits.{digitsOf}
@@ -15,6 +15,7 @@ use Rattle.levels.specs.Judging.{badEarlier}
 use Rattle.slips.specs.Slips.{stepPrice, lentFrom, leastOf, bestOf}
 use Rattle.verdict.specs.declared.standing.Standing.{Standing}
 use Rattle.verdict.specs.Blocks.{Block, zeroAt, freshBlock, betterOf}
+use Rattle.verdict.specs.Keeping.{blockNumbers, blockFrom}
 use Rattle.verdict.specs.Readings.{majorities, ownVotes, beforeVotes, ranBy, ranAfter}
 
 -- ---- a state
@@ -48,11 +49,6 @@ pub record State : Type 0 where
 
 -- ---- its numbers: 11, and 42 for each of the sixteen blocks
 
-abbrev pub blockNumbers : Block → List ℕ
-blockNumbers b =
-    let s = b .standing in
-    (s .read ∷ s .from ∷ s .taken ∷ s .right ∷ s .low ∷ s .at ∷ s .window ∷ s .follows ∷ []) ++ (b .lanes ++ b .marks)
-
 unfoldable pub blocksNumbers : ℕ → (ℕ → Block) → List ℕ
 blocksNumbers zero g = []
 blocksNumbers (suc n) g = blocksNumbers n g ++ blockNumbers (g n)
@@ -77,23 +73,7 @@ abbrev pub stateSize : ℕ
 stateSize = 683
 
 abbrev pub blockAt : List ℕ → ℕ → Block
-blockAt ns b =
-    let a = 11 + 42 * b in
-    record {
-      standing =
-          record {
-            read = getD ns a 0;
-            from = getD ns (a + 1) 0;
-            taken = getD ns (a + 2) 0;
-            right = getD ns (a + 3) 0;
-            low = getD ns (a + 4) 0;
-            at = getD ns (a + 5) 0;
-            window = getD ns (a + 6) 0;
-            follows = getD ns (a + 7) 0;
-          };
-      lanes = take 17 (drop (a + 8) ns);
-      marks = take 17 (drop (a + 25) ns);
-    }
+blockAt ns b = blockFrom (take 42 (drop (11 + 42 * b) ns))
 
 unfoldable pub stateFrom : List ℕ → State
 stateFrom ns =
@@ -209,9 +189,9 @@ changesIn came votes j F =
 abbrev pub voteAgo : ℕ → ℕ → List ℕ → ℕ → ℕ
 voteAgo older last notes n = getD (older ∷ last ∷ notes) (length notes + 1 - n) 0 % 16
 
--- what was sent: the digits of tributary j's quarter, the first of them with number `first`
+-- what was sent: the digits of tributary j's quarter, the first of them with number `first`; no reading comes to a number over 2^62
 abbrev pub lentTo : List ℕ → ℕ → ℕ → ℕ → ℕ
-lentTo sent first j = lentFrom (zeroAt + first) (digitsOf (quarterOf sent j))
+lentTo sent first j = lentFrom (zeroAt + min first 4611686018427387904) (digitsOf (quarterOf sent j))
 
 -- the block of way w and tributary j after these frames
 unfoldable pub fedBlock : Row → State → List ℕ → ℕ → (ℕ → ℕ → ℕ) → ℕ → ℕ → Block
