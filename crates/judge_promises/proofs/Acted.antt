@@ -34,7 +34,7 @@ use Rattle.workbench.specs.Bench.{isControl}
 use Rattle.judge_promises.specs.Verdicts.{actedDigit, actedLine}
 
 -- a place that carries a digit is no control place
-carried-other : (k : Kind) (act : Action) → carried k act ≡ true → isControl k ≡ false
+pub carried-other : (k : Kind) (act : Action) → carried k act ≡ true → isControl k ≡ false
 carried-other Word act c = refl
 carried-other (Service s) act c = refl
 carried-other Control act c = absurd (false≢true c)
@@ -61,14 +61,14 @@ module _ (row : Row) (sh : Shared row) (earlier : ℕ) (notes votes : List ℕ) 
   abbrev acted : List ℕ
   acted = lineDigits row first rest tributary F
 
-  at : (p : ℕ) → p < F * row .digits → getD line p 0 ≡ cond (isControl (kindAt row p)) (getD said p 0) (getD acted p 0)
+  pub at : (p : ℕ) → p < F * row .digits → getD line p 0 ≡ cond (isControl (kindAt row p)) (getD said p 0) (getD acted p 0)
   unfolding actedDigit
   at p h =
       tab-at (F * row .digits) 0 (actedDigit row earlier notes votes tributary) p h
       ∙ rw (tab-at (F * row .digits) 0 (lineDigit row earlier notes tributary) p h, tab-at (F * row .digits) 0 (lineDigit row first rest tributary) p h, zero-add p)
 
   -- its control groups are those of the notes
-  line-group : (f j : ℕ) → f < F → j < 4 → groupAt row line f j ≡ replicate (row .control) (cond (decisions notes j f) 1 0)
+  pub line-group : (f j : ℕ) → f < F → j < 4 → groupAt row line f j ≡ replicate (row .control) (cond (decisions notes j f) 1 0)
   line-group f j hf hj = group-same line (f * row .digits + (row .set + j)) (row .set) said (row .control) one ∙ sent-group row sh earlier notes tributary F f j hf hj
     where
       one : (i : ℕ) → i < row .control → getD line (f * row .digits + (row .set + j) + i * row .set) 0 ≡ getD said (f * row .digits + (row .set + j) + i * row .set) 0

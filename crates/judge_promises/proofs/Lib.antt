@@ -4,3 +4,5 @@ pub mod Fitting
 pub mod Verdicts
 pub mod Steady
 pub mod Beginnings
+pub mod Shown
+pub mod Late

@@ -1,0 +1,5 @@
+pub mod Windows
+pub mod FirstRight
+pub mod Carried
+pub mod Sizes
+pub mod Kept

@@ -1,0 +1,68 @@
+-- `window_after`: digit after digit.
+use mathlib.Core.Path.{_≡_, refl, sym, _∙_}
+use Prim.Native.Nat.{ℕ, suc, _+_, _-_, _*_, _/_, _%_, _^_, _≤_, _<_}
+use lib.ListN.{length, getD}
+use Rattle.verdict.specs.Patterns.{windowAfter}
+use Rattle.verdict.proofs.Windows.{window-next}
+use native.Mathlib.Omega.{arith}
+use borrow.Author.Needs.{needs}
+use Rattle.verdict.proofs.patterns.window_after.Statement.{statement}
+use Rattle.verdict.proofs.patterns.window_after.Tie as tie
+use Rattle.verdict.proofs.patterns.window_after.Reads as reads
+use Rattle.verdict.proofs.patterns.window_after.Lts as lts
+use Rattle.verdict.proofs.patterns.made_of.Reads as made-of-reads
+use Rattle.verdict.proofs.patterns.push.Reads as push-reads
+
+abbrev Inv-loop : tie.InvT-loop
+Inv-loop pattern window n w₀ i₀ w i = (i ≤ n) × (w ≡ windowAfter pattern window i) × (w < 2 ^ 23)
+
+abbrev μ-loop : tie.MeasureT-loop
+μ-loop pattern window n w₀ i₀ w i = n - i
+
+-- src/patterns.rt:46:5
+loop-holds : tie.Need-loop-holds Inv-loop μ-loop
+unfolding windowAfter
+loop-holds c = (omega arith, refl, (c .pre) .1)
+
+-- src/patterns.rt:47:21
+made-of-requires : tie.Need-made-of-requires Inv-loop μ-loop
+made-of-requires c κs = (c .before .before .pre) .0
+
+-- src/patterns.rt:47:9
+push-requires : tie.Need-push-requires Inv-loop μ-loop
+push-requires c κs = ((c .before .before .loop) .inv .2, (c .made-of) .ensures .1)
+
+-- src/patterns.rt:48:9
+add-i : tie.Need-add-i Inv-loop μ-loop
+add-i c = omega arith
+
+-- src/patterns.rt:46:5
+loop-less : tie.Need-loop-less Inv-loop μ-loop
+loop-less c = omega arith
+
+-- src/patterns.rt:46:5
+loop-again : tie.Need-loop-again Inv-loop μ-loop
+loop-again c =
+    let l = (c .before .before .before .loop) in
+    (omega arith, window-next _ _ (l .i) (l .w) ((c .before .made-of) .result) ((c .push) .result) (l .inv .1) ((c .before .made-of) .ensures .0) ((c .push) .ensures .0), (c .push) .ensures .1)
+
+-- src/patterns.rt:40:1
+returns : tie.Need-returns Inv-loop μ-loop
+returns c =
+    let l = (c .before .loop) in
+    let end : l .i ≡ (c .before .before .args) .n = omega arith in
+    (rw (← end) (l .inv .1), l .inv .2)
+
+pub window-after-spec : {M : Type 1} → statement M
+window-after-spec =
+    tie.close
+    (tie.spec
+    Inv-loop
+    μ-loop
+    loop-holds
+    made-of-requires
+    push-requires
+    add-i
+    loop-less
+    loop-again
+    returns)

@@ -1,0 +1,13 @@
+pub mod Best
+pub mod Least
+pub mod Runs
+pub mod Right
+pub mod Pattern
+pub mod Frames
+pub mod Cuts
+pub mod Turns
+pub mod Blocks
+pub mod Steady
+pub mod Worn
+pub mod Fits
+pub mod Exhibits

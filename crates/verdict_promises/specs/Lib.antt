@@ -1,0 +1,5 @@
+pub mod Paths
+pub mod Turns
+pub mod Steady
+pub mod Worn
+pub mod Fits
