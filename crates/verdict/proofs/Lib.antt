@@ -3,3 +3,4 @@ pub mod FirstRight
 pub mod Carried
 pub mod Sizes
 pub mod Kept
+pub mod Waying

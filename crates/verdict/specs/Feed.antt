@@ -15,7 +15,7 @@ use Rattle.levels.specs.Judging.{badEarlier}
 use Rattle.slips.specs.Slips.{stepPrice, lentFrom, leastOf, bestOf}
 use Rattle.verdict.specs.declared.standing.Standing.{Standing}
 use Rattle.verdict.specs.Blocks.{Block, zeroAt, freshBlock, betterOf}
-use Rattle.verdict.specs.Keeping.{blockNumbers, blockFrom}
+use Rattle.verdict.specs.Keeping.{blockNumbers, blockAt}
 use Rattle.verdict.specs.Readings.{majorities, ownVotes, beforeVotes, ranBy, ranAfter}
 
 -- ---- a state
@@ -71,9 +71,6 @@ numbersOf s =
 
 abbrev pub stateSize : ℕ
 stateSize = 683
-
-abbrev pub blockAt : List ℕ → ℕ → Block
-blockAt ns b = blockFrom (take 42 (drop (11 + 42 * b) ns))
 
 unfoldable pub stateFrom : List ℕ → State
 stateFrom ns =

@@ -5,3 +5,4 @@ pub mod keeping;
 pub mod patterns;
 pub mod rights;
 pub mod standing;
+pub mod ways;
