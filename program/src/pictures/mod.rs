@@ -1,0 +1,1 @@
+//! The drawings: each answers the text of an SVG file.
