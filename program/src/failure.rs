@@ -17,6 +17,8 @@ pub enum Failure {
     Call(String),
     /// A file could not be read or written: exit status 3.
     File(String),
+    /// The two engines differ, which no proved build does: exit status 1.
+    Differ(String),
     /// Whoever reads what is printed has gone: exit status 0, and nothing is said.
     Unheard,
 }
@@ -58,7 +60,7 @@ impl Failure {
     /// The exit status.
     pub fn status(&self) -> u8 {
         match self {
-            Failure::Refused { .. } => 1,
+            Failure::Refused { .. } | Failure::Differ(_) => 1,
             Failure::Call(_) => 2,
             Failure::File(_) => 3,
             Failure::Unheard => 0,
@@ -78,7 +80,7 @@ impl fmt::Display for Failure {
         match self {
             Failure::Refused { number, text } => write!(out, "refused {number}: {text}"),
             Failure::Call(text) => write!(out, "wrong call: {text}"),
-            Failure::File(text) => write!(out, "failed: {text}"),
+            Failure::File(text) | Failure::Differ(text) => write!(out, "failed: {text}"),
             Failure::Unheard => Ok(()),
         }
     }

@@ -143,12 +143,7 @@ fn opened(name: &Path) -> Result<File, Failure> {
 }
 
 fn spooled(name: &Path, mut from: File) -> Result<(File, u64), Failure> {
-    let no_room = |why: io::Error| {
-        Failure::File(format!(
-            "{} is no file, and the temporary folder cannot hold what comes from it: {why}.",
-            shown(name)
-        ))
-    };
+    let no_room = |why: io::Error| no_room(name, &why);
     let mut to = tempfile::tempfile().map_err(no_room)?;
     let mut chunk = vec![0; CHUNK];
     let mut bytes: u64 = 0;
@@ -162,6 +157,17 @@ fn spooled(name: &Path, mut from: File) -> Result<(File, u64), Failure> {
         bytes = bytes.saturating_add(count as u64);
     }
 }
+
+/// What comes from an input must be kept for a while, and there is no room for it.
+fn no_room(name: &Path, why: &io::Error) -> Failure {
+    Failure::File(format!(
+        "the temporary folder cannot hold what comes from {}: {why}; set TMPDIR to a folder with room.",
+        shown(name)
+    ))
+}
+
+/// The bytes of an output that are kept until they are written at once.
+const WAITING: usize = 1 << 18;
 
 /// The bytes that are read or poured at a time: the most of a piece of a stream.
 pub const CHUNK: usize = spritbobbin::MOST_BYTES;
@@ -245,6 +251,9 @@ pub struct Output {
     name: PathBuf,
     file: File,
     target: Target,
+    /// What is to be written behind the first `at` bytes.
+    waiting: Vec<u8>,
+    at: u64,
 }
 
 #[derive(Debug)]
@@ -261,13 +270,13 @@ impl Output {
         let unwritten = |why: io::Error| Failure::file(name, Cannot::Write, &why);
         if is_standard(name) {
             let file = tempfile::tempfile().map_err(unwritten)?;
-            return Ok(Output { name: name.into(), file, target: Target::Poured });
+            return Ok(Output::new(name, file, Target::Poured));
         }
         let path = resolved(name);
         match fs::metadata(name) {
             Ok(found) if !found.is_file() && !found.is_dir() => {
                 let file = tempfile::tempfile().map_err(unwritten)?;
-                return Ok(Output { name: name.into(), file, target: Target::Poured });
+                return Ok(Output::new(name, file, Target::Poured));
             }
             // A file that may not be written, or a folder, is found out before anything is done.
             Ok(_) => drop(OpenOptions::new().append(true).open(&path).map_err(unwritten)?),
@@ -275,11 +284,64 @@ impl Output {
             Err(why) => return Err(unwritten(why)),
         }
         let (file, temporary) = beside(&path).map_err(unwritten)?;
-        Ok(Output { name: name.into(), file, target: Target::Beside { temporary, path } })
+        Ok(Output::new(name, file, Target::Beside { temporary, path }))
+    }
+
+    fn new(name: &Path, file: File, target: Target) -> Output {
+        Output { name: name.into(), file, target, waiting: Vec::new(), at: 0 }
+    }
+
+    /// An output that is never kept: frames that are found and read again.
+    pub fn aside(name: &Path) -> Result<Output, Failure> {
+        let file = tempfile::tempfile().map_err(|why| no_room(name, &why))?;
+        Ok(Output::new(name, file, Target::Poured))
+    }
+
+    /// What was written, to be read again.
+    pub fn read_again(mut self) -> Result<Input, Failure> {
+        self.flush()?;
+        let file = self.file.try_clone().map_err(|why| no_room(&self.name, &why))?;
+        Ok(Input { name: self.name.clone(), file, bytes: self.at })
+    }
+
+    /// Writes the slice behind all that was appended before.
+    pub fn append(&mut self, slice: &[u8]) -> Result<(), Failure> {
+        self.waiting.extend_from_slice(slice);
+        if self.waiting.len() < WAITING {
+            return Ok(());
+        }
+        self.flush()
+    }
+
+    fn flush(&mut self) -> Result<(), Failure> {
+        let waiting = std::mem::take(&mut self.waiting);
+        self.write_at(self.at, &waiting)?;
+        self.at = self.at.saturating_add(waiting.len() as u64);
+        self.waiting = waiting;
+        self.waiting.clear();
+        Ok(())
+    }
+
+    /// Writes all of a file at this place.
+    pub fn pour_at(&mut self, at: u64, from: &mut File) -> Result<(), Failure> {
+        let not_whole = |why: io::Error| Failure::not_whole(&self.name, &why);
+        from.seek(SeekFrom::Start(0)).map_err(not_whole)?;
+        (&self.file).seek(SeekFrom::Start(at)).map_err(not_whole)?;
+        io::copy(from, &mut &self.file).map_err(not_whole)?;
+        Ok(())
     }
 
     pub fn name(&self) -> &Path {
         &self.name
+    }
+
+    /// An unnamed file on the disk of this output.
+    pub fn unnamed(&self) -> Result<File, Failure> {
+        let file = match &self.target {
+            Target::Beside { path, .. } => tempfile::tempfile_in(folder(path)),
+            Target::Poured => tempfile::tempfile(),
+        };
+        file.map_err(|why| Failure::file(&self.name, Cannot::Write, &why))
     }
 
     /// Writes the slice at this place.
@@ -362,7 +424,8 @@ fn beside(path: &Path) -> io::Result<(File, PathBuf)> {
 
 /// Gives every output its name, or none; and answers the names as they are said.
 pub fn keep(mut outputs: Vec<Output>) -> Result<Vec<String>, Failure> {
-    for output in &outputs {
+    for output in &mut outputs {
+        output.flush()?;
         output.synced()?;
     }
     let mut named = Vec::new();

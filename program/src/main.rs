@@ -7,16 +7,25 @@
 #![forbid(unsafe_code)]
 #![deny(clippy::unwrap_used, clippy::expect_used, clippy::indexing_slicing, clippy::panic)]
 
+mod acts;
+mod apart;
 mod captures;
 mod cli;
 mod commands;
+mod engine;
 mod failure;
 mod files;
 mod level;
+mod listening;
+mod made;
 mod page;
 mod pictures;
+mod progress;
+mod quarters;
 mod report;
 mod runs;
+mod stretches;
+mod totals;
 
 use std::io::Write;
 use std::process::ExitCode;

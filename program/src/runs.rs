@@ -8,7 +8,9 @@ use crate::captures;
 use crate::failure::Failure;
 use crate::files::Input;
 use crate::level;
-use crate::report::shown;
+use crate::listening::{self, Stretch};
+use crate::progress::Progress;
+use crate::report::{shown, Saying};
 
 /// A line: a file of whole frames, or that of a capture.
 #[derive(Debug)]
@@ -48,6 +50,27 @@ impl Line {
             }
             None => Line::of_capture(name, earlier),
         }
+    }
+
+    /// The same; or where that is asked for, the frames that are found in a recording, and where they were.
+    pub fn open_or_find(
+        name: &Path,
+        of: Option<&str>,
+        earlier: Option<&str>,
+        find: bool,
+        saying: Saying,
+    ) -> Result<(Line, Option<Vec<Stretch>>), Failure> {
+        if !find {
+            return Ok((Line::open(name, of, earlier)?, None));
+        }
+        let Some(word) = of else {
+            return Err(Failure::Call(
+                "--find wants --level: a recording does not say its own.".into(),
+            ));
+        };
+        let of = level::level(word)?;
+        let (line, stretches) = listening::found(name, of, level::earlier(of, earlier)?, saying)?;
+        Ok((line, Some(stretches)))
     }
 
     fn of_level(name: &Path, level: Level, earlier: u8) -> Result<Line, Failure> {
@@ -96,24 +119,38 @@ impl Line {
         }
     }
 
-    /// Hands on every frame in order, 64 at a time.
+    /// Hands on every frame in order, 64 at a time, and says how far it is.
     pub fn runs(
         &self,
+        saying: Saying,
         mut each: impl FnMut(Run<'_>) -> Result<(), Failure>,
     ) -> Result<(), Failure> {
         let frame = self.level.frame_bytes();
-        let mut room = vec![0; frame * MOST_FRAMES];
+        let progress = Progress::of(Some(self.bytes()), saying);
+        let mut room = Vec::new();
         let mut first: u64 = 0;
         while first < self.frames {
-            let count = in_run(self.frames.saturating_sub(first));
-            let line = room.get_mut(..count.saturating_mul(frame)).unwrap_or_default();
-            self.read(first, line)?;
-            each(Run { first, line })?;
-            first = first.saturating_add(count as u64);
+            let count = self.frames.saturating_sub(first).min(AT_ONCE);
+            room.resize(usize::try_from(count).unwrap_or(0).saturating_mul(frame), 0);
+            self.read(first, &mut room)?;
+            for (k, line) in (0_u64..).zip(room.chunks(frame.saturating_mul(MOST_FRAMES).max(1))) {
+                let past = k.saturating_mul(MOST_FRAMES as u64);
+                each(Run { first: first.saturating_add(past), line })?;
+            }
+            first = first.saturating_add(count);
+            progress.at(first.saturating_mul(frame as u64));
         }
         Ok(())
     }
+
+    /// The bytes of all frames.
+    pub fn bytes(&self) -> u64 {
+        self.frames.saturating_mul(self.level.frame_bytes() as u64)
+    }
 }
+
+/// The frames that are read at once: whole runs.
+const AT_ONCE: u64 = 16 * MOST_FRAMES as u64;
 
 /// The frames of the next run, of so many that are left.
 pub fn in_run(left: u64) -> usize {

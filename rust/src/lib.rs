@@ -85,18 +85,21 @@
 
 mod capture;
 mod comparison;
+mod copying;
 mod finder;
 mod judging;
 mod level;
 mod line;
 mod multiframe;
 mod multiplexing;
+mod note;
 pub mod plain;
 mod rack;
 mod raw;
 mod receiver;
 mod refusal;
 mod repairing;
+mod span;
 mod stream;
 mod swapping;
 
@@ -104,15 +107,18 @@ pub use capture::{capture_bytes, read_capture, write_capture, Capture, MOST_LABE
 pub use comparison::{
     compare, Differences, FileOf, LinePlace, NotCompared, OfTributary, MOST_LISTED,
 };
+pub use copying::copy_digits;
 pub use finder::{Finder, FinderMode, FinderState, FinderTaken, Turn, Turns};
 pub use judging::{judge, Pattern, Reading, SentInto, Verdict};
 pub use level::{Level, MOST_BYTES, MOST_FRAMES};
 pub use line::{digits, line_digit, Digits};
 pub use multiframe::{Multiframe, MULTIFRAME_BYTES};
 pub use multiplexing::{extract, multiplex, read_notes, vote_after, Extracted, Noted, Sent};
+pub use note::Note;
 pub use rack::{Rack, MOST_LINES};
 pub use receiver::{Frame, Frames, Mode, Receiver, State, Taken};
 pub use refusal::Refusal;
 pub use repairing::{repair, repair_capture, Repaired};
+pub use span::{digits_in, span, whole_bytes, Span};
 pub use stream::FrameStream;
 pub use swapping::swap;
