@@ -18,8 +18,6 @@ pub struct Captured {
     pub level: Level,
     pub line: Vec<u8>,
     pub label: Option<Vec<u8>>,
-    /// The whole file.
-    pub file: Vec<u8>,
 }
 
 /// Reads the capture of this name.
@@ -31,7 +29,6 @@ pub fn open(name: &Path) -> Result<Captured, Failure> {
             level: capture.level,
             line: capture.line.into(),
             label: capture.label.map(<[u8]>::to_vec),
-            file: file.clone(),
         }),
         Err(refusal) => Err(refused(name, refusal, &file, input.bytes())),
     }
@@ -106,10 +103,10 @@ pub struct Holds {
     pub level: u64,
     pub kilobits: u32,
     pub frames: usize,
-    /// As it is shown, without the quotation marks; nothing where there is none.
+    /// The label, with U+FFFD for what is no UTF-8; nothing where there is none.
     pub label: Option<String>,
-    #[serde(skip)]
-    pub quoted: String,
+    /// As it is shown: between quotation marks, what cannot be printed as numbers; or none.
+    pub label_shown: String,
     pub written: Vec<String>,
 }
 
@@ -120,14 +117,14 @@ impl Holds {
             kilobits: level.kilobits(),
             frames: line / level.frame_bytes(),
             label: label.map(|label| String::from_utf8_lossy(label).into_owned()),
-            quoted: label.map_or_else(|| "none".into(), quoted),
+            label_shown: label.map_or_else(|| "none".into(), quoted),
             written: Vec::new(),
         }
     }
 
     pub fn head(&self) -> String {
-        let Holds { level, kilobits, frames, quoted, .. } = self;
-        format!("Level {level}, {kilobits} kbit/s\nframes: {frames}\nlabel: {quoted}\n")
+        let Holds { level, kilobits, frames, label_shown, .. } = self;
+        format!("Level {level}, {kilobits} kbit/s\nframes: {frames}\nlabel: {label_shown}\n")
     }
 }
 

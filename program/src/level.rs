@@ -28,9 +28,11 @@ fn rate(level: Level) -> String {
 /// The vote of the frame before the first, one bit to a tributary: 0 to 15, or a hexadecimal digit as in a note.
 pub fn earlier(level: Level, word: Option<&str>) -> Result<u8, Failure> {
     let Some(word) = word else { return Ok(0) };
-    let number = word.parse::<u64>().ok().filter(|_| word.len() < 3);
-    let number = number.or_else(|| u64::from_str_radix(word, 16).ok());
-    match number.and_then(|number| u8::try_from(number).ok()) {
+    let short = word.len() < 3 && word.bytes().all(|byte| byte.is_ascii_hexdigit());
+    // What is written in decimal digits alone is decimal: 10 is ten.
+    let decimal = || word.parse::<u8>().ok();
+    let number = decimal().or_else(|| u8::from_str_radix(word, 16).ok()).filter(|_| short);
+    match number {
         Some(vote) if vote < 16 || !level.looks_at_earlier() => Ok(vote.min(15)),
         _ => Err(Failure::refused(
             5,

@@ -28,14 +28,13 @@ struct Told {
     frames: u64,
     #[serde(skip_serializing_if = "Option::is_none")]
     label: Option<String>,
+    #[serde(skip_serializing_if = "Option::is_none")]
+    label_shown: Option<String>,
     repaired: u64,
     #[serde(flatten)]
     sums: Sums,
     evidence: bool,
     written: Vec<String>,
-    #[serde(skip)]
-    head: String,
-    #[serde(skip)]
     asked_national: bool,
 }
 
@@ -58,31 +57,22 @@ pub fn run(call: Repair, mut saying: Saying) -> Result<u8, Failure> {
         }
         new.append(&room)
     })?;
-    let head = head(&line);
     let written = new.keep()?;
+    let bytes = usize::try_from(line.bytes()).unwrap_or(0);
+    let holds = Holds::of(line.level, bytes, line.label.as_deref());
     saying.say(&Told {
-        level: line.level.number(),
-        kilobits: line.level.kilobits(),
+        level: holds.level,
+        kilobits: holds.kilobits,
         frames: line.frames,
-        label: line.label.as_deref().map(|label| String::from_utf8_lossy(label).into_owned()),
+        label: holds.label,
+        label_shown: line.captured.then_some(holds.label_shown),
         repaired: total.all(),
         sums: total,
         evidence: false,
         written,
-        head,
         asked_national: call.national,
     })?;
     Ok(0)
-}
-
-/// Of a capture all that it holds; of a line its level and frames.
-fn head(line: &Line) -> String {
-    if line.captured {
-        let bytes = usize::try_from(line.bytes()).unwrap_or(0);
-        return Holds::of(line.level, bytes, line.label.as_deref()).head();
-    }
-    let level = line.level;
-    format!("Level {}, {} kbit/s\nframes: {}\n", level.number(), level.kilobits(), line.frames)
 }
 
 impl Sums {
@@ -101,7 +91,12 @@ impl Sums {
 
 impl Report for Told {
     fn text(&self) -> String {
-        let mut text = format!("{}digits repaired: {}\n", self.head, self.repaired);
+        let Told { level, kilobits, frames, repaired, .. } = self;
+        let mut text = format!("Level {level}, {kilobits} kbit/s\nframes: {frames}\n");
+        if let Some(label) = &self.label_shown {
+            text += &format!("label: {label}\n");
+        }
+        text += &format!("digits repaired: {repaired}\n");
         if self.repaired > 0 {
             text += &format!("\n  alignment word  {:>6}\n", self.sums.word);
             if self.asked_national {

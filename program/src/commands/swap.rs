@@ -35,8 +35,7 @@ pub fn run(call: Swap, mut saying: Saying) -> Result<u8, Failure> {
     let inputs = [("LINE", call.line.as_path()), ("NOTES", &call.notes), ("DIGITS", &call.digits)];
     files::distinct(&inputs, &[("NEW", &call.new)])?;
     saying.aside = files::any_standard(&[&call.new]);
-    let tributary = level::tributary(&call.tributary)?;
-    let line = Line::open(&call.line, call.of.level.as_deref(), call.after.earlier.as_deref())?;
+    let (line, tributary) = opened(&call)?;
     let notes = Input::open(&call.notes)?;
     one_each(&notes, &line)?;
     let digits = Input::open(&call.digits)?;
@@ -67,6 +66,21 @@ pub fn run(call: Swap, mut saying: Saying) -> Result<u8, Failure> {
     let (level, frames) = (line.level.number(), line.frames);
     saying.say(&Swapped { level, frames, tributary, digits: put, written })?;
     Ok(0)
+}
+
+/// The line and the tributary. Refused in this order: of a line 1, 5, 12, 2; of a capture 9, 1, 12, 2, 5.
+fn opened(call: &Swap) -> Result<(Line, usize), Failure> {
+    let (of, earlier) = (call.of.level.as_deref(), call.after.earlier.as_deref());
+    if let Some(word) = of {
+        level::earlier(level::level(word)?, earlier)?;
+        let tributary = level::tributary(&call.tributary)?;
+        return Ok((Line::open(&call.line, of, earlier)?, tributary));
+    }
+    let line = Line::open(&call.line, of, earlier);
+    if let Err(Failure::Refused { number: 2 | 5, .. }) | Ok(_) = line {
+        return level::tributary(&call.tributary).and_then(|tributary| Ok((line?, tributary)));
+    }
+    line.map(|line| (line, 0))
 }
 
 fn no_digits(digits: &Input, of: Level, frames: u64, wanted: u64) -> Failure {

@@ -1,0 +1,210 @@
+#!/usr/bin/env python3
+"""The text of commands, made of their JSON objects: tests/said.py CALLED JSON, where CALLED has the commands' names, a line each, and JSON an object a line.
+
+What a command says as JSON and what it says as text are two forms of the same; here the one is made of the other, by what docs/JSON.md says of each field.
+"""
+import json
+import sys
+
+
+def written(said):
+    return "".join(f"written: {name}\n" for name in said["written"])
+
+
+def table(said):
+    """The four tributaries, and what was wrong in all words."""
+    rows = said["tributaries"]
+    columns = [(name, 14 if name == "digits" else 13) for name in ("digits", "stuffed", "negative", "dissent") if name in rows[0]]
+    text = f"{'tributary':>9}" + "".join(f"{name:>{width}}" for name, width in columns) + "\n"
+    for row in rows:
+        text += f"{row['tributary']:>9}" + "".join(f"{row[name]:>{width}}" for name, width in columns) + "\n"
+    if "alignment_wrong" in said:
+        text += f"alignment digits wrong: {said['alignment_wrong']}\n"
+    return text
+
+
+def seconds(microseconds):
+    return f"{microseconds // 1000000}.{microseconds % 1000000:06} s"
+
+
+RATES = {2: 8448, 3: 34368, 4: 139264, 12: 8448, 14: 139264}
+FRAMES = {2: 848, 3: 1536, 4: 2928, 12: 1056, 14: 2176}
+
+
+def stretches(said):
+    text = ""
+    for one in said.get("stretches", []):
+        last, time = one["first"] + one["frames"] - 1, seconds(one["digit"] * 1000 // RATES[said["level"]])
+        text += f"frames {one['first']} to {last}: from digit {one['digit']} of the recording on ({time})\n"
+    return text
+
+
+def send(said):
+    assert said["evidence"] is False
+    head = f"Level {said['level']}: {said['frames']} frames sent.\n"
+    return head + table(said) + "This line was made here: it is no evidence of what a multiplexer sent.\n" + written(said)
+
+
+def take(said):
+    return stretches(said) + f"Level {said['level']}: {said['frames']} frames taken apart.\n" + table(said) + written(said)
+
+
+def extract(said):
+    return f"Level {said['level']}: {said['frames']} frames taken apart by these notes.\n" + table(said) + written(said)
+
+
+def notes(said):
+    signed = said["level"] > 4
+    text = stretches(said)
+    text += f"    frame  {'  votes  acts   ' if signed else 'stuffed  service'}  dissent 1 2 3 4  alignment\n"
+    for row in said["rows"]:
+        decided = "".join(str(j) if j in row["decided"] else "-" for j in (1, 2, 3, 4))
+        assert sum(1 << j - 1 for j in row["decided"]) == row["note"] % 16
+        rest = row["acts"] if signed else "".join(str(digit) for digit in row["service"])
+        dissent = " ".join(str(digits) for digits in row["dissent"])
+        text += f"{row['frame']:>9}  {decided:7}  {rest:7}  {'':7} {dissent}  {row['alignment_wrong']:>9}\n"
+
+    def four(name):
+        return " ".join(str(row[name]) for row in said["tributaries"])
+
+    text += f"Level {said['level']}: {said['frames']} notes read.\n"
+    text += f"stuffed frames of tributaries 1 to 4:     {four('stuffed')}\n"
+    if signed:
+        text += f"negative digits of tributaries 1 to 4:    {four('negative')}\n"
+    text += f"dissenting digits of tributaries 1 to 4:  {four('dissent')}\n"
+    return text + f"alignment digits wrong: {said['alignment_wrong']}\n" + written(said)
+
+
+def agree(said):
+    assert said["agree"] is True
+    compared = said["compared"]
+    return (
+        f"Level {said['level']}: {said['frames']} frames, by the quick engine and by the plain one.\n"
+        f"bytes compared after read_notes: {compared['read_notes']}\n"
+        f"bytes compared after extract:    {compared['extract']}\n"
+        f"bytes compared after multiplex:  {compared['multiplex']}\n"
+        "The two engines agree, in every byte and in what each call answered.\n"
+    )
+
+
+def events(said, why):
+    return "".join(f"{one['event']} at digit {one['digit']} ({seconds(one['microseconds'])}): {why[one['event']]}\n" for one in said["events"])
+
+
+def mode(said):
+    missed = f", {said['words_missed']} words missed" if "words_missed" in said else ""
+    return f"at the end: {said['mode']}{missed}\n"
+
+
+def find(said):
+    assert said["digits"] == 8 * said["bytes"]
+    text = f"Level {said['level']}: {said['bytes']} bytes, {said['digits']} digits, numbered from 0.\n"
+    text += events(
+        said,
+        {
+            "found": "the third good word in a row, and the first frame handed over",
+            "lost": "the fourth wrong word in a row, and its frame is not handed over",
+            "alarm indication begins": "the second stretch in a row with few zeros ends there",
+            "alarm indication ends": "the second stretch in a row with more zeros ends there",
+        },
+    )
+    if not said["found"]:
+        text += f"alignment was not found: three good words in a row, {FRAMES[said['level']]} digits apart, did not come\n"
+    text += f"frames handed over: {said['frames']}\n" + table(said) + f"words tested: {said['words_tested']}\n" + mode(said)
+    return text + (stretches(said) if said["written"] else "") + written(said)
+
+
+def watch(said):
+    text = "line  level  aligned  alarm      frames     dissent    words tested  recording\n"
+    yes = {True: "yes", False: "no"}
+    for one in said["lines"]:
+        text += f"{one['line']:>4}{one['level']:>7}{yes[one['aligned']]:>9}{yes[one['alarm']]:>7}{one['frames']:>12}{one['dissent']:>12}"
+        text += f"{one['words_tested']:>16}  {one['recording']}\n"
+    return text + f"aligned lines: {said['aligned']}\n"
+
+
+def swap(said):
+    text = f"Level {said['level']}: {said['frames']} frames, {said['digits']} digits put into tributary {said['tributary']}.\n"
+    return text + written(said)
+
+
+def label(said):
+    return f"label: {said['label_shown']}\n" if "label_shown" in said else ""
+
+
+def rated(said):
+    return f"Level {said['level']}, {said['kilobits']} kbit/s\nframes: {said['frames']}\n"
+
+
+def repair(said):
+    assert said["evidence"] is False
+    text = rated(said) + label(said) + f"digits repaired: {said['repaired']}\n"
+    assert said["repaired"] == said["word"] + said["national"] + sum(said["control"]) + sum(said["stuffing"])
+    if said["repaired"]:
+        text += f"\n  alignment word  {said['word']:>6}\n"
+        if said["asked_national"]:
+            text += f"  national digits {said['national']:>6}\n"
+        text += "                  control  stuffing\n"
+        for j in range(4):
+            text += f"  tributary {j + 1}     {said['control'][j]:>7}{said['stuffing'][j]:>10}\n"
+    return text + "What is repaired is no evidence: keep the file that was read.\n" + written(said)
+
+
+def keep(said):
+    return rated(said) + label(said) + written(said)
+
+
+def compare(said):
+    text = f"Level {said['level']}, {said['kilobits']} kbit/s\nframes compared: {said['frames']}\ndiffering digits: {said['differing']}\n"
+    if "offset" in said:
+        text += offset(said)
+    if said["differing"]:
+        for name, key in (("alignment word", "word"), ("remote alarm", "remote_alarm"), ("national", "national")):
+            text += f"\n  {name:<16}{said[key]:>6}"
+        text += "\n                  control  justification  ordinary\n"
+        for j, of in enumerate(said["tributaries"]):
+            text += f"  tributary {j + 1}     {of['control']:>7}{of['justification']:>15}{of['ordinary']:>10}\n"
+        if said["differing"] > len(said["first"]):
+            text += f"\nThe first {len(said['first'])}:"
+        text += "\n  frame  place  which is\n"
+        for one in said["first"]:
+            whose = f", tributary {one['tributary']}" if one["tributary"] else ""
+            text += f"{one['frame']:>7}{one['place']:>7}  {one['kind']}{whose}\n"
+    return text + written(said)
+
+
+def offset(said):
+    frames = said["offset"]
+    if frames == 0:
+        return "frame offset: none, frame 0 of one is frame 0 of the other\n"
+    side = "first" if frames > 0 else "second"
+    return f"frame offset: frame {abs(frames)} of the {side} file is frame 0 of the other\n"
+
+
+def build(said):
+    return f"{said['multiframes']} multiframes built.\n" + written(said)
+
+
+def apart(said):
+    return f"{said['multiframes']} multiframes taken apart.\n" + written(said)
+
+
+def hunt(said):
+    text = f"2048 kbit/s: {said['bytes']} bytes, {said['digits']} digits, numbered from 0.\n"
+    text += events(said, {"found": "the second good word, after a second digit of 1", "lost": "the third wrong word in a row"})
+    if not said["times_found"]:
+        text += "alignment was not found: two good words 512 digits apart, with a second digit of 1 between them, did not come\n"
+    return text + f"times found: {said['times_found']}\ntimes lost: {said['times_lost']}\n" + mode(said)
+
+
+def text(said):
+    """A command whose lines are themselves what it has to say."""
+    return "".join(line + "\n" for line in said["text"]) + written(said)
+
+
+SAID = {"send": send, "take": take, "extract": extract, "notes": notes, "agree": agree, "find": find, "watch": watch, "swap": swap, "repair": repair}
+SAID |= {"keep": keep, "show": keep, "compare": compare, "build": build, "apart": apart, "hunt": hunt, "frame": text, "multiframe": text, "demo": text}
+
+with open(sys.argv[1], encoding="utf-8") as called, open(sys.argv[2], encoding="utf-8") as objects:
+    for name, line in zip(called, objects, strict=True):
+        sys.stdout.write(SAID[name.strip()](json.loads(line)))
