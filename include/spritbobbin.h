@@ -100,7 +100,7 @@
  *      other than 0, not hunting with fewer than L digits seen, N or more digits in the
  *      stretch, more zeros than digits there, or a number for yes or no that is over 1; for the
  *      finder of 2048 kbit/s frames: see spritbobbin_finder_feed
- *   7  first + count is more than the digits of the slice
+ *   7  first + count is more than the digits of the slice; for a copy, of either slice
  *   8  a rack: it has no line of this number
  *   9  writing a capture: the label is over 32 bytes; reading one: the bytes are no run of a
  *      capture's fields, and the answer names the byte where the field at fault begins or should
@@ -597,6 +597,14 @@ enum { SPRITBOBBIN_LINE_ENDED = 2 };
  * any place past the last digit, and at every place of a line over 65,536 bytes.
  */
 uint64_t spritbobbin_line_digit(const uint8_t *line, size_t line_bytes, uint64_t place);
+
+/*
+ * Puts count digits of from, its digit first and on, in place of those of to at digit at and on.
+ * Every other digit of to stays. The slices may have any length, and the digits may begin and end
+ * anywhere in a byte. Returns 0, or 7 where either slice has not so many.
+ */
+uint64_t spritbobbin_copy_digits(uint8_t *to, size_t to_bytes, uint64_t at,
+                                 const uint8_t *from, size_t from_bytes, uint64_t first, uint64_t count);
 
 /*
  * Writes a capture of a line at the beginning of file; bytes after it stay as they were.

@@ -12,6 +12,7 @@
 pub mod alarm;
 mod captures;
 mod comparison;
+mod copying;
 pub mod digits;
 mod finder;
 pub mod frame;
@@ -28,6 +29,7 @@ mod swapping;
 
 pub use captures::{read_capture, write_capture, Read, Written};
 pub use comparison::{compare, sum, Differences, MOST_LISTED};
+pub use copying::{copy_digits, copy_refusal};
 pub use finder::{finder_feed, finder_refusal, FinderState, Found};
 pub use finder::{FRAME_DIGITS, SECOND_PLACE, WORD, WORD_PLACE};
 pub use judging::{judge, judge_refusal, Judged, Reading, Verdict};

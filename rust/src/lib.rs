@@ -16,7 +16,7 @@
 //!   reads the stream too.
 //! - A [`Rack`] keeps the receivers of up to 64 lines.
 //! - A [`Finder`] finds the frames of a 2048 kbit/s line.
-//! - [`digits`] walks over the digits of a line.
+//! - [`digits`] walks over the digits of a line; [`copy_digits`] carries digits from slice to slice.
 //! - [`write_capture`] keeps a line in a file, [`read_capture`] reads it back.
 //! - [`compare`] says where two captures differ, by the kind of place and the tributary.
 //! - [`Multiframe::build`] builds a multiframe of 2048 kbit/s, [`Multiframe::apart`] takes one apart.

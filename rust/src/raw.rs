@@ -212,6 +212,16 @@ extern "C" {
     /// 0 or 1, or 2 where the line has ended.
     pub fn spritbobbin_line_digit(line: *const u8, line_bytes: usize, place: u64) -> u64;
 
+    pub fn spritbobbin_copy_digits(
+        to: *mut u8,
+        to_bytes: usize,
+        at: u64,
+        from: *const u8,
+        from_bytes: usize,
+        first: u64,
+        count: u64,
+    ) -> u64;
+
     /// State: window, digits seen, mode, place.
     pub fn spritbobbin_finder_fresh(state: &mut [u64; 4]) -> u64;
 

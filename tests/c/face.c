@@ -1,7 +1,7 @@
 /*
  * Calls every function of the library through its header, from C: worked cases 1, 9, 10 and 11
  * of the specification, frames of levels 12 and 14 worked by hand, swaps, repairs, judgements, each refusal, the digits of a line, captures,
- * comparisons, multiframes, frames of 2048 kbit/s and a rack of lines. Prints "face: ok", or what failed.
+ * copies of digits, comparisons, multiframes, frames of 2048 kbit/s and a rack of lines. Prints "face: ok", or what failed.
  *
  * All bytes that are lent come from malloc in their exact number, so that valgrind sees a read or
  * a write of the library one byte beside them.
@@ -520,6 +520,22 @@ static void line_digits(void)
     free(line);
 }
 
+/* Four digits put across the border of two bytes, and copies that either slice has no room for. */
+static void copies(void)
+{
+    uint8_t *to = lend(2, 0xFF), *from = lend(1, 0x27);
+
+    check(spritbobbin_copy_digits(to, 2, 6, from, 1, 2, 4) == 0 && to[0] == 0xFE && to[1] == 0x7F, "1001 from digit 6 on");
+    check(spritbobbin_copy_digits(to, 2, 13, from, 1, 0, 4) == SPRITBOBBIN_REFUSED_DIGITS, "no room for four");
+    check(spritbobbin_copy_digits(to, 2, 0, from, 1, 5, 4) == SPRITBOBBIN_REFUSED_DIGITS, "no four digits");
+    check(spritbobbin_copy_digits(to, 2, UINT64_MAX, from, 1, 1, UINT64_MAX) == SPRITBOBBIN_REFUSED_DIGITS, "sums that wrap");
+    check(to[0] == 0xFE && to[1] == 0x7F, "a refused copy writes nothing");
+    check(spritbobbin_copy_digits(to, 2, 16, from, 1, 8, 0) == 0 && spritbobbin_copy_digits(NULL, 0, 0, NULL, 0, 0, 0) == 0, "no digits");
+    check(to[0] == 0xFE && to[1] == 0x7F && from[0] == 0x27, "nothing else changes");
+    free(to);
+    free(from);
+}
+
 /* Compares two captures; answer and places hold 0xA5 before, so that what is not written is seen. */
 static uint64_t compared(const uint8_t *one, size_t one_bytes, const uint8_t *other, size_t other_bytes,
                          uint64_t answer[19], uint64_t places[128])
@@ -827,6 +843,7 @@ int main(void)
     receiver();
     finder();
     line_digits();
+    copies();
     captures();
     comparisons();
     multiframes();

@@ -6,3 +6,4 @@ pub mod PlainAnswers
 pub mod SwapAnswers
 pub mod RepairAnswers
 pub mod JudgeAnswers
+pub mod CopyAnswers

@@ -1,5 +1,6 @@
 //! A call with its inputs, what came of it, and what the reference says of it.
 
+use reference::copy_digits;
 use reference::{build_multiframe, take_multiframe_apart};
 use reference::{compare, Differences, MOST_LISTED};
 use reference::{extract, feed, fresh, line_digit, multiplex, read_notes, Counted, State};
@@ -65,6 +66,16 @@ pub struct Writing {
     pub file: Vec<u8>,
 }
 
+/// What a copy of digits is lent.
+#[derive(Clone)]
+pub struct Copying {
+    pub to: Vec<u8>,
+    pub at: u64,
+    pub from: Vec<u8>,
+    pub first: u64,
+    pub count: u64,
+}
+
 /// What a call on a multiframe is lent.
 #[derive(Clone)]
 pub struct Whole {
@@ -92,10 +103,11 @@ pub enum Call {
     Swap(Lending, u64),
     Repair(Worn),
     Judge(Trace),
+    Copy(Copying),
 }
 
 /// The names of the calls, in the order of their numbers.
-pub const NAMES: [&str; 19] = [
+pub const NAMES: [&str; 20] = [
     "multiplex",
     "read_notes",
     "receiver_fresh",
@@ -115,6 +127,7 @@ pub const NAMES: [&str; 19] = [
     "swap",
     "repair",
     "judge",
+    "copy_digits",
 ];
 
 /// All that a call answers and leaves: two outcomes are equal or there is a disagreement.
@@ -150,6 +163,7 @@ impl Call {
             Call::Swap(..) => 16,
             Call::Repair(_) => 17,
             Call::Judge(_) => 18,
+            Call::Copy(_) => 19,
         }
     }
 
@@ -175,6 +189,7 @@ impl Call {
             Call::Swap(..) => "digits taken",
             Call::Repair(_) => "changed: word, control of four, stuffing of four, national",
             Call::Judge(_) => "of each: fits, wrong by own, before and after, changes",
+            Call::Copy(_) => "none",
             Call::Compare(..) => "file, byte, fifteen sums, all, listed; frame and place of each",
         }
     }
@@ -197,6 +212,14 @@ impl Call {
                 in_short(&trace.line),
                 trace.pattern,
                 in_short(&trace.buffer)
+            ),
+            Call::Copy(with) => format!(
+                "to {}; at {}; from {}; first {} count {}",
+                in_short(&with.to),
+                with.at,
+                in_short(&with.from),
+                with.first,
+                with.count
             ),
             Call::Fresh(level) => format!("level {level}"),
             Call::Feed(piece) => format!(
@@ -266,6 +289,7 @@ impl Call {
             Call::Swap(with, tributary) => swapped(with.clone(), *tributary),
             Call::Repair(worn) => repaired(worn.clone()),
             Call::Judge(trace) => judged(trace.clone()),
+            Call::Copy(with) => copied(with.clone()),
             Call::Compare(one, other) => {
                 let (refusal, numbers) = compared_numbers(&compare(one, other));
                 outcome(refusal, numbers, vec![("one", one.clone()), ("other", other.clone())])
@@ -325,6 +349,11 @@ fn repaired(mut worn: Worn) -> Outcome {
     let numbers =
         [&[answer.word], &answer.control[..], &answer.stuffing, &[answer.national]].concat();
     outcome(answer.refusal, numbers, vec![("line", worn.line)])
+}
+
+fn copied(mut with: Copying) -> Outcome {
+    let refusal = copy_digits(&mut with.to, with.at, &with.from, with.first, with.count);
+    outcome(refusal, vec![], vec![("to", with.to), ("from", with.from)])
 }
 
 fn judged(trace: Trace) -> Outcome {

@@ -1,7 +1,8 @@
 //! The product's C face, and the calls made through it with guards around all that is lent.
 
 use crate::call::{
-    finder_numbers, state_numbers, Call, Hunt, Lending, Outcome, Piece, Trace, Whole, Worn, Writing,
+    finder_numbers, state_numbers, Call, Copying, Hunt, Lending, Outcome, Piece, Trace, Whole,
+    Worn, Writing,
 };
 
 #[rustfmt::skip]
@@ -80,6 +81,10 @@ extern "C" {
     pub fn spritbobbin_judge(
         level: u64, earlier: u64, line: *const u8, line_bytes: usize, pattern: u64,
         buffer: *const u8, buffer_bytes: usize, answer: *mut u64,
+    ) -> u64;
+    pub fn spritbobbin_copy_digits(
+        to: *mut u8, to_bytes: usize, at: u64, from: *const u8, from_bytes: usize,
+        first: u64, count: u64,
     ) -> u64;
     pub fn spritbobbin_rack_aligned(records: *const u64, number: usize, answer: *mut u64) -> u64;
 }
@@ -184,6 +189,7 @@ pub fn by_face(call: &Call) -> Outcome {
         Call::Swap(with, tributary) => swap(with, *tributary),
         Call::Repair(worn) => repair(worn),
         Call::Judge(trace) => judge(trace),
+        Call::Copy(with) => copy_digits(with),
     }
 }
 
@@ -280,6 +286,16 @@ fn judge(trace: &Trace) -> Outcome {
         spritbobbin_judge(trace.level, trace.earlier, l, lc, trace.pattern, b, bc, a)
     };
     outcome(refusal, &[answer], &[line, buffer])
+}
+
+fn copy_digits(with: &Copying) -> Outcome {
+    let (mut to, mut from) = (bytes("to", &with.to), bytes("from", &with.from));
+    // Sound as above.
+    let refusal = unsafe {
+        let (t, f, tc, fc) = (to.pointer(), from.pointer(), to.count(), from.count());
+        spritbobbin_copy_digits(t, tc, with.at, f, fc, with.first, with.count)
+    };
+    outcome(refusal, &[], &[to, from])
 }
 
 fn fresh(level: u64) -> Outcome {

@@ -2,6 +2,7 @@
 //! then pointers and lengths that lend no memory at all.
 
 use crate::call::{compared_numbers, counted_numbers, judged_numbers, read_numbers};
+use crate::copying;
 use crate::face::spritbobbin_line_digit;
 use crate::face::{self, spritbobbin_capture_read, spritbobbin_capture_write, spritbobbin_compare};
 use crate::face::{spritbobbin_extract, spritbobbin_finder_feed, spritbobbin_judge};
@@ -434,6 +435,7 @@ fn null_pointers(run: &mut Run) {
         let digit = unsafe { spritbobbin_line_digit(null, 0, first) };
         run.expect(4, "null line", &[2], &[digit]);
     }
+    copying::by_lengths(run, [0; 2]);
     rack::no_records(run);
 }
 
@@ -491,6 +493,9 @@ fn false_lengths(run: &mut Run) {
         rack::false_number(run, number);
     }
     for long in lengths {
+        for lengths in [[long, 8], [8, long], [long, long]] {
+            copying::by_lengths(run, lengths);
+        }
         let expected = [feed_refusal(&fresh(2).1, long, 0, 8), 0, 0, 0, 0];
         let fed = raw_feed(memory.as_ptr(), long as usize, 0, 8);
         run.expect(3, &format!("slice of {long} bytes"), &expected, &fed);

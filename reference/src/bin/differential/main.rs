@@ -15,6 +15,7 @@
 mod call;
 mod captures;
 mod comparisons;
+mod copying;
 mod face;
 mod finder;
 mod judging;
@@ -150,7 +151,7 @@ fn arguments() -> Run {
 }
 
 /// The parts of a run by name, in their order.
-const PARTS: [(&str, fn(&mut Run)); 10] = [
+const PARTS: [(&str, fn(&mut Run)); 11] = [
     ("multiplexing", multiplexing::part),
     ("receiver", receiver::part),
     ("captures", captures::part),
@@ -161,6 +162,7 @@ const PARTS: [(&str, fn(&mut Run)); 10] = [
     ("swapping", swapping::part),
     ("repairing", repairing::part),
     ("judging", judging::part),
+    ("copying", copying::part),
 ];
 
 fn main() {
