@@ -100,7 +100,8 @@
  *      other than 0, not hunting with fewer than L digits seen, N or more digits in the
  *      stretch, more zeros than digits there, or a number for yes or no that is over 1; for the
  *      finder of 2048 kbit/s frames: see spritbobbin_finder_feed
- *   7  first + count is more than the digits of the slice; for a copy, of either slice
+ *   7  first + count is more than the digits of the slice, for a copy of either slice, or of the
+ *      lines that are compared
  *   8  a rack: it has no line of this number
  *   9  writing a capture: the label is over 32 bytes; reading one: the bytes are no run of a
  *      capture's fields, and the answer names the byte where the field at fault begins or should
@@ -118,12 +119,12 @@
  * Where several apply, the first in this order is returned: 1, 2, 3, 4, 5, 10 for multiplexing (5
  * in any note before 10 in any); 1, 2, 3, 4, 5 for extraction; 1, 12, 2, 3, 4, 5 for a swap; 1, 2, 5
  * for a repair; 1, 13, 2, 4, 5 for a judgement; 6, 2, 7 for a piece; 1, 2, 9, 4 for writing a capture,
- * 9, 1, 2 for reading one; 2, 11 for building a multiframe; for a comparison see spritbobbin_compare;
- * for a rack 8, 2 and then as a piece, or 1 for a reset.
+ * 9, 1, 2 for reading one; 2, 11 for building a multiframe; for comparisons see spritbobbin_compare
+ * and the two behind it; for a rack 8, 2 and then as a piece, or 1 for a reset.
  *
  * A refused call writes nothing that it was lent, but the answer: all its numbers are 0, except the
  * named frame under 5 and 10, the named byte under 9, the named channel under 11 and the file at
- * fault of a comparison. (A fresh state and the places of a comparison are answers too.)
+ * fault of a comparison. (A fresh state is an answer too.)
  *
  *
  * EXAMPLE
@@ -266,6 +267,7 @@ enum {
 enum {
     SPRITBOBBIN_FAULTY_FILE = 0,       /* 1 or 2, or 0 where the two do not fit each other */
     SPRITBOBBIN_FAULTY_BYTE = 1,       /* the byte that refusal 9 names */
+    SPRITBOBBIN_SUMS = 2,              /* where the sums begin: two lines and a stretch have them at 0 */
     SPRITBOBBIN_WORD_DIFFERS = 2,
     SPRITBOBBIN_REMOTE_ALARM_DIFFERS = 3,
     SPRITBOBBIN_NATIONAL_DIFFERS = 4,  /* at levels 12 and 14: all service digits */
@@ -642,11 +644,37 @@ uint64_t spritbobbin_capture_read(const uint8_t *file, size_t file_bytes, uint64
  * answer: file at fault (0, 1, 2), named byte; the sums of the digits that differ: word, remote
  * alarm, national, then control, justification, ordinary of tributary 1, of 2, of 3, of 4; all
  * differing digits, which is what the fifteen add up to; how many are listed. places: frame and
- * place in it of each of the first 64, in order, and zeros after them; it is an answer and
- * written also under a refusal. Returns 0, 9, 1 or 2.
+ * place in it of each of the first 64, in order, and zeros after them; a refused call leaves it as
+ * it was. Returns 0, 9, 1 or 2.
  */
 uint64_t spritbobbin_compare(const uint8_t *one, size_t one_bytes, const uint8_t *other,
                              size_t other_bytes, uint64_t answer[19], uint64_t places[128]);
+
+/*
+ * Where two lines of a level differ, which stand in no file: as spritbobbin_compare says of the
+ * lines of two captures.
+ *
+ * answer: the fifteen sums (SPRITBOBBIN_WORD_DIFFERS and on, each less SPRITBOBBIN_SUMS, as above
+ * from word to the ordinary digits of tributary 4), all differing digits, how many are listed.
+ * places: as of spritbobbin_compare. Returns 0, or 1, or 2 if the first line is not a whole number
+ * of frames or over 64, then 2 if the second line's length is not the first's.
+ */
+uint64_t spritbobbin_compare_lines(uint64_t level, const uint8_t *one, size_t one_bytes,
+                                   const uint8_t *other, size_t other_bytes, uint64_t answer[17],
+                                   uint64_t places[128]);
+
+/*
+ * What differs in a stretch of two lines: among count places from place first on, counted over the
+ * whole line from 0. A picture asks for as many stretches as it has room for, each with its own
+ * sums by kind and tributary; stretches that meet add up, and the stretch of all places has the
+ * sums of spritbobbin_compare_lines.
+ *
+ * answer: the fifteen sums in the same order, all differing digits. Returns 0, 1 or 2 as
+ * spritbobbin_compare_lines does, then 7 if first + count is more than the digits of a line.
+ */
+uint64_t spritbobbin_compare_stretch(uint64_t level, const uint8_t *one, size_t one_bytes,
+                                     const uint8_t *other, size_t other_bytes, uint64_t first,
+                                     uint64_t count, uint64_t answer[16]);
 
 /*
  * Builds a multiframe of 2048 kbit/s: sixteen frames of 32 bytes.

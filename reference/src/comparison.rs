@@ -1,4 +1,4 @@
-//! Where two captures differ.
+//! Where two captures differ, two lines, or a stretch of them.
 
 use crate::captures::{read_capture, Read};
 use crate::digits::unpack;
@@ -29,6 +29,45 @@ pub fn compare(one: &[u8], other: &[u8]) -> Differences {
     match faults(&first, &second) {
         (0, ..) => count(first.level, &one[first.line], &other[second.line]),
         (refusal, file, byte) => refused(refusal, file, byte),
+    }
+}
+
+/// Compares two lines of a level.
+pub fn compare_lines(level: u64, one: &[u8], other: &[u8]) -> Differences {
+    match lines_refusal(level, one.len(), other.len()) {
+        0 => count(level, one, other),
+        refusal => Differences { refusal, ..Differences::default() },
+    }
+}
+
+/// What differs among `many` places from `first` on: as two lines, then 7.
+pub fn compare_stretch(level: u64, one: &[u8], other: &[u8], first: u64, many: u64) -> Differences {
+    let mut found = compare_lines(level, one, other);
+    let end = u128::from(first) + u128::from(many);
+    if found.refusal == 0 && end > 8 * one.len() as u128 {
+        return Differences { refusal: 7, ..Differences::default() };
+    }
+    let Some(places) = row(level).map(layout).filter(|_| found.refusal == 0) else {
+        return found;
+    };
+    found.sums = [0; 15];
+    found.places.retain(|(frame, at)| {
+        let place = (frame * places.len() + at) as u128;
+        u128::from(first) <= place && place < end
+    });
+    for (_, at) in &found.places {
+        found.sums[sum(places[*at])] += 1;
+    }
+    found
+}
+
+/// 1, 2 for the first line, 2 for the second.
+pub fn lines_refusal(level: u64, one: usize, other: usize) -> u64 {
+    match row(level) {
+        None => 1,
+        Some(row) if one % row.frame_bytes() != 0 || one / row.frame_bytes() > 64 => 2,
+        Some(_) if one != other => 2,
+        Some(_) => 0,
     }
 }
 

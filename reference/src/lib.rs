@@ -28,7 +28,8 @@ mod repairing;
 mod swapping;
 
 pub use captures::{read_capture, write_capture, Read, Written};
-pub use comparison::{compare, sum, Differences, MOST_LISTED};
+pub use comparison::{compare, compare_lines, compare_stretch, lines_refusal};
+pub use comparison::{sum, Differences, MOST_LISTED};
 pub use copying::{copy_digits, copy_refusal};
 pub use finder::{finder_feed, finder_refusal, FinderState, Found};
 pub use finder::{FRAME_DIGITS, SECOND_PLACE, WORD, WORD_PLACE};

@@ -1,10 +1,11 @@
-//! Where two captures differ.
+//! Where two captures differ, two lines, or a stretch of them.
 
 use std::error::Error;
 use std::fmt;
+use std::ops::Range;
 
 use crate::raw::{self, count};
-use crate::{read_capture, Level, Refusal};
+use crate::{read_capture, Level, Refusal, MOST_FRAMES};
 
 /// The most differing digits that are listed.
 pub const MOST_LISTED: usize = 64;
@@ -74,6 +75,12 @@ pub enum NotCompared {
         /// The level of the second.
         other: Level,
     },
+    /// The first of two lines is not a whole number of frames, or over 64; or a stretch has more
+    /// places than they have.
+    BadLine {
+        /// Why.
+        why: Refusal,
+    },
     /// Their lines do not have the same length.
     Lines {
         /// The bytes of the first line.
@@ -129,7 +136,7 @@ pub fn compare(one: &[u8], other: &[u8]) -> Result<Differences, NotCompared> {
         )
     };
     if number == 0 {
-        return Ok(differences(answer.map(count), places.map(count)));
+        return Ok(differences(&answer[2..], &places));
     }
     let unknown = NotCompared::Unknown { number };
     match answer[0] {
@@ -139,21 +146,129 @@ pub fn compare(one: &[u8], other: &[u8]) -> Result<Differences, NotCompared> {
     }
 }
 
-fn differences(answer: [usize; 19], places: [usize; 128]) -> Differences {
-    let of = |j: usize| OfTributary {
-        control: answer[5 + 3 * j],
-        justification: answer[6 + 3 * j],
-        ordinary: answer[7 + 3 * j],
+/// Compares two lines of a level, which stand in no file.
+///
+/// # Errors
+///
+/// [`NotCompared::BadLine`] where the first is no whole number of frames or over 64, then
+/// [`NotCompared::Lines`] where the second is not as long.
+///
+/// # Examples
+///
+/// ```
+/// use spritbobbin::{compare_lines, Level, LinePlace};
+///
+/// # fn main() -> Result<(), Box<dyn std::error::Error>> {
+/// let (sent, mut came) = ([0; 2 * 106], [0; 2 * 106]);
+/// came[106] ^= 0x80; // place 0 of the second frame, the word
+/// let found = compare_lines(Level::Two, &sent, &came)?;
+/// assert_eq!((found.word, found.all), (1, 1));
+/// assert_eq!(found.first, [LinePlace { frame: 1, place: 0 }]);
+/// # Ok(())
+/// # }
+/// ```
+pub fn compare_lines(level: Level, one: &[u8], other: &[u8]) -> Result<Differences, NotCompared> {
+    let (mut answer, mut places) = ([0; 17], [0; 128]);
+    // Sound as above.
+    let number = unsafe {
+        raw::spritbobbin_compare_lines(
+            level.number(),
+            one.as_ptr(),
+            one.len(),
+            other.as_ptr(),
+            other.len(),
+            &mut answer,
+            &mut places,
+        )
     };
-    let listed = places.chunks(2).take(answer[18]);
-    Differences {
-        word: answer[2],
-        remote_alarm: answer[3],
-        national: answer[4],
-        tributaries: [of(0), of(1), of(2), of(3)],
-        all: answer[17],
-        first: listed.map(|pair| LinePlace { frame: pair[0], place: pair[1] }).collect(),
+    match number {
+        0 => Ok(differences(&answer, &places)),
+        2 => Err(unfit_lines(level, one, other)),
+        _ => Err(NotCompared::Unknown { number }),
     }
+}
+
+/// Counts what differs in a stretch of two lines: among these places, counted over the whole line
+/// from 0. A picture asks for as many stretches as it has room for; those that meet add up. No place
+/// is listed: `first` is empty.
+///
+/// # Errors
+///
+/// As [`compare_lines`], then [`NotCompared::BadLine`] where the lines have not so many places.
+///
+/// # Examples
+///
+/// ```
+/// use spritbobbin::{compare_stretch, Level};
+///
+/// # fn main() -> Result<(), Box<dyn std::error::Error>> {
+/// let (sent, came) = ([0; 106], [0xFF; 106]);
+/// // Places 212 to 215 are the first control digits, one of each tributary.
+/// let found = compare_stretch(Level::Two, &sent, &came, 211..214)?;
+/// assert_eq!((found.all, found.tributaries[3].ordinary), (3, 1));
+/// assert_eq!((found.tributaries[0].control, found.tributaries[1].control), (1, 1));
+/// # Ok(())
+/// # }
+/// ```
+pub fn compare_stretch(
+    level: Level,
+    one: &[u8],
+    other: &[u8],
+    places: Range<usize>,
+) -> Result<Differences, NotCompared> {
+    let mut answer = [0; 16];
+    let (first, many) = (places.start, places.len());
+    // Sound as above.
+    let number = unsafe {
+        raw::spritbobbin_compare_stretch(
+            level.number(),
+            one.as_ptr(),
+            one.len(),
+            other.as_ptr(),
+            other.len(),
+            first as u64,
+            many as u64,
+            &mut answer,
+        )
+    };
+    match number {
+        0 => Ok(differences(&[&answer[..], &[0]].concat(), &[])),
+        2 => Err(unfit_lines(level, one, other)),
+        7 => {
+            let why = Refusal::Digits { first, count: many, bytes: one.len() };
+            Err(NotCompared::BadLine { why })
+        }
+        _ => Err(NotCompared::Unknown { number }),
+    }
+}
+
+/// Of the fifteen sums, all differing digits and how many are listed, and the list.
+fn differences(answer: &[u64], places: &[u64]) -> Differences {
+    let at = |k: usize| count(answer.get(k).copied().unwrap_or_default());
+    let of = |j: usize| OfTributary {
+        control: at(3 + 3 * j),
+        justification: at(4 + 3 * j),
+        ordinary: at(5 + 3 * j),
+    };
+    let listed = places.chunks_exact(2).take(at(16));
+    Differences {
+        word: at(0),
+        remote_alarm: at(1),
+        national: at(2),
+        tributaries: [of(0), of(1), of(2), of(3)],
+        all: at(15),
+        first: listed
+            .map(|pair| LinePlace { frame: count(pair[0]), place: count(pair[1]) })
+            .collect(),
+    }
+}
+
+fn unfit_lines(level: Level, one: &[u8], other: &[u8]) -> NotCompared {
+    let frames = one.len() / level.frame_bytes();
+    if one.len() % level.frame_bytes() != 0 || frames > MOST_FRAMES {
+        return NotCompared::BadLine { why: Refusal::Line { level, bytes: one.len() } };
+    }
+    NotCompared::Lines { one: one.len(), other: other.len() }
 }
 
 /// The reader says the same of a bad file, with more words.
@@ -179,6 +294,7 @@ impl fmt::Display for NotCompared {
     fn fmt(&self, out: &mut fmt::Formatter<'_>) -> fmt::Result {
         match *self {
             NotCompared::BadFile { file, why } => write!(out, "{file}: {why}"),
+            NotCompared::BadLine { why } => write!(out, "{why}"),
             NotCompared::Levels { one, other } => {
                 write!(out, "the captures are of {one} and {other}: compare two of one level")
             }

@@ -18,7 +18,8 @@
 //! - A [`Finder`] finds the frames of a 2048 kbit/s line.
 //! - [`digits`] walks over the digits of a line; [`copy_digits`] carries digits from slice to slice.
 //! - [`write_capture`] keeps a line in a file, [`read_capture`] reads it back.
-//! - [`compare`] says where two captures differ, by the kind of place and the tributary.
+//! - [`compare`] says where two captures differ, by the kind of place and the tributary;
+//!   [`compare_lines`] and [`compare_stretch`] say it of two lines and of a stretch of them.
 //! - [`Multiframe::build`] builds a multiframe of 2048 kbit/s, [`Multiframe::apart`] takes one apart.
 //!
 //! # Digits, quarters, notes
@@ -105,7 +106,8 @@ mod swapping;
 
 pub use capture::{capture_bytes, read_capture, write_capture, Capture, MOST_LABEL_BYTES};
 pub use comparison::{
-    compare, Differences, FileOf, LinePlace, NotCompared, OfTributary, MOST_LISTED,
+    compare, compare_lines, compare_stretch, Differences, FileOf, LinePlace, NotCompared,
+    OfTributary, MOST_LISTED,
 };
 pub use copying::copy_digits;
 pub use finder::{Finder, FinderMode, FinderState, FinderTaken, Turn, Turns};

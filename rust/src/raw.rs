@@ -267,6 +267,29 @@ extern "C" {
         places: &mut [u64; 128],
     ) -> u64;
 
+    /// Answer: the fifteen sums, all differing digits, how many are listed. Places as above.
+    pub fn spritbobbin_compare_lines(
+        level: u64,
+        one: *const u8,
+        one_bytes: usize,
+        other: *const u8,
+        other_bytes: usize,
+        answer: &mut [u64; 17],
+        places: &mut [u64; 128],
+    ) -> u64;
+
+    /// Answer: the fifteen sums, all differing digits.
+    pub fn spritbobbin_compare_stretch(
+        level: u64,
+        one: *const u8,
+        one_bytes: usize,
+        other: *const u8,
+        other_bytes: usize,
+        first: u64,
+        count: u64,
+        answer: &mut [u64; 16],
+    ) -> u64;
+
     /// Answer: named channel.
     pub fn spritbobbin_multiframe_build(
         multiframe: *mut u8,

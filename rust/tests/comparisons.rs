@@ -1,7 +1,8 @@
 //! Comparisons: each kind of place, the first 64, and every refusal in its order.
 
 use spritbobbin::{
-    compare, write_capture, Differences, FileOf, Level, LinePlace, NotCompared, Refusal,
+    compare, compare_lines, compare_stretch, write_capture, Differences, FileOf, Level, LinePlace,
+    NotCompared, Refusal,
 };
 
 fn capture(level: Level, line: &[u8], label: Option<&[u8]>) -> Vec<u8> {
@@ -21,6 +22,7 @@ fn turned(level: Level, frames: usize, places: &[usize]) -> Differences {
     let (one, other) = (capture(level, &zeros, None), capture(level, &ones, Some(b"south")));
     let found = compare(&one, &other).unwrap();
     assert_eq!(found, compare(&other, &one).unwrap(), "exchanged");
+    assert_eq!(found, compare_lines(level, &zeros, &ones).unwrap(), "the lines alone");
     found
 }
 
@@ -86,4 +88,43 @@ fn refusals_in_their_order() {
         "the first file: this is no capture: a field is wrong, missing or cut off at byte 4 \
          (counted from 0), or bytes follow there"
     );
+}
+
+/// Stretches one behind another add up to the comparison, and each has what lies in it.
+#[test]
+fn stretches_add_up() {
+    let (one, other) = (vec![0; 2 * 192], vec![0xFF; 2 * 192]);
+    let all = compare_lines(Level::Three, &one, &other).unwrap();
+    let numbers = |found: &Differences| {
+        let of = found.tributaries.map(|of| [of.control, of.justification, of.ordinary]);
+        [&[found.word, found.remote_alarm, found.national], of.as_flattened(), &[found.all]]
+            .concat()
+    };
+    let mut sums = vec![0; 16];
+    for first in (0..2 * 1536).step_by(7) {
+        let end = (first + 7).min(2 * 1536);
+        let part = compare_stretch(Level::Three, &one, &other, first..end).unwrap();
+        assert_eq!((part.all, part.first.len()), (end - first, 0));
+        sums.iter_mut().zip(numbers(&part)).for_each(|(sum, part)| *sum += part);
+    }
+    assert_eq!(sums, numbers(&all));
+}
+
+#[test]
+fn refused_lines() {
+    let line = [0; 2 * 106];
+    let bad = |bytes| {
+        let why = Refusal::Line { level: Level::Two, bytes };
+        Err(NotCompared::BadLine { why })
+    };
+    assert_eq!(compare_lines(Level::Two, &line[1..], &line), bad(211));
+    assert_eq!(compare_lines(Level::Two, &[0; 65 * 106], &line), bad(65 * 106));
+    let lengths = Err(NotCompared::Lines { one: 212, other: 106 });
+    assert_eq!(compare_lines(Level::Two, &line, &line[106..]), lengths);
+    assert_eq!(compare_stretch(Level::Two, &line, &line[106..], 0..usize::MAX), lengths);
+    let why = Refusal::Digits { first: 1, count: 1696, bytes: 212 };
+    let beyond = Err(NotCompared::BadLine { why });
+    assert_eq!(compare_stretch(Level::Two, &line, &line, 1..1697), beyond);
+    assert_eq!(compare_stretch(Level::Two, &line, &line, 0..1696), Ok(Differences::default()));
+    assert_eq!(compare_stretch(Level::Two, &line, &line, 1696..1696), Ok(Differences::default()));
 }

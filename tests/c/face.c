@@ -545,6 +545,34 @@ static uint64_t compared(const uint8_t *one, size_t one_bytes, const uint8_t *ot
     return spritbobbin_compare(one, one_bytes, other, other_bytes, answer, places);
 }
 
+static int untouched(const uint64_t *numbers, size_t many)
+{
+    for (size_t k = 0; k < many; k++)
+        if (numbers[k] != 0xA5A5A5A5A5A5A5A5)
+            return 0;
+    return 1;
+}
+
+/* The same two lines of 106 bytes without their files, and stretches of them. */
+static void lines(const uint8_t *one, const uint8_t *other)
+{
+    uint64_t answer[17], places[128], part[16];
+
+    memset(places, 0xA5, sizeof places);
+    check(spritbobbin_compare_lines(5, one, 106, other, 106, answer, places) == SPRITBOBBIN_REFUSED_LEVEL, "two lines of no level");
+    check(spritbobbin_compare_lines(2, one, 105, other, 106, answer, places) == SPRITBOBBIN_REFUSED_LINE, "a first line that is no whole frames");
+    check(spritbobbin_compare_lines(2, one, 106, other, 0, answer, places) == SPRITBOBBIN_REFUSED_LINE, "a second line of another length");
+    check(all_zero(answer, 17) && untouched(places, 128), "they write no list");
+    check(spritbobbin_compare_lines(2, one, 106, other, 106, answer, places) == SPRITBOBBIN_ACCEPTED, "two lines are compared");
+    check(answer[SPRITBOBBIN_WORD_DIFFERS - SPRITBOBBIN_SUMS] == 1 && answer[SPRITBOBBIN_CONTROL_DIFFERS(2) - SPRITBOBBIN_SUMS] == 1, "their word and control");
+    check(answer[SPRITBOBBIN_ALL_DIFFER - SPRITBOBBIN_SUMS] == 4 && answer[SPRITBOBBIN_LISTED - SPRITBOBBIN_SUMS] == 4, "all that differ in two lines");
+    check(places[3] == 213 && places[7] == 847 && all_zero(places + 8, 120), "and where");
+    check(spritbobbin_compare_stretch(2, one, 106, other, 106, 1, 847, part) == SPRITBOBBIN_ACCEPTED, "all but the first place");
+    check(part[0] == 0 && part[15] == 3 && part[SPRITBOBBIN_ORDINARY_DIFFERS(4) - SPRITBOBBIN_SUMS] == 1, "what differs there");
+    check(spritbobbin_compare_stretch(2, one, 106, other, 106, 2, 847, part) == SPRITBOBBIN_REFUSED_DIGITS && all_zero(part, 16), "a place too many");
+    check(spritbobbin_compare_stretch(2, one, 106, other, 106, UINT64_MAX, 2, part) == SPRITBOBBIN_REFUSED_DIGITS, "a sum that would wrap");
+}
+
 /* Two captures of a frame of level 2 that differ in the word, a control and a justification digit and the last digit; files that
    do not fit each other, and bad ones. */
 static void comparisons(void)
@@ -568,10 +596,12 @@ static void comparisons(void)
     check(all_zero(places + 8, 120), "zeros after them");
     check(compared(one, 113, other, 112, answer, places) == SPRITBOBBIN_REFUSED_FIELD, "the second file is cut off");
     check(answer[SPRITBOBBIN_FAULTY_FILE] == 2 && answer[SPRITBOBBIN_FAULTY_BYTE] == 4 && all_zero(answer + 2, 17), "it is named");
-    check(all_zero(places, 128), "and nothing is listed");
+    check(untouched(places, 128), "and the list is left as it was");
     check(compared(NULL, 0, other, 112, answer, places) == SPRITBOBBIN_REFUSED_FIELD && answer[0] == 1 && answer[1] == 0, "the first file first");
     check(compared(one, 113, other_level, 7, answer, places) == SPRITBOBBIN_REFUSED_LEVEL && all_zero(answer, 19), "unequal level before length");
     check(compared(one, 113, empty, 7, answer, places) == SPRITBOBBIN_REFUSED_LINE && all_zero(answer, 19), "unequal length");
+    check(untouched(places, 128), "a refusal writes no list");
+    lines(one + 7, other + 7);
     free(one);
     free(other);
 }

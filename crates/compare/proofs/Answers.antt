@@ -44,11 +44,12 @@ use Rattle.compare.proofs.compare.Reads as compare-reads
 
 -- ---- the statement leaves no second answer, it is what the call ensures, and the call asks nothing
 
-pub compare-one-answer : (one other : List ℕ) (a b : Compared) (l m : List ℕ) → CompareMet one other a l → CompareMet one other b m → (a ≡ b) × (l ≡ m)
-compare-one-answer one other a b l m x y = (x .0 ∙ sym (y .0), x .1 ∙ sym (y .1))
+pub compare-one-answer : (one other lent : List ℕ) (a b : Compared) (l m : List ℕ) → CompareMet one other lent a l → CompareMet one other lent b m
+    → (a ≡ b) × (l ≡ m)
+compare-one-answer one other lent a b l m x y = (x .0 ∙ sym (y .0), x .1 ∙ sym (y .1))
 
 pub compare-met : (κs : Lfts 3) (a : ArgsD compare.signature κs) (r : ResD compare.signature κs) (e : AtExit compare.ended κs) → compare-reads.Learnt κs a r e
-    → CompareMet (now (a .0)) (now (a .1 .0)) r (now (e .1 .1 .0))
+    → CompareMet (now (a .0)) (now (a .1 .0)) (now (a .1 .1 .0)) r (now (e .1 .1 .0))
 compare-met κs a r e met = met
 
 pub compare-asks-nothing : (κs : Lfts 3) (a : ArgsD compare.signature κs) → compare-reads.Asked κs a
@@ -56,19 +57,19 @@ compare-asks-nothing κs a = tt
 
 -- ---- the fifteen add up to all differing digits, refused or not
 
-abbrev AddsUp : Compared → Type 0
+abbrev pub AddsUp : Compared → Type 0
 AddsUp a = sumTo 15 (λ (k : ℕ). getD (a .sums) k 0) ≡ a .all
 
-refused-adds : (f : Fault) → AddsUp (refusedBy f)
+pub refused-adds : (f : Fault) → AddsUp (refusedBy f)
 refused-adds f = sum-all 15 0 (λ (k : ℕ). getD (replicate {A = ℕ} 15 0) k 0) (λ k _. zeros-at 15 k)
 
-counted-adds : (row : Row) (one other : List ℕ) → AddsUp (countedOn row one other)
+pub counted-adds : (row : Row) (one other : List ℕ) → AddsUp (countedOn row one other)
 unfolding countedOn
 counted-adds row one other = adds-up row (differAt one other) (8 * length one)
 
-pub sums-add-up : (one other : List ℕ) (a : Compared) (l : List ℕ) → CompareMet one other a l → AddsUp a
+pub sums-add-up : (one other lent : List ℕ) (a : Compared) (l : List ℕ) → CompareMet one other lent a l → AddsUp a
 unfolding comparedOf
-sums-add-up one other a l met =
+sums-add-up one other lent a l met =
     rw (met .0)
     (cond-by AddsUp (eqb (faultOf (readOf one) (readOf other) .refusal) 0) (by-level (levelOf (readOf one .level))) (refused-adds (faultOf (readOf one) (readOf other))))
   where
@@ -78,16 +79,16 @@ sums-add-up one other a l met =
 
 -- ---- what is known of an accepted comparison
 
-pub record ComparedWell (one other : List ℕ) : Type 0 where
+pub record ComparedWell (one other lent : List ℕ) : Type 0 where
   pub fits : Fitting (readOf one) (readOf other)
   pub row : Row
   pub has-row : levelOf (readOf one .level) ≡ Of row
   pub answer-is : comparedOf one other ≡ countedOn row (lineOf one) (lineOf other)
-  pub list-is : listedOf one other ≡ listedOn row (lineOf one) (lineOf other)
+  pub list-is : listedOf one other lent ≡ listedOn row (lineOf one) (lineOf other)
 
-compared-well : (one other : List ℕ) → comparedOf one other .refusal ≡ 0 → ComparedWell one other
+compared-well : (one other lent : List ℕ) → comparedOf one other .refusal ≡ 0 → ComparedWell one other lent
 unfolding comparedOf listedOf
-compared-well one other = go (eqb (f .refusal) 0) (levelOf (readOf one .level)) refl refl
+compared-well one other lent = go (eqb (f .refusal) 0) (levelOf (readOf one .level)) refl refl
   where
     f : Fault
     f = faultOf (readOf one) (readOf other)
@@ -97,17 +98,17 @@ compared-well one other = go (eqb (f .refusal) 0) (levelOf (readOf one .level)) 
 
     go : (t : Bool) (v : Level) → eqb (f .refusal) 0 ≡ t → levelOf (readOf one .level) ≡ v
         → cond t (onLevel v (λ (row : Row). countedOn row (lineOf one) (lineOf other)) (refusedBy (faultIn 1 0 0))) (refusedBy f) .refusal ≡ 0
-        → ComparedWell one other
+        → ComparedWell one other lent
     go true (Of row) x y e =
         record { fits = fitting (readOf one) (readOf other) (eqb-true (f .refusal) 0 x); row = row; has-row = y; answer-is = rw (x, y) refl; list-is = rw (x, y) refl }
     go true NoSuchLevel x y e = absurd (no-level e)
     go false v x y e = absurd (eqb-false (f .refusal) 0 x e)
 
 -- where two readings fit each other and their level has this row, that is the comparison
-fitted : (one other : List ℕ) → Fitting (readOf one) (readOf other) → (row : Row) → levelOf (readOf one .level) ≡ Of row
-    → (comparedOf one other ≡ countedOn row (lineOf one) (lineOf other)) × (listedOf one other ≡ listedOn row (lineOf one) (lineOf other))
+fitted : (one other lent : List ℕ) → Fitting (readOf one) (readOf other) → (row : Row) → levelOf (readOf one .level) ≡ Of row
+    → (comparedOf one other ≡ countedOn row (lineOf one) (lineOf other)) × (listedOf one other lent ≡ listedOn row (lineOf one) (lineOf other))
 unfolding comparedOf listedOf faultOf
-fitted one other f row has =
+fitted one other lent f row has =
     rw (
       eq-eqb (readOf one .refusal) 0 (f .one-good),
       eq-eqb (readOf other .refusal) 0 (f .other-good),
@@ -119,16 +120,32 @@ fitted one other f row has =
 fits-turned : {one other : Reading} → Fitting one other → Fitting other one
 fits-turned f = record { one-good = f .other-good; other-good = f .one-good; same-level = sym (f .same-level); same-bytes = sym (f .same-bytes) }
 
-well : (one other : List ℕ) (a : Compared) (l : List ℕ) → CompareMet one other a l → a .refusal ≡ 0 → ComparedWell one other
-well one other a l met z = compared-well one other (sym (ap (λ (v : Compared). v .refusal) (met .0)) ∙ z)
+well : (one other lent : List ℕ) (a : Compared) (l : List ℕ) → CompareMet one other lent a l → a .refusal ≡ 0 → ComparedWell one other lent
+well one other lent a l met z = compared-well one other lent (sym (ap (λ (v : Compared). v .refusal) (met .0)) ∙ z)
+
+-- ---- a refusal writes nothing
+
+pub refused-leaves-the-list : (one other lent : List ℕ) (a : Compared) (l : List ℕ) → CompareMet one other lent a l → (a .refusal ≡ 0 → ⊥) → l ≡ lent
+unfolding comparedOf listedOf countedOn
+refused-leaves-the-list one other lent a l met bad =
+    met .1 ∙ go (eqb (f .refusal) 0) (levelOf (readOf one .level)) refl refl
+  where
+    f : Fault
+    f = faultOf (readOf one) (readOf other)
+
+    go : (t : Bool) (v : Level) → eqb (f .refusal) 0 ≡ t → levelOf (readOf one .level) ≡ v
+        → cond t (onLevel v (λ (row : Row). listedOn row (lineOf one) (lineOf other)) lent) lent ≡ lent
+    go true (Of row) x y = absurd (bad (ap (λ (v : Compared). v .refusal) (met .0) ∙ rw (x, y) refl))
+    go true NoSuchLevel x y = refl
+    go false v x y = refl
 
 -- ---- the list shows the differing digits up to its length, and no other
 
-pub list-shows : (one other : List ℕ) (a : Compared) (l : List ℕ) → CompareMet one other a l → a .refusal ≡ 0
+pub list-shows : (one other lent : List ℕ) (a : Compared) (l : List ℕ) → CompareMet one other lent a l → a .refusal ≡ 0
     → (row : Row) → levelOf (readOf one .level) ≡ Of row → Lists row (differAt (lineOf one) (lineOf other)) (8 * length (lineOf one)) (a .listed) l
 unfolding countedOn
-list-shows one other a l met z row has =
-    let w = well one other a l met z in
+list-shows one other lent a l met z row has =
+    let w = well one other lent a l met z in
     let same : Of row ≡ Of (w .row) = sym has ∙ w .has-row in
     let is-row : row ≡ w .row = ap (λ (v : Level). onLevel v (λ (r : Row). r) row) same in
     let sh = shared-row (readOf one .level) row has in
@@ -140,7 +157,7 @@ list-shows one other a l met z row has =
 same-never : (line : List ℕ) (p : ℕ) → differAt line line p ≡ false
 same-never line p = not-differ line line p refl
 
-nothing-counted : (row : Row) (line : List ℕ) → (countedOn row line line ≡ refusedBy (faultIn 0 0 0)) × (listedOn row line line ≡ replicate 128 0)
+pub nothing-counted : (row : Row) (line : List ℕ) → (countedOn row line line ≡ refusedBy (faultIn 0 0 0)) × (listedOn row line line ≡ replicate 128 0)
 unfolding countedOn
 nothing-counted row line = (rw (← c .the-sums, ← c .the-all, none) refl, sym (c .the-places))
   where
@@ -156,16 +173,16 @@ nothing-counted row line = (rw (← c .the-sums, ← c .the-all, none) refl, sym
     none : length (take 64 (placesTo (differAt line line) n)) ≡ 0
     none = omega (arith, length-take 64 (placesTo (differAt line line) n), places-length (differAt line line) n, c .the-all)
 
-pub equal-lines-zeros : (one other : List ℕ) (a : Compared) (l : List ℕ) → CompareMet one other a l → a .refusal ≡ 0 → lineOf one ≡ lineOf other
+pub equal-lines-zeros : (one other lent : List ℕ) (a : Compared) (l : List ℕ) → CompareMet one other lent a l → a .refusal ≡ 0 → lineOf one ≡ lineOf other
     → (a ≡ refusedBy (faultIn 0 0 0)) × (l ≡ replicate 128 0)
-equal-lines-zeros one other a l met z same =
-    let w = well one other a l met z in
+equal-lines-zeros one other lent a l met z same =
+    let w = well one other lent a l met z in
     let none = nothing-counted (w .row) (lineOf other) in
     (met .0 ∙ w .answer-is ∙ rw same (none .0), met .1 ∙ w .list-is ∙ rw same (none .1))
 
-pub equal-files-zeros : (file : List ℕ) (a : Compared) (l : List ℕ) → CompareMet file file a l → a .refusal ≡ 0
+pub equal-files-zeros : (file lent : List ℕ) (a : Compared) (l : List ℕ) → CompareMet file file lent a l → a .refusal ≡ 0
     → (a ≡ refusedBy (faultIn 0 0 0)) × (l ≡ replicate 128 0)
-equal-files-zeros file a l met z = equal-lines-zeros file file a l met z refl
+equal-files-zeros file lent a l met z = equal-lines-zeros file file lent a l met z refl
 
 -- ---- exchanged files have the same sums and the same list
 
@@ -179,7 +196,7 @@ eqb-turned m n =
 turned : (one other : List ℕ) (p : ℕ) → differAt one other p ≡ differAt other one p
 turned one other p = ap not (eqb-turned (getD (digitsOf one) p 0) (getD (digitsOf other) p 0))
 
-counted-turned : (row : Row) (one other : List ℕ) → length one ≡ length other
+pub counted-turned : (row : Row) (one other : List ℕ) → length one ≡ length other
     → (countedOn row one other ≡ countedOn row other one) × (listedOn row one other ≡ listedOn row other one)
 unfolding countedOn
 counted-turned row one other same =
@@ -188,17 +205,17 @@ counted-turned row one other same =
     let places : placesTo (differAt one other) n ≡ placesTo (differAt other one) n = places-agree (differAt one other) (differAt other one) n agree in
     rw (same, sums-agree row (differAt one other) (differAt other one) n agree, all-agree (differAt one other) (differAt other one) n agree, places) (refl, refl)
 
-pub exchanged-same : (one other : List ℕ) (a b : Compared) (l m : List ℕ) → CompareMet one other a l → CompareMet other one b m → a .refusal ≡ 0
-    → (a ≡ b) × (l ≡ m)
-exchanged-same one other a b l m met back z =
+pub exchanged-same : (one other lent : List ℕ) (a b : Compared) (l m : List ℕ) → CompareMet one other lent a l → CompareMet other one lent b m
+    → a .refusal ≡ 0 → (a ≡ b) × (l ≡ m)
+exchanged-same one other lent a b l m met back z =
     let both = counted-turned (w .row) (lineOf one) (lineOf other) (line-length one ∙ fits .same-bytes ∙ sym (line-length other)) in
     (met .0 ∙ w .answer-is ∙ both .0 ∙ sym (back .0 ∙ is .0), met .1 ∙ w .list-is ∙ both .1 ∙ sym (back .1 ∙ is .1))
   where
-    w : ComparedWell one other
-    w = well one other a l met z
+    w : ComparedWell one other lent
+    w = well one other lent a l met z
 
     fits : Fitting (readOf one) (readOf other)
     fits = w .fits
 
-    is : (comparedOf other one ≡ countedOn (w .row) (lineOf other) (lineOf one)) × (listedOf other one ≡ listedOn (w .row) (lineOf other) (lineOf one))
-    is = fitted other one (fits-turned fits) (w .row) (sym (ap levelOf (fits .same-level)) ∙ w .has-row)
+    is : (comparedOf other one ≡ countedOn (w .row) (lineOf other) (lineOf one)) × (listedOf other one lent ≡ listedOn (w .row) (lineOf other) (lineOf one))
+    is = fitted other one lent (fits-turned fits) (w .row) (sym (ap levelOf (fits .same-level)) ∙ w .has-row)

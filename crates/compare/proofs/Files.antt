@@ -23,6 +23,7 @@ use Rattle.captures.specs.declared.Reading.{Reading}
 use Rattle.captures.specs.Captures.{endAt, partAt, fieldAt, unread, afterLine, fieldsOf, readOf, bytesIn}
 use Rattle.captures.proofs.Walking.{stands}
 use Rattle.tally.specs.Tally.{differAt}
+use Rattle.compare.specs.declared.Compared.{Compared}
 use Rattle.compare.specs.Compare.{faultIn, faultOf, placesTo, countedOn, listedOn}
 use Rattle.compare.specs.Counting.{Lines, Counted}
 use Rattle.compare.proofs.Listing.{places-length}
@@ -123,27 +124,21 @@ lent-lines row sh one other first second a b same short =
     y = length-take-le (second .bytes) (drop (second .start) other) (omega (arith, length-drop (second .start) other))
 
 -- what was counted and listed at the end of the lines is the answer
-pub finished : (row : Row) (one other : List ℕ) (first second : Part) (all listed : ℕ) (sums places : List ℕ)
-    → Counted row (lent one first) (lent other second) (8 * length (lent one first)) all sums places → listed ≡ min all 64
-    → (record { refusal = 0; file = 0; byte = 0; sums = sums; all = all; listed = listed } ≡ countedOn row (bytesIn one first) (bytesIn other second))
-    × (places ≡ listedOn row (bytesIn one first) (bytesIn other second))
+pub finished : (row : Row) (one other : List ℕ) (all listed : ℕ) (sums places : List ℕ) → Counted row one other (8 * length one) all sums places
+    → listed ≡ min all 64
+    → (record { refusal = 0; file = 0; byte = 0; sums = sums; all = all; listed = listed } ≡ countedOn row one other)
+    × (places ≡ listedOn row one other)
 unfolding countedOn
-finished row one other first second all listed sums places counted few = (answer, c .the-places)
+finished row one other all listed sums places c few = (rw (shown, c .the-all, c .the-sums) refl, c .the-places)
   where
-    a : List ℕ
-    a = bytesIn one first
-
-    b : List ℕ
-    b = bytesIn other second
-
-    c : Counted row a b (8 * length a) all sums places
-    c = rw (lent-is one first, lent-is other second) at counted
-
     ps : List ℕ
-    ps = placesTo (differAt a b) (8 * length a)
+    ps = placesTo (differAt one other) (8 * length one)
 
     shown : listed ≡ length (take 64 ps)
-    shown = few ∙ min-comm all 64 ∙ rw (c .the-all, ← places-length (differAt a b) (8 * length a)) (sym (length-take 64 ps))
+    shown = few ∙ min-comm all 64 ∙ rw (c .the-all, ← places-length (differAt one other) (8 * length one)) (sym (length-take 64 ps))
 
-    answer : record { refusal = 0; file = 0; byte = 0; sums = sums; all = all; listed = listed } ≡ countedOn row a b
-    answer = rw (shown, c .the-all, c .the-sums) refl
+-- and that of the parts of two files as they are lent is that of their bytes
+pub of-parts : (row : Row) (one other : List ℕ) (first second : Part) (a : Compared) (l : List ℕ)
+    → (a ≡ countedOn row (lent one first) (lent other second)) × (l ≡ listedOn row (lent one first) (lent other second))
+    → (a ≡ countedOn row (bytesIn one first) (bytesIn other second)) × (l ≡ listedOn row (bytesIn one first) (bytesIn other second))
+of-parts row one other first second a l e = rw (lent-is one first, lent-is other second) at e

@@ -1,8 +1,10 @@
 pub mod Listing
 pub mod Walking
 pub mod Files
+pub mod TwoLines
 pub mod Picked
 pub mod Lists
 pub mod Answers
+pub mod LineAnswers
 pub mod Growing
 pub mod StretchAnswers

@@ -1,5 +1,6 @@
 -- Where two recordings differ: what a comparison of two captures answers and lists, refused or not, for any bytes. Request 6 of document 02. A file
--- is read as by the reader (crate captures), and what differs is counted in the fifteen sums (crate tally).
+-- is read as by the reader (crate captures), and what differs is counted in the fifteen sums (crate tally). specs/Lines.antt says the same of two
+-- lines without their files.
 use mathlib.Core.Path.{_≡_}
 use mathlib.Core.Bool.{Bool, cond}
 use mathlib.Core.List.{List, [], _∷_, _++_}
@@ -78,13 +79,13 @@ comparedOf one other =
     (onLevel (levelOf (readOf one .level)) (λ (row : Row). countedOn row (lineOf one) (lineOf other)) (refusedBy (faultIn 1 0 0)))
     (refusedBy (faultOf (readOf one) (readOf other)))
 
--- what it leaves in the list of frames and places
-unfoldable pub listedOf : List ℕ → List ℕ → List ℕ
-listedOf one other =
+-- what it leaves in the list of frames and places; a refusal writes nothing, so the list is then as it was
+unfoldable pub listedOf : List ℕ → List ℕ → List ℕ → List ℕ
+listedOf one other lent =
     cond (eqb (faultOf (readOf one) (readOf other) .refusal) 0)
-    (onLevel (levelOf (readOf one .level)) (λ (row : Row). listedOn row (lineOf one) (lineOf other)) (replicate 128 0))
-    (replicate 128 0)
+    (onLevel (levelOf (readOf one .level)) (λ (row : Row). listedOn row (lineOf one) (lineOf other)) lent)
+    lent
 
--- the whole statement of `compare`: its answer, and the list it leaves
-abbrev pub CompareMet : List ℕ → List ℕ → Compared → List ℕ → Type 0
-CompareMet one other answer places = (answer ≡ comparedOf one other) × (places ≡ listedOf one other)
+-- the whole statement of `compare`: its answer, and what it leaves in the list that it was lent
+abbrev pub CompareMet : List ℕ → List ℕ → List ℕ → Compared → List ℕ → Type 0
+CompareMet one other lent answer left = (answer ≡ comparedOf one other) × (left ≡ listedOf one other lent)

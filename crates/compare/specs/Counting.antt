@@ -9,6 +9,7 @@ use Rattle.table.specs.declared.Row.{Row}
 use Rattle.levels.specs.Table.{Shared}
 use Rattle.tally.specs.Tally.{allOf, sumsOf, differAt}
 use Rattle.compare.specs.Compare.{placesTo, listOf}
+use Rattle.compare.specs.Lines.{differFrom}
 
 -- two lines of one length, no longer than 64 frames are
 pub record Lines (row : Row) (one other : List ℕ) : Type 0 where
@@ -20,6 +21,11 @@ pub record Counted (row : Row) (one other : List ℕ) (n all : ℕ) (sums places
   pub the-all : all ≡ allOf (differAt one other) n
   pub the-sums : sums ≡ sumsOf row (differAt one other) n
   pub the-places : places ≡ listOf row (placesTo (differAt one other) n)
+
+-- the same of a stretch that begins at `first`, without a list
+pub record Summed (row : Row) (one other : List ℕ) (first n all : ℕ) (sums : List ℕ) : Type 0 where
+  pub the-all : all ≡ allOf (differFrom one other first) n
+  pub the-sums : sums ≡ sumsOf row (differFrom one other first) n
 
 -- place p put into the list behind so many others, where there is room
 abbrev pub putPlace : Row → ℕ → ℕ → List ℕ → List ℕ

@@ -1,4 +1,5 @@
 pub mod Compare
 pub mod Counting
+pub mod Lines
 pub mod Promises
 pub mod Stretches

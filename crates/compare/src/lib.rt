@@ -1,6 +1,7 @@
 // Where two recordings differ (request 6): two captures are read, held against each other and compared. specs/Compare.antt says what the comparison
-// answers and what it lists.
+// answers and what it lists. lines.rt compares two lines that stand in no file.
 pub mod counting;
+pub mod lines;
 pub mod stretches;
 
 use captures::Part;
@@ -9,10 +10,11 @@ use table::Level;
 use table::Row;
 ghost use mathlib.Core.Path.{_≡_};
 ghost use Prim.Native.Nat.{_+_, _<_, _≤_};
-ghost use lib.ListN.{length, replicate};
+ghost use lib.ListN.{length};
 ghost use Rattle.levels.specs.Table.{Shared};
 ghost use Rattle.captures.specs.Captures.{bytesIn};
 ghost use Rattle.compare.specs.Compare.{faultIn, faultOf, refusedBy, countedOn, listedOn, CompareMet};
+ghost use Rattle.compare.specs.Counting.{Lines};
 
 // The first so many differing digits are listed.
 pub const LISTED_MOST: usize = 64;
@@ -35,7 +37,7 @@ pub struct Compared {
     pub listed: usize,
 }
 
-fn fault_in(refusal: u64, file: u64, byte: usize) -> Fault
+pub fn fault_in(refusal: u64, file: u64, byte: usize) -> Fault
     ensures { λ r. ⌜ r ≡ faultIn refusal file byte ⌝ }
 {
     Fault {
@@ -64,7 +66,7 @@ fn fault_of(one: Reading, other: Reading) -> Fault
     fault_in(0, 0, 0)
 }
 
-fn refused(fault: Fault) -> Compared
+pub fn refused(fault: Fault) -> Compared
     ensures { λ r. ⌜ r ≡ refusedBy fault ⌝ }
 {
     Compared {
@@ -77,7 +79,28 @@ fn refused(fault: Fault) -> Compared
     }
 }
 
-// The row is known, and the lines stand in these parts of the files: they are counted and listed.
+// Two lines of one length are counted and listed: the core of every comparison.
+pub fn counted_on(row: Row, one: &[u8], other: &[u8], places: &mut [u64; 128]) -> Compared
+    requires { ⌜ Lines row (now one) (now other) ⌝ }
+    ensures { λ r. ⌜
+        (r ≡ countedOn row (now (one .entry)) (now (other .entry)))
+        × (now (places .exit) ≡ listedOn row (now (one .entry)) (now (other .entry)))
+        ⌝ }
+{
+    *places = [0; 128];
+    let mut sums: [usize; 15] = [0; 15];
+    let all = counting::count_lines(row, one, other, &mut sums, places);
+    Compared {
+        refusal: 0,
+        file: 0,
+        byte: 0,
+        sums,
+        all,
+        listed: counting::at_most(all, LISTED_MOST),
+    }
+}
+
+// The row is known, and the lines stand in these parts of the files.
 fn compared_on(
     row: Row,
     one: &[u8],
@@ -92,7 +115,6 @@ fn compared_on(
         × (second .start + second .bytes ≤ length (now other))
         × (first .bytes ≡ second .bytes)
         × (first .bytes < 65536)
-        × (now places ≡ replicate 128 0)
         ⌝ }
     ensures { λ r. ⌜
         (r ≡ countedOn row (bytesIn (now (one .entry)) first) (bytesIn (now (other .entry)) second))
@@ -103,23 +125,14 @@ fn compared_on(
     let b = a + first.bytes;
     let c = second.start;
     let d = c + second.bytes;
-    let mut sums: [usize; 15] = [0; 15];
-    let all = counting::count_lines(row, &one[a..b], &other[c..d], &mut sums, places);
-    Compared {
-        refusal: 0,
-        file: 0,
-        byte: 0,
-        sums,
-        all,
-        listed: counting::at_most(all, LISTED_MOST),
-    }
+    counted_on(row, &one[a..b], &other[c..d], places)
 }
 
-// Compares two captures. Any bytes: where they are no two captures of one level and length, all is zero but what the refusal names.
+// Compares two captures. Any bytes: where they are no two captures of one level and length, the list stays as it was, and all is zero but what the
+// refusal names.
 pub fn compare(one: &[u8], other: &[u8], places: &mut [u64; 128]) -> Compared
-    ensures { λ r. ⌜ CompareMet (now (one .entry)) (now (other .entry)) r (now (places .exit)) ⌝ }
+    ensures { λ r. ⌜ CompareMet (now (one .entry)) (now (other .entry)) (now (places .entry)) r (now (places .exit)) ⌝ }
 {
-    *places = [0; 128];
     let first = captures::read(one);
     let second = captures::read(other);
     let fault = fault_of(first, second);

@@ -23,11 +23,11 @@ compared-on-requires c κs =
     let c7 = c5 .before .before in
     let c8 = c7 .before in
     let c9 = c8 .before in
-    let c13 = c9 .before .before .before .before in
+    let c12 = c9 .before .before .before in
     let fits = fitting (c9 .read .result) (c8 .read2 .result) (rw (← c7 .fault-of .ensures) (c5 .if1 .left)) in
-    let one = rw (← c9 .read .ensures) at (line-within (c13 .args .one .now)) in
-    let other = rw (← c8 .read2 .ensures) at (line-within (c13 .args .other .now)) in
-    (shared-row _ _ (sym (c4 .level-of .ensures) ∙ c .before .before .found .given .1), one .inside, other .inside, fits .same-bytes, one .short, refl)
+    let one = rw (← c9 .read .ensures) at (line-within (c12 .args .one .now)) in
+    let other = rw (← c8 .read2 .ensures) at (line-within (c12 .args .other .now)) in
+    (shared-row _ _ (sym (c4 .level-of .ensures) ∙ c .before .before .found .given .1), one .inside, other .inside, fits .same-bytes, one .short)
 
 returns-2 : tie.Need-returns-2
 unfolding comparedOf listedOf

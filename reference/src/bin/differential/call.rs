@@ -1,8 +1,9 @@
 //! A call with its inputs, what came of it, and what the reference says of it.
 
+use crate::face::UNWRITTEN;
 use reference::copy_digits;
 use reference::{build_multiframe, take_multiframe_apart};
-use reference::{compare, Differences, MOST_LISTED};
+use reference::{compare, compare_lines, compare_stretch, Differences, MOST_LISTED};
 use reference::{extract, feed, fresh, line_digit, multiplex, read_notes, Counted, State};
 use reference::{finder_feed, FinderState};
 use reference::{judge, Judged};
@@ -85,6 +86,14 @@ pub struct Whole {
     pub spare: Vec<u8>,
 }
 
+/// What a comparison of two lines is lent; a stretch has its first place and how many.
+#[derive(Clone)]
+pub struct Pair {
+    pub level: u64,
+    pub one: Vec<u8>,
+    pub other: Vec<u8>,
+}
+
 pub enum Call {
     Multiplex(Lending),
     ReadNotes(Lending),
@@ -104,10 +113,12 @@ pub enum Call {
     Repair(Worn),
     Judge(Trace),
     Copy(Copying),
+    CompareLines(Pair),
+    CompareStretch(Pair, u64, u64),
 }
 
 /// The names of the calls, in the order of their numbers.
-pub const NAMES: [&str; 20] = [
+pub const NAMES: [&str; 22] = [
     "multiplex",
     "read_notes",
     "receiver_fresh",
@@ -128,6 +139,8 @@ pub const NAMES: [&str; 20] = [
     "repair",
     "judge",
     "copy_digits",
+    "compare_lines",
+    "compare_stretch",
 ];
 
 /// All that a call answers and leaves: two outcomes are equal or there is a disagreement.
@@ -164,6 +177,8 @@ impl Call {
             Call::Repair(_) => 17,
             Call::Judge(_) => 18,
             Call::Copy(_) => 19,
+            Call::CompareLines(_) => 20,
+            Call::CompareStretch(..) => 21,
         }
     }
 
@@ -191,6 +206,8 @@ impl Call {
             Call::Judge(_) => "of each: fits, wrong by own, before and after, changes",
             Call::Copy(_) => "none",
             Call::Compare(..) => "file, byte, fifteen sums, all, listed; frame and place of each",
+            Call::CompareLines(_) => "fifteen sums, all, listed; frame and place of each",
+            Call::CompareStretch(..) => "fifteen sums, all",
         }
     }
 
@@ -258,6 +275,10 @@ impl Call {
             Call::Compare(one, other) => {
                 format!("one {}; other {}", in_short(one), in_short(other))
             }
+            Call::CompareLines(pair) => pair.short(),
+            Call::CompareStretch(pair, first, count) => {
+                format!("{}; first {first} count {count}", pair.short())
+            }
         }
     }
 
@@ -294,6 +315,16 @@ impl Call {
                 let (refusal, numbers) = compared_numbers(&compare(one, other));
                 outcome(refusal, numbers, vec![("one", one.clone()), ("other", other.clone())])
             }
+            Call::CompareLines(pair) => {
+                let found = compare_lines(pair.level, &pair.one, &pair.other);
+                let (refusal, numbers) = compared_numbers(&found);
+                outcome(refusal, numbers[2..].to_vec(), pair.lines())
+            }
+            Call::CompareStretch(pair, first, count) => {
+                let found = compare_stretch(pair.level, &pair.one, &pair.other, *first, *count);
+                let (refusal, numbers) = compared_numbers(&found);
+                outcome(refusal, numbers[2..18].to_vec(), pair.lines())
+            }
         }
     }
 }
@@ -302,6 +333,17 @@ impl Worn {
     /// The level, the earlier vote and the line of a call that is lent more, and the switch.
     pub fn of(with: Lending, national: u64) -> Worn {
         Worn { level: with.level, earlier: with.earlier, national, line: with.line }
+    }
+}
+
+impl Pair {
+    fn short(&self) -> String {
+        let (one, other) = (in_short(&self.one), in_short(&self.other));
+        format!("level {}; one {one}; other {other}", self.level)
+    }
+
+    fn lines(&self) -> Vec<(&'static str, Vec<u8>)> {
+        vec![("one", self.one.clone()), ("other", self.other.clone())]
     }
 }
 
@@ -447,7 +489,8 @@ pub fn read_numbers(file: &[u8]) -> (u64, [u64; 7]) {
     (read.refusal, [read.level, line[0], line[1], labelled, label[0], label[1], read.byte])
 }
 
-/// What the reference finds, in the face's order: the answer, then the list with its zeros.
+/// What the reference finds, in the face's order: the answer, then the list with its zeros, which a
+/// refusal leaves unwritten.
 pub fn compared_numbers(found: &Differences) -> (u64, Vec<u64>) {
     let all = found.places.len();
     let listed = all.min(MOST_LISTED);
@@ -457,7 +500,8 @@ pub fn compared_numbers(found: &Differences) -> (u64, Vec<u64>) {
     for (frame, place) in &found.places[..listed] {
         numbers.extend([*frame as u64, *place as u64]);
     }
-    numbers.resize(19 + 2 * MOST_LISTED, 0);
+    let after = if found.refusal == 0 { 0 } else { UNWRITTEN };
+    numbers.resize(19 + 2 * MOST_LISTED, after);
     (found.refusal, numbers)
 }
 

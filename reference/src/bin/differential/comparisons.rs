@@ -1,8 +1,8 @@
-//! Comparisons of two captures: each place of a frame alone, lines that differ in a few digits, in
-//! all, and in as many as the list has room for and one more or less, every pair of faults, and
-//! files of any fields.
+//! Comparisons of two captures and of two lines: each place of a frame alone, lines that differ in a
+//! few digits, in all, and in as many as the list has room for and one more or less, every pair of
+//! faults, files of any fields, and stretches of every kind of length.
 
-use crate::call::Call;
+use crate::call::{Call, Pair};
 use crate::captures::{any_file, levels};
 use crate::Run;
 use reference::level::Row;
@@ -21,6 +21,7 @@ pub fn part(run: &mut Run) {
     }
     for _ in 0..run.often(4_000) {
         any_pair(run);
+        any_lines(run);
     }
     for _ in 0..run.often(20_000) {
         let (one, other) = (any_file(&mut run.random), any_file(&mut run.random));
@@ -37,12 +38,45 @@ fn capture(random: &mut Random, level: u64, line: &[u8]) -> Vec<u8> {
     file
 }
 
-/// Compares two lines both ways.
-fn lines(run: &mut Run, level: u64, one: &[u8], other: &[u8]) {
+/// Compares two lines both ways, each in a capture of its own.
+fn captures(run: &mut Run, level: u64, one: &[u8], other: &[u8]) {
     let (one, other) =
         (capture(&mut run.random, level, one), capture(&mut run.random, level, other));
     run.compare(&Call::Compare(one.clone(), other.clone()));
     run.compare(&Call::Compare(other, one));
+}
+
+/// Two lines both ways, as captures and alone, and stretches of them.
+fn lines(run: &mut Run, level: u64, one: &[u8], other: &[u8]) {
+    captures(run, level, one, other);
+    let pair = Pair { level, one: one.to_vec(), other: other.to_vec() };
+    run.compare(&Call::CompareLines(Pair { level, one: other.to_vec(), other: one.to_vec() }));
+    let digits = 8 * one.len();
+    for _ in 0..2 {
+        let first = run.random.index(digits + 1);
+        let room = digits - first;
+        let count =
+            run.random.pick(&[0, 1, room.min(7), room.min(64), room.min(900), room, room + 1]);
+        run.compare(&Call::CompareStretch(pair.clone(), first as u64, count as u64));
+    }
+    run.compare(&Call::CompareStretch(pair.clone(), 0, digits as u64));
+    run.compare(&Call::CompareLines(pair));
+}
+
+/// Lines of any level number and length, and stretches of any numbers.
+fn any_lines(run: &mut Run) {
+    let level = run.random.pick(&[2, 2, 3, 4, 12, 14, 0, 1, 5, 13, 258, u64::MAX]);
+    let bytes = levels().find(|row| row.level == level).map_or(106, Row::frame_bytes);
+    let long = [0, 1, bytes - 1, bytes, bytes + 1, 2 * bytes, 64 * bytes, 65 * bytes, 66 * bytes];
+    let one = run.random.pick(&long);
+    let one = run.random.filled(one);
+    let other = if run.random.below(3) == 0 { run.random.pick(&long) } else { one.len() };
+    let other = run.random.filled(other);
+    let wide = [0, 1, 7, 8 * one.len() as u64, u64::MAX, 1 << 63, 1 << 32];
+    let (first, count) = (run.random.pick(&wide), run.random.pick(&wide));
+    let pair = Pair { level, one, other };
+    run.compare(&Call::CompareStretch(pair.clone(), first, count));
+    run.compare(&Call::CompareLines(pair));
 }
 
 fn turn(line: &mut [u8], place: usize) {

@@ -1,5 +1,6 @@
 //! The product's C face, and the calls made through it with guards around all that is lent.
 
+use crate::call::Pair;
 use crate::call::{
     finder_numbers, state_numbers, Call, Copying, Hunt, Lending, Outcome, Piece, Trace, Whole,
     Worn, Writing,
@@ -63,6 +64,14 @@ extern "C" {
     pub fn spritbobbin_compare(
         one: *const u8, one_bytes: usize, other: *const u8, other_bytes: usize,
         answer: *mut u64, places: *mut u64,
+    ) -> u64;
+    pub fn spritbobbin_compare_lines(
+        level: u64, one: *const u8, one_bytes: usize, other: *const u8, other_bytes: usize,
+        answer: *mut u64, places: *mut u64,
+    ) -> u64;
+    pub fn spritbobbin_compare_stretch(
+        level: u64, one: *const u8, one_bytes: usize, other: *const u8, other_bytes: usize,
+        first: u64, count: u64, answer: *mut u64,
     ) -> u64;
     pub fn spritbobbin_rack_feed(
         records: *mut u64, number: usize, line: u64, piece: *const u8, piece_bytes: usize,
@@ -186,6 +195,8 @@ pub fn by_face(call: &Call) -> Outcome {
         Call::FinderFresh => finder_fresh(),
         Call::FinderFeed(hunt) => finder_feed(hunt),
         Call::Compare(one, other) => compare(one, other),
+        Call::CompareLines(pair) => compare_lines(pair),
+        Call::CompareStretch(pair, first, count) => compare_stretch(pair, *first, *count),
         Call::Swap(with, tributary) => swap(with, *tributary),
         Call::Repair(worn) => repair(worn),
         Call::Judge(trace) => judge(trace),
@@ -412,4 +423,27 @@ fn compare(one: &[u8], other: &[u8]) -> Outcome {
         spritbobbin_compare(o, one.count(), p, other.count(), a, l)
     };
     outcome(refusal, &[answer, places], &[one, other])
+}
+
+fn compare_lines(pair: &Pair) -> Outcome {
+    let (mut one, mut other) = (bytes("one", &pair.one), bytes("other", &pair.other));
+    let mut answer = numbers("answer", &[UNWRITTEN; 17]);
+    let mut places = numbers("places", &[UNWRITTEN; 128]);
+    // Sound as above.
+    let refusal = unsafe {
+        let (o, p, a, l) = (one.pointer(), other.pointer(), answer.pointer(), places.pointer());
+        spritbobbin_compare_lines(pair.level, o, one.count(), p, other.count(), a, l)
+    };
+    outcome(refusal, &[answer, places], &[one, other])
+}
+
+fn compare_stretch(pair: &Pair, first: u64, count: u64) -> Outcome {
+    let (mut one, mut other) = (bytes("one", &pair.one), bytes("other", &pair.other));
+    let mut answer = numbers("answer", &[UNWRITTEN; 16]);
+    // Sound as above.
+    let refusal = unsafe {
+        let (o, p, a) = (one.pointer(), other.pointer(), answer.pointer());
+        spritbobbin_compare_stretch(pair.level, o, one.count(), p, other.count(), first, count, a)
+    };
+    outcome(refusal, &[answer], &[one, other])
 }

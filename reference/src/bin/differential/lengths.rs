@@ -423,7 +423,7 @@ fn null_pointers(run: &mut Run) {
     for (one, other, file) in
         [((null, 0), good, 1), (good, (null, 0), 2), ((null, 0), (null, 0), 1)]
     {
-        let expected = [&[9, file], &[0; 146][..]].concat();
+        let expected = [&[9, file], &[0; 18][..], &[UNWRITTEN; 128]].concat();
         run.expect(12, "null file", &expected, &raw_compare(one, other));
     }
     for (first, count) in [(0, 0), (0, 1), (1, 0), (u64::MAX, 1)] {
