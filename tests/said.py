@@ -1,12 +1,7 @@
-#!/usr/bin/env python3
-"""The text of commands, made of their JSON objects: tests/said.py CALLED JSON, where CALLED has the commands' names, a line each, and JSON an object a line.
+"""The text of a command, made of its JSON object; for tests/commands.
 
 What a command says as JSON and what it says as text are two forms of the same; here the one is made of the other, by what docs/JSON.md says of each field.
 """
-import json
-import sys
-
-
 def written(said):
     return "".join(f"written: {name}\n" for name in said["written"])
 
@@ -205,6 +200,6 @@ def text(said):
 SAID = {"send": send, "take": take, "extract": extract, "notes": notes, "agree": agree, "find": find, "watch": watch, "swap": swap, "repair": repair}
 SAID |= {"keep": keep, "show": keep, "compare": compare, "build": build, "apart": apart, "hunt": hunt, "frame": text, "multiframe": text, "demo": text}
 
-with open(sys.argv[1], encoding="utf-8") as called, open(sys.argv[2], encoding="utf-8") as objects:
-    for name, line in zip(called, objects, strict=True):
-        sys.stdout.write(SAID[name.strip()](json.loads(line)))
+
+def text_of(command, object_said):
+    return SAID[command](object_said)
