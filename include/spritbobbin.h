@@ -80,7 +80,7 @@
  *
  * REFUSALS
  *
- * Each call but spritbobbin_line_digit returns one of these numbers.
+ * Each call but spritbobbin_line_digit and spritbobbin_version returns one of these numbers.
  *
  *   0  accepted
  *   1  the level is not 2, 3, 4, 12 or 14
@@ -101,7 +101,7 @@
  *      stretch, more zeros than digits there, or a number for yes or no that is over 1; for the
  *      finder of 2048 kbit/s frames: see spritbobbin_finder_feed
  *   7  first + count is more than the digits of the slice, for a copy of either slice, or of the
- *      lines that are compared
+ *      lines that are compared; for what a place is: there is no such place
  *   8  a rack: it has no line of this number
  *   9  writing a capture: the label is over 32 bytes; reading one: the bytes are no run of a
  *      capture's fields, and the answer names the byte where the field at fault begins or should
@@ -208,6 +208,13 @@ enum {
     SPRITBOBBIN_REFUSED_PATTERN = 13
 };
 
+/* The version of this header; spritbobbin_version answers that of the library. */
+#define SPRITBOBBIN_VERSION_MAJOR 0
+#define SPRITBOBBIN_VERSION_MINOR 2
+#define SPRITBOBBIN_VERSION_PATCH 0
+#define SPRITBOBBIN_VERSION \
+    (SPRITBOBBIN_VERSION_MAJOR * 1000000 + SPRITBOBBIN_VERSION_MINOR * 1000 + SPRITBOBBIN_VERSION_PATCH)
+
 /* Sizes, by level where they differ. */
 enum {
     SPRITBOBBIN_FRAME_DIGITS_2 = 848,
@@ -236,6 +243,7 @@ enum {
     SPRITBOBBIN_MOST_BYTES = 65536,      /* in a piece, or in a line that is read digit by digit */
     SPRITBOBBIN_MOST_LABEL_BYTES = 32,   /* in a capture */
     SPRITBOBBIN_MULTIFRAME_BYTES = 512,
+    SPRITBOBBIN_MULTIFRAME_DIGITS = 4096,
     SPRITBOBBIN_CHANNELS_BYTES = 480,  /* of a multiframe: sixteen for each of thirty channels */
     SPRITBOBBIN_SIGNALLING_BYTES = 15, /* of a multiframe */
     SPRITBOBBIN_SPARE_BYTES = 9        /* of a multiframe: 68 digits */
@@ -302,6 +310,31 @@ enum {
     SPRITBOBBIN_RACK_ALIGNED = 0, /* a rack: lines in mode aligned */
     SPRITBOBBIN_NAMED_CHANNEL = 0, /* building a multiframe: under 11 */
     SPRITBOBBIN_NAMED_BYTE = 6   /* under 9: where the field at fault begins or should begin */
+};
+
+/* What a place of a frame is: the first number of the answer of spritbobbin_place. */
+enum {
+    SPRITBOBBIN_PLACE_WORD = 0,
+    SPRITBOBBIN_PLACE_REMOTE_ALARM = 1,
+    SPRITBOBBIN_PLACE_SERVICE = 2, /* national, or other service */
+    SPRITBOBBIN_PLACE_CONTROL = 3,
+    SPRITBOBBIN_PLACE_JUSTIFICATION = 4, /* at levels 12 and 14 a positive place */
+    SPRITBOBBIN_PLACE_NEGATIVE = 5,      /* levels 12 and 14 only */
+    SPRITBOBBIN_PLACE_ORDINARY = 6
+};
+
+/* What a place of a multiframe is: the first number of the answer of spritbobbin_multiframe_place. */
+enum {
+    SPRITBOBBIN_MULTIFRAME_WORD = 0,          /* 0011011, in byte 0 of even frames */
+    SPRITBOBBIN_MULTIFRAME_SECOND = 1,        /* the second digit of byte 0 of odd frames, 1 */
+    SPRITBOBBIN_MULTIFRAME_START = 2,         /* 0000, in byte 16 of frame 0 */
+    SPRITBOBBIN_MULTIFRAME_INTERNATIONAL = 3, /* M: reserved for international use */
+    SPRITBOBBIN_MULTIFRAME_ALARM = 4,         /* A */
+    SPRITBOBBIN_MULTIFRAME_NATIONAL = 5,      /* N: for use at home */
+    SPRITBOBBIN_MULTIFRAME_X = 6,
+    SPRITBOBBIN_MULTIFRAME_Y = 7, /* the alarm of the multiframe */
+    SPRITBOBBIN_MULTIFRAME_SIGNALLING = 8,
+    SPRITBOBBIN_MULTIFRAME_CHANNEL = 9
 };
 
 /* What else stands where in the answer of a repair, tributary being 1 to 4. */
@@ -609,6 +642,13 @@ uint64_t spritbobbin_copy_digits(uint8_t *to, size_t to_bytes, uint64_t at,
                                  const uint8_t *from, size_t from_bytes, uint64_t first, uint64_t count);
 
 /*
+ * What a place of a frame is, places counted from 0, by the layout of the level alone. answer: one of
+ * SPRITBOBBIN_PLACE_..; the tributary, 1 to 4, that owns the place, or 0. Returns 0, or 1, or 7 where
+ * the place is N or more.
+ */
+uint64_t spritbobbin_place(uint64_t level, uint64_t place, uint64_t answer[2]);
+
+/*
  * Writes a capture of a line at the beginning of file; bytes after it stay as they were.
  *
  * A capture is fields, each of a one-byte tag, a two-byte length (high byte first) and that many
@@ -700,6 +740,20 @@ uint64_t spritbobbin_multiframe_apart(const uint8_t *multiframe, size_t multifra
                                       uint8_t *channels, size_t channels_bytes,
                                       uint8_t *signalling, size_t signalling_bytes,
                                       uint8_t *spare, size_t spare_bytes);
+
+/*
+ * What a place of a multiframe is, 0 to 4095: digit place % 8 of byte place / 8 % 32 of frame
+ * place / 256. answer: one of SPRITBOBBIN_MULTIFRAME_WORD to _CHANNEL; of a digit that is fixed (word,
+ * second digit, start) the digit, of signalling and of a channel its channel, 1 to 30, else 0.
+ * Returns 0, or 7 where the place is 4096 or more.
+ */
+uint64_t spritbobbin_multiframe_place(uint64_t place, uint64_t answer[2]);
+
+/*
+ * The version of the library: MAJOR * 1000000 + MINOR * 1000 + PATCH. It is not that of this header,
+ * SPRITBOBBIN_VERSION, where the two do not belong together.
+ */
+uint64_t spritbobbin_version(void);
 
 #ifdef __cplusplus
 }

@@ -37,6 +37,27 @@ pub fn layout(row: &Row) -> Vec<Place> {
     places
 }
 
+/// The number of a place's kind and of the tributary that owns it, by the header's list; the place's
+/// refusal first.
+pub fn place_numbers(level: u64, place: u64) -> [u64; 3] {
+    let places = match crate::level::row(level) {
+        Some(row) => layout(row),
+        None => return [1, 0, 0],
+    };
+    let found = usize::try_from(place).ok().and_then(|at| places.get(at));
+    let owned = |j: &usize| *j as u64 + 1;
+    match found {
+        None => [7, 0, 0],
+        Some(Place::Word(_)) => [0, 0, 0],
+        Some(Place::RemoteAlarm) => [0, 1, 0],
+        Some(Place::National(_) | Place::Service) => [0, 2, 0],
+        Some(Place::Control(j)) => [0, 3, owned(j)],
+        Some(Place::Justification(j)) => [0, 4, owned(j)],
+        Some(Place::Negative(j)) => [0, 5, owned(j)],
+        Some(Place::Tributary(j)) => [0, 6, owned(j)],
+    }
+}
+
 fn head(row: &Row, set: usize) -> Vec<Place> {
     let mut places = Vec::new();
     let service = |digits| (0..digits).map(|_| Place::Service);

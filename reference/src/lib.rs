@@ -34,7 +34,9 @@ pub use copying::{copy_digits, copy_refusal};
 pub use finder::{finder_feed, finder_refusal, FinderState, Found};
 pub use finder::{FRAME_DIGITS, SECOND_PLACE, WORD, WORD_PLACE};
 pub use judging::{judge, judge_refusal, Judged, Reading, Verdict};
-pub use multiframe::{build_multiframe, multiframe_refusal, take_multiframe_apart};
+pub use multiframe::{
+    build_multiframe, multiframe_place, multiframe_refusal, take_multiframe_apart,
+};
 pub use multiplexing::{
     extract, frames_refusal, length_refusal, multiplex, read_notes, Counted, Noted,
 };

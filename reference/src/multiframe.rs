@@ -49,6 +49,34 @@ fn multiframe() -> Vec<Place> {
     (0..16).flat_map(frame).collect()
 }
 
+/// The refusal of a place, the number of its kind by the header's list, and the digit fixed there or
+/// the channel: read off the letters of the tables.
+pub fn multiframe_place(place: u64) -> [u64; 3] {
+    let at = match usize::try_from(place) {
+        Ok(at) if at < 4096 => at,
+        _ => return [7, 0, 0],
+    };
+    let (frame, byte, digit) = (at / 256, at / 8 % 32, at % 8);
+    let letters = match (byte, frame) {
+        (0, _) if frame % 2 == 0 => WITH_WORD,
+        (0, _) => WITHOUT_WORD,
+        (16, 0) => FIRST_SIXTEENTH,
+        (16, _) => return [0, 8, (if digit < 4 { frame } else { frame + 15 }) as u64],
+        _ => return [0, 9, (if byte < 16 { byte } else { byte - 1 }) as u64],
+    };
+    match (letters.as_bytes()[digit], letters) {
+        (b'0', WITH_WORD) => [0, 0, 0],
+        (b'1', WITH_WORD) => [0, 0, 1],
+        (b'1', WITHOUT_WORD) => [0, 1, 1],
+        (b'0', FIRST_SIXTEENTH) => [0, 2, 0],
+        (b'M', _) => [0, 3, 0],
+        (b'A', _) => [0, 4, 0],
+        (b'X', _) => [0, 6, 0],
+        (b'Y', FIRST_SIXTEENTH) => [0, 7, 0],
+        _ => [0, 5, 0],
+    }
+}
+
 /// The digits that are lent, in the order in which the places of each kind take them.
 struct Lists {
     channels: Vec<Vec<u8>>,

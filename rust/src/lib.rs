@@ -21,6 +21,8 @@
 //! - [`compare`] says where two captures differ, by the kind of place and the tributary;
 //!   [`compare_lines`] and [`compare_stretch`] say it of two lines and of a stretch of them.
 //! - [`Multiframe::build`] builds a multiframe of 2048 kbit/s, [`Multiframe::apart`] takes one apart.
+//! - [`place`](place()) and [`multiframe_place`] say what a place of a frame is, and of a multiframe.
+//! - [`version`] is that of the library.
 //!
 //! # Digits, quarters, notes
 //!
@@ -94,6 +96,7 @@ mod line;
 mod multiframe;
 mod multiplexing;
 mod note;
+mod place;
 pub mod plain;
 mod rack;
 mod raw;
@@ -103,6 +106,7 @@ mod repairing;
 mod span;
 mod stream;
 mod swapping;
+mod version;
 
 pub use capture::{capture_bytes, read_capture, write_capture, Capture, MOST_LABEL_BYTES};
 pub use comparison::{
@@ -117,6 +121,7 @@ pub use line::{digits, line_digit, Digits};
 pub use multiframe::{Multiframe, MULTIFRAME_BYTES};
 pub use multiplexing::{extract, multiplex, read_notes, vote_after, Extracted, Noted, Sent};
 pub use note::Note;
+pub use place::{multiframe_place, place, Kind, MultiframePlace, Place};
 pub use rack::{Rack, MOST_LINES};
 pub use receiver::{Frame, Frames, Mode, Receiver, State, Taken};
 pub use refusal::Refusal;
@@ -124,3 +129,4 @@ pub use repairing::{repair, repair_capture, Repaired};
 pub use span::{digits_in, span, whole_bytes, Span};
 pub use stream::FrameStream;
 pub use swapping::swap;
+pub use version::{version, Version};

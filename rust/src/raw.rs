@@ -289,6 +289,14 @@ extern "C" {
         count: u64,
         answer: &mut [u64; 16],
     ) -> u64;
+    /// Answer: the kind's number, the tributary or 0.
+    pub fn spritbobbin_place(level: u64, place: u64, answer: &mut [u64; 2]) -> u64;
+
+    /// Answer: the kind's number; the digit fixed there, or the channel, or 0.
+    pub fn spritbobbin_multiframe_place(place: u64, answer: &mut [u64; 2]) -> u64;
+
+    /// MAJOR * 1000000 + MINOR * 1000 + PATCH.
+    pub fn spritbobbin_version() -> u64;
 
     /// Answer: named channel.
     pub fn spritbobbin_multiframe_build(

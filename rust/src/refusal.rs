@@ -100,6 +100,13 @@ pub enum Refusal {
         /// The slice's bytes.
         bytes: usize,
     },
+    /// A frame, or a multiframe, has no place of this number.
+    Place {
+        /// The place asked for, counted from 0.
+        place: usize,
+        /// How many places it has.
+        places: usize,
+    },
     /// A rack has no line of this number.
     RackLine {
         /// The line asked for, counted from 0.
@@ -156,7 +163,7 @@ impl Refusal {
             Refusal::Buffer { .. } | Refusal::OneBuffer { .. } | Refusal::File { .. } => 4,
             Refusal::Earlier { .. } | Refusal::NoteBits { .. } => 5,
             Refusal::State => 6,
-            Refusal::Digits { .. } => 7,
+            Refusal::Digits { .. } | Refusal::Place { .. } => 7,
             Refusal::RackLine { .. } => 8,
             Refusal::Label { .. } | Refusal::Field { .. } => 9,
             Refusal::National { .. } => 10,
@@ -209,6 +216,9 @@ impl fmt::Display for Refusal {
                 "{count} digits from digit {first} on do not fit in a slice of {bytes} bytes: \
                  ask for no digit past the slice's end"
             ),
+            Refusal::Place { place, places } => {
+                write!(out, "there is no place {place}: ask for one of {places}, counted from 0")
+            }
             Refusal::RackLine { line, lines } => write!(
                 out,
                 "there is no line {line} (counted from 0): the rack has {}",

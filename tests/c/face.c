@@ -1,7 +1,7 @@
 /*
  * Calls every function of the library through its header, from C: worked cases 1, 9, 10 and 11
  * of the specification, frames of levels 12 and 14 worked by hand, swaps, repairs, judgements, each refusal, the digits of a line, captures,
- * copies of digits, comparisons, multiframes, frames of 2048 kbit/s and a rack of lines. Prints "face: ok", or what failed.
+ * copies of digits, what a place is, comparisons, multiframes, frames of 2048 kbit/s and a rack of lines. Prints "face: ok", or what failed.
  *
  * All bytes that are lent come from malloc in their exact number, so that valgrind sees a read or
  * a write of the library one byte beside them.
@@ -536,6 +536,27 @@ static void copies(void)
     free(from);
 }
 
+/* The places of tributary 1 in the last set's head at level 12, the borders of what there is, and the library's version. */
+static void places(void)
+{
+    uint64_t answer[2], place;
+
+    check(spritbobbin_place(2, 0, answer) == 0 && answer[0] == SPRITBOBBIN_PLACE_WORD && answer[1] == 0, "the word");
+    check(spritbobbin_place(4, 15, answer) == 0 && answer[0] == SPRITBOBBIN_PLACE_SERVICE && answer[1] == 0, "a national digit");
+    for (place = 792; place < 808; place++)
+        check(spritbobbin_place(12, place, answer) == 0 && answer[1] == place % 4 + 1
+              && answer[0] == (place < 796 ? SPRITBOBBIN_PLACE_CONTROL : place < 800 ? SPRITBOBBIN_PLACE_NEGATIVE
+                               : place < 804 ? SPRITBOBBIN_PLACE_JUSTIFICATION : SPRITBOBBIN_PLACE_ORDINARY), "the last set's head");
+    check(spritbobbin_place(2, 848, answer) == SPRITBOBBIN_REFUSED_DIGITS && all_zero(answer, 2), "no place N");
+    memset(answer, 0xA5, sizeof answer);
+    check(spritbobbin_place(5, 0, answer) == SPRITBOBBIN_REFUSED_LEVEL && all_zero(answer, 2), "no level 5");
+    check(spritbobbin_multiframe_place(3, answer) == 0 && answer[0] == SPRITBOBBIN_MULTIFRAME_WORD && answer[1] == 1, "the word's third digit");
+    check(spritbobbin_multiframe_place(128 + 5, answer) == 0 && answer[0] == SPRITBOBBIN_MULTIFRAME_Y && answer[1] == 0, "the multiframe's alarm");
+    check(spritbobbin_multiframe_place(4095, answer) == 0 && answer[0] == SPRITBOBBIN_MULTIFRAME_CHANNEL && answer[1] == 30, "the last digit");
+    check(spritbobbin_multiframe_place(SPRITBOBBIN_MULTIFRAME_DIGITS, answer) == SPRITBOBBIN_REFUSED_DIGITS && all_zero(answer, 2), "no place 4096");
+    check(spritbobbin_version() == SPRITBOBBIN_VERSION, "header and library are of one version");
+}
+
 /* Compares two captures; answer and places hold 0xA5 before, so that what is not written is seen. */
 static uint64_t compared(const uint8_t *one, size_t one_bytes, const uint8_t *other, size_t other_bytes,
                          uint64_t answer[19], uint64_t places[128])
@@ -874,6 +895,7 @@ int main(void)
     finder();
     line_digits();
     copies();
+    places();
     captures();
     comparisons();
     multiframes();

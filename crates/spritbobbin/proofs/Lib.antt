@@ -7,3 +7,5 @@ pub mod SwapAnswers
 pub mod RepairAnswers
 pub mod JudgeAnswers
 pub mod CopyAnswers
+pub mod NamingAnswers
+pub mod VersionAnswers

@@ -5,3 +5,5 @@ pub mod PlainFace
 pub mod SwapFace
 pub mod RepairFace
 pub mod JudgeFace
+pub mod NamingFace
+pub mod VersionFace

@@ -4,10 +4,12 @@ pub mod compare_face;
 pub mod copy_face;
 pub mod finder_face;
 pub mod judge_face;
+pub mod naming_face;
 pub mod plain_face;
 pub mod rack_face;
 pub mod repair_face;
 pub mod swap_face;
+pub mod version_face;
 
 use captures::Reading;
 use captures::Written;

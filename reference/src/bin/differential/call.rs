@@ -118,7 +118,7 @@ pub enum Call {
 }
 
 /// The names of the calls, in the order of their numbers.
-pub const NAMES: [&str; 22] = [
+pub const NAMES: [&str; 25] = [
     "multiplex",
     "read_notes",
     "receiver_fresh",
@@ -141,6 +141,9 @@ pub const NAMES: [&str; 22] = [
     "copy_digits",
     "compare_lines",
     "compare_stretch",
+    "place",
+    "multiframe_place",
+    "version",
 ];
 
 /// All that a call answers and leaves: two outcomes are equal or there is a disagreement.

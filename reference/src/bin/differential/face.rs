@@ -95,6 +95,9 @@ extern "C" {
         to: *mut u8, to_bytes: usize, at: u64, from: *const u8, from_bytes: usize,
         first: u64, count: u64,
     ) -> u64;
+    pub fn spritbobbin_place(level: u64, place: u64, answer: *mut u64) -> u64;
+    pub fn spritbobbin_multiframe_place(place: u64, answer: *mut u64) -> u64;
+    pub fn spritbobbin_version() -> u64;
     pub fn spritbobbin_rack_aligned(records: *const u64, number: usize, answer: *mut u64) -> u64;
 }
 

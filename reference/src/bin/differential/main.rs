@@ -23,6 +23,7 @@ mod lengths;
 mod levels;
 mod multiframes;
 mod multiplexing;
+mod naming;
 mod rack;
 mod receiver;
 mod repairing;
@@ -151,7 +152,7 @@ fn arguments() -> Run {
 }
 
 /// The parts of a run by name, in their order.
-const PARTS: [(&str, fn(&mut Run)); 11] = [
+const PARTS: [(&str, fn(&mut Run)); 12] = [
     ("multiplexing", multiplexing::part),
     ("receiver", receiver::part),
     ("captures", captures::part),
@@ -163,6 +164,7 @@ const PARTS: [(&str, fn(&mut Run)); 11] = [
     ("repairing", repairing::part),
     ("judging", judging::part),
     ("copying", copying::part),
+    ("naming", naming::part),
 ];
 
 fn main() {
