@@ -25,6 +25,7 @@ pub mod random;
 mod receiver;
 mod repairing;
 mod swapping;
+pub mod verdict;
 
 pub use captures::{read_capture, write_capture, Read, Written};
 pub use comparison::{compare, sum, Differences, MOST_LISTED};
