@@ -26,6 +26,7 @@ mod report;
 mod runs;
 mod stretches;
 mod totals;
+mod verdict;
 
 use std::io::Write;
 use std::process::ExitCode;

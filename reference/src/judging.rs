@@ -113,7 +113,7 @@ impl Sent {
 }
 
 /// The two stages that are fed back, of O.150's sequences of 2^15 - 1 and 2^23 - 1 digits.
-fn stages_fed_back(stages: u64) -> (usize, usize) {
+pub(crate) fn stages_fed_back(stages: u64) -> (usize, usize) {
     match stages {
         15 => (14, 15),
         _ => (18, 23),

@@ -26,6 +26,7 @@ pub mod random;
 mod receiver;
 mod repairing;
 mod swapping;
+pub mod verdict;
 
 pub use captures::{read_capture, write_capture, Read, Written};
 pub use comparison::{compare, compare_lines, compare_stretch, lines_refusal};
