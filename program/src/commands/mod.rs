@@ -1,10 +1,12 @@
 //! A file for each command. Each answers the exit status, or why it was not carried out.
 
 mod agree;
+#[cfg(feature = "verdict")]
 mod demo;
 mod extract;
 mod find;
 mod hunt;
+#[cfg(feature = "verdict")]
 mod judge;
 mod keep;
 mod multiframes;
@@ -22,6 +24,7 @@ use crate::report::Saying;
 
 pub fn run(command: Command, saying: Saying) -> Result<u8, Failure> {
     match command {
+        #[cfg(feature = "verdict")]
         Command::Demo(call) => demo::run(call, saying),
         Command::Send(call) => send::run(call, saying),
         Command::Take(call) => take::run(call, saying),
@@ -30,6 +33,7 @@ pub fn run(command: Command, saying: Saying) -> Result<u8, Failure> {
         Command::Agree(call) => agree::run(call, saying),
         Command::Find(call) => find::run(call, saying),
         Command::Watch(call) => watch::run(call, saying),
+        #[cfg(feature = "verdict")]
         Command::Judge(call) => judge::run(call, saying),
         Command::Swap(call) => swap::run(call, saying),
         Command::Repair(call) => repair::run(call, saying),
