@@ -33,9 +33,11 @@ fn page(program: &mut Command) -> String {
         ".Dd $Mdocdate$\n.Dt SPRITBOBBIN 1\n.Os\n.Sh NAME\n.Nm spritbobbin\n\
          .Nd recordings of plesiochronous multiplexers taken apart, judged and compared\n\
          .Sh SYNOPSIS\n.Nm\n.Op Fl -json\n.Op Fl -quiet\n.Ar command\n.Op Ar words ...\n.Sh DESCRIPTION\n\
-         Frames of 8448, 34368 and 139264 kbit/s (G.742, G.751), the older frames of 8448 and 139264 kbit/s with\n\
-         positive/zero/negative justification, and the multiframe of 2048 kbit/s.\n\
-         No digit is read, moved or judged outside a library whose every answer is proved.\n.Pp\n\
+         Frames of 8448, 34368 and 139264 kbit/s (G.742, G.751), the older frames\n\
+         of 8448 and 139264 kbit/s with positive/zero/negative justification, and\n\
+         the multiframe of 2048 kbit/s.\n\
+         No digit is read, moved or judged outside a library\n\
+         whose every answer is proved.\n.Pp\n\
          A file without\n.Fl -level\nis a capture, which says its own level.\nThe file\n.Ar \\-\n\
          is standard input or output; what is said then goes to standard error.\n.Sh COMMANDS\n",
     );
@@ -52,7 +54,9 @@ fn page(program: &mut Command) -> String {
 fn section(command: &Command) -> String {
     let mut text = format!(".Ss {}\n", escaped(command.get_name()));
     if let Some(about) = command.get_about() {
-        text += &format!("{}.\n", escaped(&about.to_string()));
+        let about = about.to_string();
+        let end = if about.ends_with('?') { "" } else { "." };
+        text += &wrapped(&escaped(&format!("{about}{end}")));
     }
     let words: Vec<_> = command.get_positionals().collect();
     let options: Vec<_> = command
@@ -77,12 +81,32 @@ fn section(command: &Command) -> String {
             None => format!(".It Ar {}\n", escaped(&value.unwrap_or_default())),
         };
         let help = one.get_help().map(ToString::to_string).unwrap_or_default();
-        items += &format!("{}\n", escaped(&help));
+        items += &wrapped(&escaped(&help));
     }
     if !items.is_empty() {
         text += &format!(".Bl -tag -width Ds\n{items}.El\n");
     }
     text
+}
+
+/// The text in lines of at most 76 characters; nothing where there is none.
+fn wrapped(text: &str) -> String {
+    let mut lines = String::new();
+    let mut length: usize = 0;
+    for word in text.split_whitespace() {
+        let before = match length {
+            0 => "",
+            _ if length.saturating_add(word.len()) < 76 => " ",
+            _ => "\n",
+        };
+        length = if before == " " { length.saturating_add(1) } else { 0 };
+        length = length.saturating_add(word.len());
+        lines += &format!("{before}{word}");
+    }
+    if lines.is_empty() {
+        return lines;
+    }
+    lines + "\n"
 }
 
 /// A text in which no character acts on the page.
