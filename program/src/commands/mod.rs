@@ -2,11 +2,13 @@
 
 mod agree;
 mod compare;
+#[cfg(feature = "verdict")]
 mod demo;
 mod extract;
 mod find;
 mod frame;
 mod hunt;
+#[cfg(feature = "verdict")]
 mod judge;
 mod keep;
 mod multiframe;
@@ -27,6 +29,7 @@ use crate::report::Saying;
 
 pub fn run(command: Command, saying: Saying) -> Result<u8, Failure> {
     match command {
+        #[cfg(feature = "verdict")]
         Command::Demo(call) => demo::run(call, saying),
         Command::Send(call) => send::run(call, saying),
         Command::Take(call) => take::run(call, saying),
@@ -35,6 +38,7 @@ pub fn run(command: Command, saying: Saying) -> Result<u8, Failure> {
         Command::Agree(call) => agree::run(call, saying),
         Command::Find(call) => find::run(call, saying),
         Command::Watch(call) => watch::run(call, saying),
+        #[cfg(feature = "verdict")]
         Command::Judge(call) => judge::run(call, saying),
         Command::Swap(call) => swap::run(call, saying),
         Command::Repair(call) => repair::run(call, saying),

@@ -74,29 +74,34 @@ impl Known<'_> {
                 best.whose(),
                 self.came(read)
             ),
-            Finding::Still | Finding::Alike if self.is_one() => format!(
-                ": read by the decision of its own frame, {}; and so by that of the frame before \
-                 and of the frame after.",
-                self.came(read)
-            ),
             _ => {
-                let would: Vec<String> = others.map(|reading| self.would(reading)).collect();
+                let (alike, others): (Vec<Reading>, Vec<Reading>) =
+                    others.partition(|reading| self.is_alike(*reading));
+                let alike: Vec<&str> = alike.into_iter().map(Reading::whose).collect();
+                let alike = match alike.is_empty() {
+                    true => String::new(),
+                    false => format!(", and so by that of {}", alike.join(" and of ")),
+                };
+                let others: Vec<String> =
+                    others.into_iter().map(|reading| self.would(reading)).collect();
+                let others = match others.is_empty() {
+                    true => String::new(),
+                    false => format!("; {}", others.join(", ")),
+                };
                 format!(
-                    ": read by the decision of {}, {}; {}.{}",
+                    ": read by the decision of {}, {}{alike}{others}.{}",
                     best.whose(),
                     self.came(read),
-                    would.join(", "),
                     self.narrow()
                 )
             }
         }
     }
 
-    /// Whether the three readings take the same.
-    fn is_one(&self) -> bool {
+    /// Whether a reading takes as much as the one that the finding goes by.
+    fn is_alike(&self, reading: Reading) -> bool {
         let takes = |read: &Read| (read.wrong, read.slips, read.unjudged);
-        let own = self.of.reading(Reading::Own);
-        self.of.readings.iter().all(|read| takes(read) == takes(own))
+        takes(self.of.reading(reading)) == takes(self.of.reading(self.best()))
     }
 
     /// What a reading took.
@@ -393,7 +398,7 @@ fn clocks_kept(clocks: &[Clock]) -> String {
     match outside.len() {
         _ if frames == 0 => String::new(),
         0 if clocks.iter().any(|clock| clock.kept() == Kept::Open) => format!(
-            "Whether every rate is within its tolerance, {} do not tell.",
+            "Whether every rate is within its tolerance cannot be told from {}.",
             so_many(frames, "frame")
         ),
         0 => "Every tributary's rate is within its tolerance.".into(),
