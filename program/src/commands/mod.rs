@@ -55,5 +55,9 @@ pub fn run(command: Command, saying: Saying) -> Result<u8, Failure> {
         Command::Multiframe(call) => multiframe::run(call, saying),
         Command::Completions(call) => shells::completions(call),
         Command::Manual => shells::manual(),
+        #[cfg(not(feature = "verdict"))]
+        Command::Demo(_) | Command::Judge(_) => {
+            Err(Failure::Call("this build has no verdict: its library has no such call.".into()))
+        }
     }
 }
