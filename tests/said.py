@@ -150,9 +150,10 @@ def keep(said):
 
 
 def compare(said):
-    text = f"Level {said['level']}, {said['kilobits']} kbit/s\nframes compared: {said['frames']}\ndiffering digits: {said['differing']}\n"
+    text = f"Level {said['level']}, {said['kilobits']} kbit/s\nframes compared: {said['frames']}\n"
     if "offset" in said:
         text += offset(said)
+    text += f"differing digits: {said['differing']}\n"
     if said["differing"]:
         for name, key in (("alignment word", "word"), ("remote alarm", "remote_alarm"), ("national", "national")):
             text += f"\n  {name:<16}{said[key]:>6}"
@@ -243,8 +244,49 @@ def text(said):
     return "".join(line + "\n" for line in said["text"]) + written(said)
 
 
+def frame(said):
+    more = ", one more where its negative place carries one" if said["negative_places"] else ""
+    text = f"Level {said['level']}: a frame of {said['digits']} digits, places 0 on, in {said['sets']} sets; each tributary has "
+    text += f"{said['tributary_digits']} digits, one fewer where stuffed{more}."
+    before = 0
+    for run in said["runs"]:
+        text += ", " if run["set"] == before else f"\n  set {run['set']}: "
+        before = run["set"]
+        text += str(run["first"]) + (f"-{run['last']}" if run["last"] > run["first"] else "") + " " + run["kind"]
+        text += "".join(f" {j}" for j in run.get("tributaries", []))
+        text += f" = {run['holds']}" if "holds" in run else ""
+    return text + "\n" + written(said)
+
+
+def multiframe(said):
+    text = "2048 kbit/s: a multiframe of 4096 digits, 16 frames of 32 bytes, frames and bytes from 0.\n"
+    text += f"frame byte 0   {'bytes 1 to 15: a channel each':<44} {'byte 16':<8} bytes 17 to 31: a channel each\n"
+    for row in said["frames"]:
+        text += f"{row['frame']:>5} {row['bytes'][0]}"
+        for number, byte in enumerate(row["bytes"][1:], 1):
+            parts = byte.split(" ")
+            text += f"{byte:>3}" if number != 16 else " " + byte if len(parts) == 1 else f" {parts[0]:<4}{parts[1]:<4}"
+        text += "\n"
+    text += "  0 1     fixed: 0011011 is the word, 1 the second digit of a frame without it, 0000 the start of the multiframe\n"
+    text += "  M A N   spare: M reserved for international use, A alarm, N for use at home\n"
+    text += "  X Y     spare: Y alarm of the multiframe, X the three beside it\n"
+    text += "  s1-s30  four digits of signalling for the channel of that number\n"
+    return text + "  1-30    a byte of the channel of that number\n" + written(said)
+
+
+def cut(said):
+    text = stretches(said) + f"Level {said['level']}, {said['kilobits']} kbit/s\n"
+    text += f"frames cut out: {said['frames']}, from frame {said['first']} on ({seconds(said['microseconds'])})\n"
+    return text + written(said)
+
+
+def quarters(said):
+    return f"four quarters of {said['quarter_bytes']} bytes.\n" + written(said)
+
+
 SAID = {"send": send, "take": take, "extract": extract, "notes": notes, "agree": agree, "find": find, "watch": watch, "swap": swap, "repair": repair}
-SAID |= {"keep": keep, "show": keep, "compare": compare, "build": build, "apart": apart, "hunt": hunt, "frame": text, "multiframe": text, "demo": text, "judge": judge}
+SAID |= {"keep": keep, "show": keep, "compare": compare, "build": build, "apart": apart, "hunt": hunt, "frame": frame, "multiframe": multiframe}
+SAID |= {"cut": cut, "split": quarters, "join": quarters, "judge": judge, "demo": text}
 
 
 def text_of(command, object_said):

@@ -469,5 +469,6 @@ pub struct Hunt {
 
 #[derive(Debug, Args)]
 pub struct Completions {
+    /// The shell
     pub shell: clap_complete::Shell,
 }

@@ -167,7 +167,7 @@ fn no_room(name: &Path, why: &io::Error) -> Failure {
 }
 
 /// The bytes of an output that are kept until they are written at once.
-const WAITING: usize = 1 << 18;
+const WAITING: usize = 256 * 1024;
 
 /// The bytes that are read or poured at a time: the most of a piece of a stream.
 pub const CHUNK: usize = spritbobbin::MOST_BYTES;

@@ -20,6 +20,7 @@ mod listening;
 mod made;
 mod page;
 mod pictures;
+mod places;
 mod progress;
 mod quarters;
 mod report;

@@ -5,7 +5,7 @@ use indicatif::{ProgressBar, ProgressDrawTarget, ProgressStyle};
 use crate::report::Saying;
 
 /// Shorter files are done before anybody could read how far they are.
-const LONG: u64 = 1 << 20;
+const LONG: u64 = 1024 * 1024;
 
 /// A bar that goes when it is dropped.
 #[derive(Debug)]

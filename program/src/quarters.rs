@@ -9,7 +9,7 @@ use crate::failure::Failure;
 use crate::files::{Input, Output};
 
 /// The bytes that are read or written at once.
-const WINDOW: u64 = 1 << 18;
+const WINDOW: u64 = 256 * 1024;
 
 /// Digits that are read from some bytes of a file.
 #[derive(Debug)]

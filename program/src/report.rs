@@ -64,7 +64,7 @@ impl Saying {
 }
 
 /// The bytes of an unfinished JSON object that are kept in memory; more go to an unnamed file.
-const KEPT: usize = 1 << 20;
+const KEPT: usize = 1024 * 1024;
 
 /// What is said piece by piece: text at once; a JSON object at the end, so that it is whole or not there.
 pub struct Telling {
@@ -138,7 +138,7 @@ impl Telling {
         let Some(mut kept) = self.kept.take() else { return Ok(()) };
         let mut out = self.saying.out();
         kept.seek(SeekFrom::Start(0)).map_err(unkept)?;
-        let mut chunk = vec![0; 1 << 16];
+        let mut chunk = vec![0; 64 * 1024];
         loop {
             let count = kept.read(&mut chunk).map_err(unkept)?;
             if count == 0 {

@@ -4,7 +4,7 @@ use std::path::{Path, PathBuf};
 
 use spritbobbin::{Level, MOST_FRAMES};
 
-use crate::captures;
+use crate::captures::{self, Captured};
 use crate::failure::Failure;
 use crate::files::Input;
 use crate::level;
@@ -96,11 +96,17 @@ impl Line {
     }
 
     fn of_capture(name: &Path, earlier: Option<&str>) -> Result<Line, Failure> {
-        let captures::Captured { level, line, label, .. } = captures::open(name)?;
-        let earlier = level::earlier(level, earlier)?;
+        let captured = captures::open(name)?;
+        let earlier = level::earlier(captured.level, earlier)?;
+        Ok(Line { earlier, ..Line::of_captured(name, captured) })
+    }
+
+    /// The line of a capture that was read.
+    pub fn of_captured(name: &Path, captured: Captured) -> Line {
+        let Captured { level, line, label } = captured;
         let frames = (line.len() / level.frame_bytes()) as u64;
-        let from = From::Memory(line);
-        Ok(Line { name: name.into(), level, earlier, frames, label, captured: true, from })
+        let (name, from) = (name.into(), From::Memory(line));
+        Line { name, level, earlier: 0, frames, label, captured: true, from }
     }
 
     /// The frames from this number on, as many as the slice has room for.

@@ -1,18 +1,23 @@
 //! A file for each command. Each answers the exit status, or why it was not carried out.
 
 mod agree;
+mod compare;
 #[cfg(feature = "verdict")]
 mod demo;
 mod extract;
 mod find;
+mod frame;
 mod hunt;
 #[cfg(feature = "verdict")]
 mod judge;
 mod keep;
+mod multiframe;
 mod multiframes;
 mod notes;
+mod parts;
 mod repair;
 mod send;
+mod shells;
 mod show;
 mod swap;
 mod take;
@@ -42,6 +47,17 @@ pub fn run(command: Command, saying: Saying) -> Result<u8, Failure> {
         Command::Apart(call) => multiframes::apart(call, saying),
         Command::Hunt(call) => hunt::run(call, saying),
         Command::Show(call) => show::run(call, saying),
-        other => Err(Failure::Call(format!("not written yet: {other:?}"))),
+        Command::Frame(call) => frame::run(call, saying),
+        Command::Compare(call) => compare::run(call, saying),
+        Command::Cut(call) => parts::cut(call, saying),
+        Command::Split(call) => parts::split(call, saying),
+        Command::Join(call) => parts::join(call, saying),
+        Command::Multiframe(call) => multiframe::run(call, saying),
+        Command::Completions(call) => shells::completions(call),
+        Command::Manual => shells::manual(),
+        #[cfg(not(feature = "verdict"))]
+        Command::Demo(_) | Command::Judge(_) => {
+            Err(Failure::Call("this build has no verdict: its library has no such call.".into()))
+        }
     }
 }

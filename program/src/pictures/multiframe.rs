@@ -35,26 +35,34 @@ pub fn draw(digits: &[Digit]) -> String {
     svg.text("h", 12, 28, title);
     svg.text("p l", 12, 48, "A frame is 125 \u{b5}s, a byte 3.9 \u{b5}s. Bytes 0 and 16 are drawn wider than the others.");
     svg.text("p l", 12, TOP - 8, "byte");
+    let mut x = LEFT;
     for byte in 0..32 {
-        svg.text("p", x_of(8 * byte) + width(byte) / 2, TOP - 8, &byte.to_string());
+        svg.text("p", x + width(byte) / 2, TOP - 8, &byte.to_string());
+        x += width(byte);
     }
-    let mut place = 0;
-    let mut rest = digits;
+    let mut y = TOP;
+    for (number, frame) in digits.chunks(256).enumerate() {
+        svg.text("l", 12, y + 18, &format!("frame {number}"));
+        row(&mut svg, frame, y);
+        y += ROW;
+    }
+    legend(&mut svg);
+    svg.end()
+}
+
+/// The cells of a frame, one behind the other.
+fn row(svg: &mut Svg, frame: &[Digit], y: u64) {
+    let mut x = LEFT;
+    let mut rest = frame;
     while let Some(first) = rest.first() {
-        if place % 256 == 0 {
-            svg.text("l", 12, y_of(place) + 18, &format!("frame {}", place / 256));
-        }
         let count = match first {
             Digit::Fixed(_) | Digit::Spare(_) => 1,
             Digit::Signalling(_) => 4,
             Digit::Channel(_) => 8,
         };
-        cell(&mut svg, *first, x_of(place), y_of(place));
+        x += cell(svg, *first, x, y);
         rest = rest.get(count..).unwrap_or_default();
-        place += count as u64;
     }
-    legend(&mut svg);
-    svg.end()
 }
 
 /// How wide a byte is drawn.
@@ -65,22 +73,8 @@ fn width(byte: u64) -> u64 {
     }
 }
 
-/// The left edge of the cell that begins at this place.
-fn x_of(place: u64) -> u64 {
-    let byte = place / 8 % 32;
-    match byte {
-        0 => LEFT + DIGIT * (place % 8),
-        1..=15 => LEFT + 8 * DIGIT + CHANNEL * (byte - 1),
-        16 => LEFT + 8 * DIGIT + 15 * CHANNEL + DIGIT * (place % 8),
-        _ => LEFT + 16 * DIGIT + 15 * CHANNEL + CHANNEL * (byte - 17),
-    }
-}
-
-fn y_of(place: u64) -> u64 {
-    TOP + ROW * (place / 256)
-}
-
-fn cell(svg: &mut Svg, digit: Digit, x: u64, y: u64) {
+/// Draws a cell, and answers how wide it is.
+fn cell(svg: &mut Svg, digit: Digit, x: u64, y: u64) -> u64 {
     let (class, width, text) = match digit {
         Digit::Fixed(digit) => ("fixed", DIGIT, digit.to_string()),
         Digit::Spare(letter) => ("spare", DIGIT, letter.to_string()),
@@ -88,6 +82,7 @@ fn cell(svg: &mut Svg, digit: Digit, x: u64, y: u64) {
         Digit::Channel(channel) => ("channel", CHANNEL, channel.to_string()),
     };
     boxed(svg, class, x, y, width, &text);
+    width
 }
 
 /// A cell, and the text in the middle of it.

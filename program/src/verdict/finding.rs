@@ -9,10 +9,10 @@ use super::sent::SentFile;
 use crate::failure::Failure;
 
 /// The bytes of a quarter that are looked at at a time for where a stretch begins.
-const WINDOW: usize = 1 << 16;
+const WINDOW: usize = 64 * 1024;
 
 /// Digits before and after the place where the next stretch is expected that are looked at first.
-const NEAR: u64 = 1 << 14;
+const NEAR: u64 = 16 * 1024;
 
 /// A stretch that was found.
 #[derive(Clone, Copy, Debug, Default)]

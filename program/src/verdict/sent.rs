@@ -8,7 +8,7 @@ use crate::failure::Failure;
 use crate::files::Input;
 
 /// The bytes of a quarter that are held at a time, where what is needed is not more.
-const HELD: u64 = 1 << 19;
+const HELD: u64 = 512 * 1024;
 
 /// How far a reading may move away, in 64 frames, from where its digits are counted to be.
 const ROOM: u64 = 1024;
