@@ -268,22 +268,26 @@ const READ: [&str; 3] = [
 ];
 
 /// What the theorems say, sentence by sentence, and what they do not.
-const PROVED: [&str; 4] = [
+const PROVED: [&str; 5] = [
     "Of the library that judged this recording it is proved, for every line and all digits, that no \
-     other explanation of a reading is cheaper than the one given: no sequence of shifts, each within \
-     eight digits of the middle of its frame, costs less.",
-    "It is proved that the line of a right multiplexer, with k digits lost or doubled before it while \
-     the shift stays within eight digits, with any damage to alignment, service and stuffing digits and \
-     to fewer than half of each group of control digits, and with e more of the tributary's own digits \
-     wrong, is read by the decisions of its own frame at a cost of at most e + 16 k. The same holds of \
-     a late multiplexer and the frame before, and of an early one and the frame after. So whoever says \
-     that a right multiplexer made this line must believe in as much wear as its own frame's reading \
-     costs.",
+     explanation of a reading costs less than the one given, and that none of those that cost as much has \
+     fewer slips. An explanation gives each digit a shift, begins at shift 0, and stays within eight \
+     digits of the middle of each frame, which follows the best one from frame to frame.",
+    "It is proved of a right multiplexer: where k digits of a tributary were lost or doubled before it, by \
+     shifts that stay so, and where the line was damaged in fewer than half of each of the tributary's \
+     groups of control digits, in e of the digits that it carries of the tributary, and anywhere else, then \
+     the reading by its own frames costs at most e + 16 k. The same is proved of a late multiplexer and the \
+     frame before, and of an early one and the frame after. So whoever says that a right multiplexer made \
+     this line must believe in as much damage as its own frame's reading costs.",
+    "It is proved that a reading costs nothing exactly where every digit of it is the one sent of its own \
+     number.",
     "It is proved that where a tributary's decision is the same in every frame, and at the levels with \
-     negative justification in the frame before the recording too, its three readings cost the same; \
-     and that a recording judged 64 frames at a time is judged as one.",
-    "Not proved, but computed by ordinary means from what the library answered: the choice of the \
-     cheapest reading, sums over several stretches, times, rates, ratios, the drawings and this page.",
+     negative justification in the vote before the recording too, neither of the other two readings costs \
+     more than that by its own frames; and that the frames of a recording given to the library in turn are \
+     judged as if they had been given at once.",
+    "Not proved, but computed by ordinary means from what the library answered: the choice of the cheapest \
+     reading, what is called a wrong vote, sums over several stretches, times, rates, ratios, the drawings \
+     and this page.",
 ];
 
 fn reading_name(reading: Reading) -> &'static str {
