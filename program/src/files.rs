@@ -11,7 +11,9 @@ use std::fs::{self, File, Metadata, OpenOptions};
 use std::io::{self, ErrorKind, Read, Seek, SeekFrom, Write};
 use std::os::unix::fs::{FileExt, MetadataExt};
 use std::path::{Path, PathBuf};
+use std::sync::mpsc::{channel, sync_channel, Receiver, SyncSender};
 use std::sync::Mutex;
+use std::thread::{self, JoinHandle};
 
 use signal_hook::consts::{SIGHUP, SIGINT, SIGTERM};
 use signal_hook::iterator::Signals;
@@ -232,7 +234,7 @@ static BEGUN: Mutex<Option<HashSet<PathBuf>>> = Mutex::new(None);
 /// From here on an interrupt, a termination and a hang-up remove what was begun, and then end the program as they would.
 pub fn watch_signals() {
     let Ok(mut signals) = Signals::new([SIGINT, SIGTERM, SIGHUP]) else { return };
-    std::thread::spawn(move || {
+    thread::spawn(move || {
         for signal in signals.forever() {
             if let Ok(mut begun) = BEGUN.lock() {
                 for path in begun.take().unwrap_or_default() {
@@ -254,6 +256,39 @@ pub struct Output {
     /// What is to be written behind the first `at` bytes.
     waiting: Vec<u8>,
     at: u64,
+    behind: Option<Behind>,
+}
+
+/// A thread that writes while the next frames are made.
+#[derive(Debug)]
+struct Behind {
+    to: SyncSender<(u64, Vec<u8>)>,
+    /// What was written comes back, to be filled again.
+    back: Receiver<Vec<u8>>,
+    thread: JoinHandle<io::Result<()>>,
+}
+
+impl Behind {
+    fn new(file: &File) -> io::Result<Behind> {
+        let file = file.try_clone()?;
+        let (to, from) = sync_channel::<(u64, Vec<u8>)>(4);
+        let (done, back) = channel();
+        let thread = thread::spawn(move || {
+            for (at, bytes) in from {
+                file.write_all_at(&bytes, at)?;
+                // Nobody wants it back at the end.
+                let _ = done.send(bytes);
+            }
+            Ok(())
+        });
+        Ok(Behind { to, back, thread })
+    }
+
+    /// That all is written.
+    fn end(self) -> io::Result<()> {
+        drop(self.to);
+        self.thread.join().unwrap_or_else(|_| Err(ErrorKind::Other.into()))
+    }
 }
 
 #[derive(Debug)]
@@ -288,7 +323,8 @@ impl Output {
     }
 
     fn new(name: &Path, file: File, target: Target) -> Output {
-        Output { name: name.into(), file, target, waiting: Vec::new(), at: 0 }
+        let (waiting, behind) = (Vec::new(), None);
+        Output { name: name.into(), file, target, waiting, at: 0, behind }
     }
 
     /// An output that is never kept: frames that are found and read again.
@@ -310,16 +346,40 @@ impl Output {
         if self.waiting.len() < WAITING {
             return Ok(());
         }
-        self.flush()
+        let waiting = std::mem::take(&mut self.waiting);
+        let bytes = waiting.len() as u64;
+        self.waiting = self.write_behind(self.at, waiting)?;
+        self.waiting.clear();
+        self.at = self.at.saturating_add(bytes);
+        Ok(())
     }
 
+    /// Writes what waits, and ends the writing behind.
     fn flush(&mut self) -> Result<(), Failure> {
         let waiting = std::mem::take(&mut self.waiting);
         self.write_at(self.at, &waiting)?;
         self.at = self.at.saturating_add(waiting.len() as u64);
-        self.waiting = waiting;
-        self.waiting.clear();
-        Ok(())
+        match self.behind.take().map_or(Ok(()), Behind::end) {
+            Ok(()) => Ok(()),
+            Err(why) => Err(Failure::not_whole(&self.name, &why)),
+        }
+    }
+
+    /// Has the bytes written at this place while the command goes on, and answers a vector to be filled anew, with whatever is in it.
+    pub fn write_behind(&mut self, at: u64, bytes: Vec<u8>) -> Result<Vec<u8>, Failure> {
+        let not_whole = |name: &Path, why: &io::Error| Failure::not_whole(name, why);
+        let behind = match self.behind.take() {
+            Some(behind) => behind,
+            None => Behind::new(&self.file).map_err(|why| not_whole(&self.name, &why))?,
+        };
+        if behind.to.send((at, bytes)).is_err() {
+            // The thread has ended, which it does only where it could not write.
+            let why = behind.end().err().unwrap_or_else(|| ErrorKind::Other.into());
+            return Err(not_whole(&self.name, &why));
+        }
+        let again = behind.back.try_recv().unwrap_or_default();
+        self.behind = Some(behind);
+        Ok(again)
     }
 
     /// Writes all of a file at this place.
