@@ -193,6 +193,57 @@ def hunt(said):
     return text + f"times found: {said['times_found']}\ntimes lost: {said['times_lost']}\n" + mode(said)
 
 
+def lasting(digits, kilobits):
+    """A time as judge says it."""
+    ms = digits / kilobits
+    if ms >= 60000:
+        return f"{ms / 60000:.1f} min"
+    if ms >= 1000:
+        return f"{ms / 1000:.3f} s"
+    return f"{ms:.2f} ms" if ms >= 1 else f"{ms:.3f} ms"
+
+
+def share(part, every):
+    """A ratio as judge says it."""
+    if not part or not every:
+        return "0"
+    mantissa, exponent = f"{part / every:.2e}".split("e")
+    return f"{mantissa}e{int(exponent)}"
+
+
+def judge(said):
+    many = lambda count, thing: f"{count:,} {thing}" + ("" if count == 1 else "s")
+    against = said["against"].get("sent") or f"the pattern of 2^{said['against'].get('pattern')} - 1 digits, inverted"
+    kilobits, frame = said["kilobits"], FRAMES[said["level"]]
+    text = f'label: "{said["label"]}"\n' if "label" in said else ""
+    text += f"Level {said['level']}, {kilobits} kbit/s: {many(said['frames'], 'frame')}, {lasting(frame * said['frames'], kilobits)}, held against {against}. "
+    text += f"Clocks: taking the line at {kilobits} kbit/s.\n"
+    if said["found"] and not said["stretches"]:
+        text += f"no frame found in {many(said['digits'], 'digit')}.\n"
+    end = 0
+    for one in said["stretches"] if said["found"] else []:
+        if 0 < end < one["digit"]:
+            text += f"gap of {many(one['digit'] - end, 'digit')}\n"
+        text += f"stretch of {many(one['frames'], 'frame')} from digit {one['digit']:,}, {lasting(one['digit'], kilobits)}"
+        if "begins" in one:
+            begins = ", ".join(f"{digit:,}" for digit in one["begins"])
+            text += f"; begins in what was sent at digits {begins}, where {one['differ']:,} of {one['looked']:,} differ ({share(one['differ'], one['looked'])})"
+        text += f": {', '.join(one['verdicts'])}\n"
+        end = one["digit"] + frame * one["frames"]
+    if said["frames_not_reached"]:
+        text += f"not judged, because what was sent ends before them: {many(said['frames_not_reached'], 'frame')}\n"
+    for of in said["tributaries"]:
+        for read in of["readings"].values():
+            assert read["cost"] == read["wrong"] + 16 * read["slips"]
+        text += f"tributary {of['tributary']}: {of['sentence']}\n  clock: {of['clock']['sentence']}\n"
+    return text + said["sentence"] + "\n" + written(said)
+
+
+def text(said):
+    """A command whose lines are themselves what it has to say."""
+    return "".join(line + "\n" for line in said["text"]) + written(said)
+
+
 def frame(said):
     more = ", one more where its negative place carries one" if said["negative_places"] else ""
     text = f"Level {said['level']}: a frame of {said['digits']} digits, places 0 on, in {said['sets']} sets; each tributary has "
@@ -235,7 +286,7 @@ def quarters(said):
 
 SAID = {"send": send, "take": take, "extract": extract, "notes": notes, "agree": agree, "find": find, "watch": watch, "swap": swap, "repair": repair}
 SAID |= {"keep": keep, "show": keep, "compare": compare, "build": build, "apart": apart, "hunt": hunt, "frame": frame, "multiframe": multiframe}
-SAID |= {"cut": cut, "split": quarters, "join": quarters}
+SAID |= {"cut": cut, "split": quarters, "join": quarters, "judge": judge, "demo": text}
 
 
 def text_of(command, object_said):

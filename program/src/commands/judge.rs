@@ -113,9 +113,7 @@ fn room_for(name: &Path, level: Level, frames: u64) -> Result<SentFile, Failure>
 /// A recording begun anywhere: its frames are found first.
 fn found(call: &Judge, saying: &Saying) -> Result<Recording, Failure> {
     let word = call.of.level.as_deref().ok_or_else(|| {
-        Failure::Call(
-            "--find takes a recording begun anywhere, whose level must be said: -l LEVEL.".into(),
-        )
+        Failure::Call("--find wants --level: a recording does not say its own.".into())
     })?;
     let level = level::level(word)?;
     let stages = stages(call)?;
@@ -316,7 +314,7 @@ impl Verdict {
             text.push_str(&format!("tributary {number}: {}{}\n", known.head(), known.rest()));
             text.push_str(&format!("  clock: {}\n", clock.text()));
         }
-        text.push_str(&format!("{} {}\n", answer.head, answer.more.join(" ")));
+        text.push_str(&format!("{}\n", sentence(&answer)));
         text.push_str(&written(&self.written));
         let wrong = |known: &Known<'_>| {
             known.finding.is_index() || known.finding.is_absent() || known.clock_slips() > 0
@@ -430,8 +428,10 @@ impl Verdict {
     }
 }
 
+/// The answer and what else there is to say, in a line.
 fn sentence(answer: &Answer) -> String {
-    format!("{} {}", answer.head, answer.more.join(" "))
+    let more = answer.more.iter().map(|more| format!(" {more}"));
+    std::iter::once(answer.head.clone()).chain(more).collect()
 }
 
 fn seconds(level: Level, frames: u64) -> f64 {

@@ -107,6 +107,12 @@ impl Case {
         self.command(words, 0)
     }
 
+    /// A command that is carried out and whose check does not hold, and all that it prints.
+    pub fn checked(mut self, words: Vec<String>, stdout: &str) -> Case {
+        self.stdout += stdout;
+        self.command(words, 1)
+    }
+
     /// A command that is refused or fails, and the one line that it prints on standard error.
     pub fn fails(mut self, words: Vec<String>, line: &str) -> Case {
         self.stderr += &format!("{line}\n");
