@@ -100,7 +100,8 @@ fn one_run(svg: &mut Svg, set: u64, two_ways: bool, run: &[Cell], first: u64) {
             for (k, cell) in run.iter().enumerate() {
                 let x = x_of(first + k as u64);
                 svg.rect(class(cell.place.kind), [x, y, WIDE, 38]);
-                svg.text("c", x + WIDE / 2, y + 16, &name(cell.place, two_ways));
+                let base = if cell.holds.is_some() { y + 16 } else { y + 24 };
+                svg.text("c", x + WIDE / 2, base, &name(cell.place, two_ways));
                 if let Some(holds) = &cell.holds {
                     svg.text("c", x + WIDE / 2, y + 32, holds);
                 }

@@ -18,7 +18,7 @@ pub enum Digit {
 
 /// The left edge of the cells and the upper edge of frame 0; the width of a digit of bytes 0 and 16 and
 /// of a channel's byte; a row's height.
-const LEFT: u64 = 72;
+const LEFT: u64 = 82;
 const TOP: u64 = 88;
 const DIGIT: u64 = 18;
 const CHANNEL: u64 = 23;
@@ -31,7 +31,7 @@ const STYLE: &str = "rect{stroke:#fff}.fixed{fill:#1f4e79}.spare{fill:#595959}.s
 /// The picture, by the 4096 digits in order.
 pub fn draw(digits: &[Digit]) -> String {
     let title = "2048 kbit/s: a multiframe of 4096 digits, 16 frames of 32 bytes, 2 ms";
-    let mut svg = Svg::new(1064, 664, title, STYLE);
+    let mut svg = Svg::new(1074, 664, title, STYLE);
     svg.text("h", 12, 28, title);
     svg.text("p l", 12, 48, "A frame is 125 \u{b5}s, a byte 3.9 \u{b5}s. Bytes 0 and 16 are drawn wider than the others.");
     svg.text("p l", 12, TOP - 8, "byte");

@@ -32,7 +32,7 @@ impl Svg {
             "<svg xmlns=\"http://www.w3.org/2000/svg\" viewBox=\"0 0 {width} {height}\" \
              width=\"{width}\" height=\"{height}\" font-family=\"DejaVu Sans, Segoe UI, sans-serif\" \
              font-size=\"13\" role=\"img\">\n<title>{}</title>\n<style>{style}</style>\n<rect \
-             width=\"100%\" height=\"100%\" fill=\"#fff\"/>\n",
+             width=\"100%\" height=\"100%\" style=\"fill:#fff\"/>\n",
             escaped(title)
         );
         Svg { out }

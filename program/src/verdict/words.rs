@@ -72,7 +72,7 @@ impl Known<'_> {
                 ": even read by the decision of {}, {}. Another file, another order of tributaries, \
                  or a recording that begins elsewhere in it.",
                 best.whose(),
-                self.came(read)
+                in_short(read)
             ),
             _ => {
                 let (alike, others): (Vec<Reading>, Vec<Reading>) =
@@ -218,6 +218,17 @@ impl Known<'_> {
             ),
         }
     }
+}
+
+/// What a reading took that is not what was sent, whose slips mean nothing.
+fn in_short(read: &Read) -> String {
+    format!(
+        "{} of {} digits are wrong ({}) and there are {} slips",
+        grouped(read.wrong),
+        grouped(read.judged()),
+        ratio(read.wrong, read.judged()),
+        grouped(read.slips)
+    )
 }
 
 /// What all tributaries together say, for people who were not there.

@@ -382,10 +382,14 @@ impl Trial {
             Verdict::Ones => return ", which meet every pattern: no signal, or an alarm.".into(),
             Verdict::Unlike => {
                 return format!(
-                    ": even read by the decision of {}, {}. Another file, another order of \
-                     tributaries, or a recording that begins elsewhere in it.",
+                    ": even read by the decision of {}, {} of {} digits are wrong ({}) and there are {} \
+                     slips. Another file, another order of tributaries, or a recording that begins \
+                     elsewhere in it.",
                     WHOSE[best],
-                    self.came(told, j, best)
+                    grouped(read.wrong as usize),
+                    grouped(read.judged() as usize),
+                    ratio(read.wrong, read.judged()),
+                    grouped(read.slips as usize)
                 )
             }
             _ => {}
