@@ -26,12 +26,15 @@ pub fn is_standard(name: &Path) -> bool {
     [Path::new("-"), Path::new("/dev/stdin"), Path::new("/dev/stdout")].contains(&name)
 }
 
+/// The word for an output, the path that is written for it, and the file that is there: its device and number.
+type Written<'a> = (&'a str, PathBuf, Option<(u64, u64)>);
+
 /// Looks at the names of a call before anything is read: no output may be a file that is read, by whatever name, and no
 /// file may be written twice. Each name comes with the word that the call has for it.
 pub fn distinct(inputs: &[(&str, &Path)], outputs: &[(&str, &Path)]) -> Result<(), Failure> {
     let read: Vec<_> =
         inputs.iter().filter_map(|(word, name)| Some((*word, regular(name, true)?))).collect();
-    let mut written: Vec<(&str, PathBuf, Option<(u64, u64)>)> = Vec::new();
+    let mut written: Vec<Written<'_>> = Vec::new();
     for (word, name) in outputs {
         let file = regular(name, false);
         if let Some((other, _)) =
@@ -44,9 +47,7 @@ pub fn distinct(inputs: &[(&str, &Path)], outputs: &[(&str, &Path)]) -> Result<(
             )));
         }
         let path = resolved(name);
-        let same = |(_, at, of): &&(&str, PathBuf, Option<(u64, u64)>)| {
-            *at == path || (file.is_some() && *of == file)
-        };
+        let same = |(_, at, of): &&Written<'_>| *at == path || (file.is_some() && *of == file);
         if let Some((other, ..)) = written.iter().find(same) {
             return Err(Failure::Call(format!(
                 "{other} and {word} are two files: give two names."
