@@ -151,8 +151,11 @@ fn arguments() -> Run {
     run
 }
 
+/// A part of the comparison: its name, and what it calls.
+type Part = (&'static str, fn(&mut Run));
+
 /// The parts of a run by name, in their order.
-const PARTS: [(&str, fn(&mut Run)); 12] = [
+const PARTS: [Part; 12] = [
     ("multiplexing", multiplexing::part),
     ("receiver", receiver::part),
     ("captures", captures::part),
