@@ -12,6 +12,7 @@
 //! call before it is made, for a face that does not return. The first disagreement is
 //! printed and ends the run with 1.
 
+mod beginnings;
 mod call;
 mod captures;
 mod comparisons;
@@ -155,7 +156,7 @@ fn arguments() -> Run {
 type Part = (&'static str, fn(&mut Run));
 
 /// The parts of a run by name, in their order.
-const PARTS: [Part; 12] = [
+const PARTS: [Part; 13] = [
     ("multiplexing", multiplexing::part),
     ("receiver", receiver::part),
     ("captures", captures::part),
@@ -168,6 +169,7 @@ const PARTS: [Part; 12] = [
     ("judging", judging::part),
     ("copying", copying::part),
     ("naming", naming::part),
+    ("beginnings", beginnings::part),
 ];
 
 fn main() {
