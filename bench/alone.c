@@ -1,4 +1,4 @@
-/* The library's calls alone, on the digits of a file: alone find|take|send LEVEL FILE REPEATS prints the best time in seconds. For bench/program, which holds the
+/* The library's calls alone, on the digits of a file: alone find|take|send LEVEL FILE REPEATS prints the best time of the processor in seconds. For bench/program, which holds the
  * program's time from end to end against it. The file is in memory before the time begins; find and take are given a line, send its notes' and tributaries' file,
  * which is here made of the line first. */
 #include <stdint.h>
@@ -20,7 +20,7 @@ static uint64_t put[4];
 
 static double now(void) {
     struct timespec at;
-    clock_gettime(CLOCK_MONOTONIC, &at);
+    clock_gettime(CLOCK_PROCESS_CPUTIME_ID, &at);
     return (double)at.tv_sec + 1e-9 * (double)at.tv_nsec;
 }
 

@@ -101,7 +101,8 @@
  *      stretch, more zeros than digits there, or a number for yes or no that is over 1; for the
  *      finder of 2048 kbit/s frames: see spritbobbin_finder_feed
  *   7  first + count is more than the digits of the slice, for a copy of either slice, or of the
- *      lines that are compared; for what a place is: there is no such place
+ *      lines that are compared; for where a recording begins: see spritbobbin_begins; for what a
+ *      place is: there is no such place
  *   8  a rack: it has no line of this number
  *   9  writing a capture: the label is over 32 bytes; reading one: the bytes are no run of a
  *      capture's fields, and the answer names the byte where the field at fault begins or should
@@ -511,6 +512,21 @@ uint64_t spritbobbin_plain_extract(uint64_t level, uint64_t earlier, const uint8
                                    uint8_t *buffer, size_t buffer_bytes, uint64_t answer[5]);
 
 /*
+ * The line of a multiplexer that acts on its decisions a frame late, for demonstrations and tests.
+ *
+ * Its control digits say the decision of each frame's own note. Every other digit is what
+ * spritbobbin_multiplex sends by the late notes: each frame has bits 0 to 3 of the note before it,
+ * and the service digits of its own. In frame 0 these bits are those of earlier, at every level; at
+ * levels 12 and 14 earlier is the vote before frame 0 too, so that frame 0 acts on it twice.
+ *
+ * answer: as of spritbobbin_multiplex, the digits that the late line took. Refused exactly as
+ * spritbobbin_multiplex refuses the same.
+ */
+uint64_t spritbobbin_late_multiplex(uint64_t level, uint64_t earlier, uint8_t *line, size_t line_bytes,
+                                    const uint8_t *notes, size_t notes_bytes,
+                                    const uint8_t *buffer, size_t buffer_bytes, uint64_t answer[5]);
+
+/*
  * Makes a fresh receiver: hunting, nothing seen, the frame in hand all zero.
  *
  * Writes all of state (level, window, digits seen, mode, place, the stretch's digits and zeros,
@@ -642,6 +658,18 @@ uint64_t spritbobbin_copy_digits(uint8_t *to, size_t to_bytes, uint64_t at,
                                  const uint8_t *from, size_t from_bytes, uint64_t first, uint64_t count);
 
 /*
+ * Where a recording begins in what was sent, which nobody knows: of the numbers first to
+ * first + count - 1 the number m at which the first so many digits of read differ in the fewest places
+ * from the digits m, m + 1, .. of sent; the lowest of equal ones. The slices may have any length.
+ *
+ * answer: m, and how many digits differ there. Returns 0, or 7 where count is 0, where read has not so
+ * many digits, or where sent has fewer than first + count - 1 + digits, or that sum is 2^64 or more.
+ */
+uint64_t spritbobbin_begins(const uint8_t *read, size_t read_bytes, uint64_t digits,
+                            const uint8_t *sent, size_t sent_bytes, uint64_t first, uint64_t count,
+                            uint64_t answer[2]);
+
+/*
  * What a place of a frame is, places counted from 0, by the layout of the level alone. answer: one of
  * SPRITBOBBIN_PLACE_..; the tributary, 1 to 4, that owns the place, or 0. Returns 0, or 1, or 7 where
  * the place is N or more.
@@ -748,6 +776,13 @@ uint64_t spritbobbin_multiframe_apart(const uint8_t *multiframe, size_t multifra
  * Returns 0, or 7 where the place is 4096 or more.
  */
 uint64_t spritbobbin_multiframe_place(uint64_t place, uint64_t answer[2]);
+
+/*
+ * Which of sixteen frames of 2048 kbit/s in a row, 512 bytes, begins the multiframe: the first whose
+ * byte 0 ends in the word 0011011 and whose byte 16 begins with 0000. answer: that frame, counted
+ * from 0, or 16 where there is none. Returns 0 or 2.
+ */
+uint64_t spritbobbin_multiframe_start(const uint8_t *frames, size_t frames_bytes, uint64_t answer[1]);
 
 /*
  * The version of the library: MAJOR * 1000000 + MINOR * 1000 + PATCH. It is not that of this header,

@@ -11,7 +11,9 @@ use std::fs::{self, File, Metadata, OpenOptions};
 use std::io::{self, ErrorKind, Read, Seek, SeekFrom, Write};
 use std::os::unix::fs::{FileExt, MetadataExt};
 use std::path::{Path, PathBuf};
+use std::sync::mpsc::{channel, sync_channel, Receiver, SyncSender};
 use std::sync::Mutex;
+use std::thread::{self, JoinHandle};
 
 use signal_hook::consts::{SIGHUP, SIGINT, SIGTERM};
 use signal_hook::iterator::Signals;
@@ -24,12 +26,15 @@ pub fn is_standard(name: &Path) -> bool {
     [Path::new("-"), Path::new("/dev/stdin"), Path::new("/dev/stdout")].contains(&name)
 }
 
+/// The word for an output, the path that is written for it, and the file that is there: its device and number.
+type Written<'a> = (&'a str, PathBuf, Option<(u64, u64)>);
+
 /// Looks at the names of a call before anything is read: no output may be a file that is read, by whatever name, and no
 /// file may be written twice. Each name comes with the word that the call has for it.
 pub fn distinct(inputs: &[(&str, &Path)], outputs: &[(&str, &Path)]) -> Result<(), Failure> {
     let read: Vec<_> =
         inputs.iter().filter_map(|(word, name)| Some((*word, regular(name, true)?))).collect();
-    let mut written: Vec<(&str, PathBuf, Option<(u64, u64)>)> = Vec::new();
+    let mut written: Vec<Written<'_>> = Vec::new();
     for (word, name) in outputs {
         let file = regular(name, false);
         if let Some((other, _)) =
@@ -42,9 +47,7 @@ pub fn distinct(inputs: &[(&str, &Path)], outputs: &[(&str, &Path)]) -> Result<(
             )));
         }
         let path = resolved(name);
-        let same = |(_, at, of): &&(&str, PathBuf, Option<(u64, u64)>)| {
-            *at == path || (file.is_some() && *of == file)
-        };
+        let same = |(_, at, of): &&Written<'_>| *at == path || (file.is_some() && *of == file);
         if let Some((other, ..)) = written.iter().find(same) {
             return Err(Failure::Call(format!(
                 "{other} and {word} are two files: give two names."
@@ -232,7 +235,7 @@ static BEGUN: Mutex<Option<HashSet<PathBuf>>> = Mutex::new(None);
 /// From here on an interrupt, a termination and a hang-up remove what was begun, and then end the program as they would.
 pub fn watch_signals() {
     let Ok(mut signals) = Signals::new([SIGINT, SIGTERM, SIGHUP]) else { return };
-    std::thread::spawn(move || {
+    thread::spawn(move || {
         for signal in signals.forever() {
             if let Ok(mut begun) = BEGUN.lock() {
                 for path in begun.take().unwrap_or_default() {
@@ -254,6 +257,39 @@ pub struct Output {
     /// What is to be written behind the first `at` bytes.
     waiting: Vec<u8>,
     at: u64,
+    behind: Option<Behind>,
+}
+
+/// A thread that writes while the next frames are made.
+#[derive(Debug)]
+struct Behind {
+    to: SyncSender<(u64, Vec<u8>)>,
+    /// What was written comes back, to be filled again.
+    back: Receiver<Vec<u8>>,
+    thread: JoinHandle<io::Result<()>>,
+}
+
+impl Behind {
+    fn new(file: &File) -> io::Result<Behind> {
+        let file = file.try_clone()?;
+        let (to, from) = sync_channel::<(u64, Vec<u8>)>(4);
+        let (done, back) = channel();
+        let thread = thread::spawn(move || {
+            for (at, bytes) in from {
+                file.write_all_at(&bytes, at)?;
+                // Nobody wants it back at the end.
+                let _ = done.send(bytes);
+            }
+            Ok(())
+        });
+        Ok(Behind { to, back, thread })
+    }
+
+    /// That all is written.
+    fn end(self) -> io::Result<()> {
+        drop(self.to);
+        self.thread.join().unwrap_or_else(|_| Err(ErrorKind::Other.into()))
+    }
 }
 
 #[derive(Debug)]
@@ -288,7 +324,8 @@ impl Output {
     }
 
     fn new(name: &Path, file: File, target: Target) -> Output {
-        Output { name: name.into(), file, target, waiting: Vec::new(), at: 0 }
+        let (waiting, behind) = (Vec::new(), None);
+        Output { name: name.into(), file, target, waiting, at: 0, behind }
     }
 
     /// An output that is never kept: frames that are found and read again.
@@ -310,16 +347,40 @@ impl Output {
         if self.waiting.len() < WAITING {
             return Ok(());
         }
-        self.flush()
+        let waiting = std::mem::take(&mut self.waiting);
+        let bytes = waiting.len() as u64;
+        self.waiting = self.write_behind(self.at, waiting)?;
+        self.waiting.clear();
+        self.at = self.at.saturating_add(bytes);
+        Ok(())
     }
 
+    /// Writes what waits, and ends the writing behind.
     fn flush(&mut self) -> Result<(), Failure> {
         let waiting = std::mem::take(&mut self.waiting);
         self.write_at(self.at, &waiting)?;
         self.at = self.at.saturating_add(waiting.len() as u64);
-        self.waiting = waiting;
-        self.waiting.clear();
-        Ok(())
+        match self.behind.take().map_or(Ok(()), Behind::end) {
+            Ok(()) => Ok(()),
+            Err(why) => Err(Failure::not_whole(&self.name, &why)),
+        }
+    }
+
+    /// Has the bytes written at this place while the command goes on, and answers a vector to be filled anew, with whatever is in it.
+    pub fn write_behind(&mut self, at: u64, bytes: Vec<u8>) -> Result<Vec<u8>, Failure> {
+        let not_whole = |name: &Path, why: &io::Error| Failure::not_whole(name, why);
+        let behind = match self.behind.take() {
+            Some(behind) => behind,
+            None => Behind::new(&self.file).map_err(|why| not_whole(&self.name, &why))?,
+        };
+        if behind.to.send((at, bytes)).is_err() {
+            // The thread has ended, which it does only where it could not write.
+            let why = behind.end().err().unwrap_or_else(|| ErrorKind::Other.into());
+            return Err(not_whole(&self.name, &why));
+        }
+        let again = behind.back.try_recv().unwrap_or_default();
+        self.behind = Some(behind);
+        Ok(again)
     }
 
     /// Writes all of a file at this place.

@@ -115,7 +115,7 @@ impl QuartersOut {
         for (j, mut part) in (0_u64..).zip(parts) {
             let start = quarter.saturating_mul(j);
             let at = if part.aside.is_some() { 0 } else { start };
-            part.flush(&output, at)?;
+            part.flush(&mut output, at)?;
             part.rest(&output, at)?;
             if let Some(mut file) = part.aside.take() {
                 output.pour_at(start, &mut file)?;
@@ -128,14 +128,20 @@ impl QuartersOut {
 
 impl Part {
     /// Writes the whole bytes, and keeps the digits of the last.
-    fn flush(&mut self, output: &Output, start: u64) -> Result<(), Failure> {
+    fn flush(&mut self, output: &mut Output, start: u64) -> Result<(), Failure> {
         let bytes = whole_bytes(self.digits);
         let whole = usize::try_from(bytes).unwrap_or(0);
-        self.write(output, start, whole)?;
-        let last = self.waiting.get(whole).copied();
+        let last: Vec<u8> = self.waiting.get(whole).copied().into_iter().collect();
         let left = self.digits.saturating_sub(digits_in(bytes));
-        self.waiting.fill(0);
-        let last = last.map_or_else(Vec::new, |byte| vec![byte]);
+        if self.aside.is_some() {
+            self.write(output, start, whole)?;
+        } else {
+            let mut full = std::mem::take(&mut self.waiting);
+            full.truncate(whole);
+            self.waiting = output.write_behind(start.saturating_add(self.written), full)?;
+        }
+        self.waiting.clear();
+        self.waiting.resize(usize::try_from(WINDOW).unwrap_or(0), 0);
         copy_digits(&mut self.waiting, 0, &last, 0, usize::try_from(left).unwrap_or(0))?;
         self.digits = left;
         self.written = self.written.saturating_add(bytes);

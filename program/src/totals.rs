@@ -76,24 +76,16 @@ impl Totals {
     }
 
     fn counted(&self, read: bool) -> Counted {
-        let numbers = [1, 2, 3, 4];
-        let of = |((((number, digits), stuffed), negative), dissent): (
-            (((u64, u64), u64), u64),
-            u64,
-        )| Tributary {
-            tributary: number,
-            digits,
-            stuffed,
-            negative: self.level.looks_at_earlier().then_some(negative),
-            dissent: read.then_some(dissent),
-        };
-        let all = numbers.into_iter().zip(self.digits).zip(self.stuffed).zip(self.negative);
-        Counted {
-            level: self.level.number(),
-            frames: self.frames,
-            tributaries: all.zip(self.dissent).map(of).collect(),
-            alignment_wrong: read.then_some(self.alignment),
+        let signed = self.level.looks_at_earlier();
+        let mut tributaries = Vec::new();
+        let counts = self.digits.into_iter().zip(self.stuffed);
+        let others = self.negative.into_iter().zip(self.dissent);
+        for (tributary, ((digits, stuffed), (negative, dissent))) in (1..).zip(counts.zip(others)) {
+            let (negative, dissent) = (signed.then_some(negative), read.then_some(dissent));
+            tributaries.push(Tributary { tributary, digits, stuffed, negative, dissent });
         }
+        let alignment_wrong = read.then_some(self.alignment);
+        Counted { level: self.level.number(), frames: self.frames, tributaries, alignment_wrong }
     }
 }
 

@@ -134,6 +134,15 @@ pub fn fill(row: &Row, before: u8, note: u8, waiting: &mut [Waiting]) -> Vec<u8>
     layout(row).into_iter().map(&mut digit_at).collect()
 }
 
+/// Makes the control digits of a frame say the decisions of a note; every other digit stays.
+pub fn say(row: &Row, note: u8, digits: &mut [u8]) {
+    for (place, digit) in layout(row).into_iter().zip(digits) {
+        if let Place::Control(j) = place {
+            *digit = note_digit(note, j);
+        }
+    }
+}
+
 /// Puts one tributary's digits into a frame: its control digits by the note, a digit at each place
 /// that carries one, and 1 at its places that carry none.
 pub fn put(

@@ -10,6 +10,7 @@
 #![forbid(unsafe_code)]
 
 pub mod alarm;
+mod beginning;
 mod captures;
 mod comparison;
 mod copying;
@@ -28,6 +29,7 @@ mod repairing;
 mod swapping;
 pub mod verdict;
 
+pub use beginning::{begins, begins_refusal, multiframe_start};
 pub use captures::{read_capture, write_capture, Read, Written};
 pub use comparison::{compare, compare_lines, compare_stretch, lines_refusal};
 pub use comparison::{sum, Differences, MOST_LISTED};
@@ -39,7 +41,7 @@ pub use multiframe::{
     build_multiframe, multiframe_place, multiframe_refusal, take_multiframe_apart,
 };
 pub use multiplexing::{
-    extract, frames_refusal, length_refusal, multiplex, read_notes, Counted, Noted,
+    extract, frames_refusal, late_multiplex, length_refusal, multiplex, read_notes, Counted, Noted,
 };
 pub use rack::{rack_aligned, rack_feed, rack_refusal, rack_reset, Told, MOST_RECORDS};
 pub use receiver::{feed, feed_refusal, fresh, line_digit, Fed, State};

@@ -120,6 +120,28 @@ pub fn multiplex(
     Counted { refusal: 0, frame: 0, counts }
 }
 
+/// Writes the line of a multiplexer that is a frame late: it sends by the decisions of the note before
+/// and the service digits of a frame's own note, and says the decisions of its own.
+pub fn late_multiplex(
+    level: u64,
+    earlier: u64,
+    line: &mut [u8],
+    notes: &[u8],
+    buffer: &[u8],
+) -> Counted {
+    let late: Vec<u8> =
+        with_before(earlier, notes).map(|(before, note)| before & 0x0F | note & 0xF0).collect();
+    let answer = multiplex(level, earlier, line, &late, buffer);
+    if let Some(row) = row(level).filter(|_| answer.refusal == 0) {
+        for (note, bytes) in notes.iter().zip(line.chunks_mut(row.frame_bytes())) {
+            let mut digits = unpack(bytes, row.frame_digits);
+            frame::say(row, *note, &mut digits);
+            bytes.copy_from_slice(&pack(&digits));
+        }
+    }
+    answer
+}
+
 /// Reads the notes of the line.
 pub fn read_notes(level: u64, line: &[u8], notes: &mut [u8]) -> Noted {
     let refusal = frames_refusal(level, line.len() as u64, notes.len() as u64);

@@ -10,6 +10,8 @@
 //!   same three by a second engine, digit by digit.
 //! - [`swap`] rewrites one tributary of a line in place; [`repair`] sets right what is known of a worn
 //!   line, and [`repair_capture`] that of a capture.
+//! - [`late_multiplex`] builds the line of a multiplexer that acts a frame late, for demonstrations.
+//! - [`begins`] finds where a recording begins in what was sent.
 //! - [`judge`] reads a line by the decision of its own frame, of the frame before and of the frame
 //!   after, and says by which it is what was sent.
 //! - A [`Receiver`] finds frames in a stream that comes in pieces of any size; a [`FrameStream`]
@@ -20,7 +22,8 @@
 //! - [`write_capture`] keeps a line in a file, [`read_capture`] reads it back.
 //! - [`compare`] says where two captures differ, by the kind of place and the tributary;
 //!   [`compare_lines`] and [`compare_stretch`] say it of two lines and of a stretch of them.
-//! - [`Multiframe::build`] builds a multiframe of 2048 kbit/s, [`Multiframe::apart`] takes one apart.
+//! - [`Multiframe::build`] builds a multiframe of 2048 kbit/s, [`Multiframe::apart`] takes one apart,
+//!   [`Multiframe::start`] finds where one begins.
 //! - [`place`](place()) and [`multiframe_place`] say what a place of a frame is, and of a multiframe.
 //! - [`version`] is that of the library.
 //!
@@ -86,6 +89,7 @@
 
 #![warn(missing_docs)]
 
+mod beginning;
 mod capture;
 mod comparison;
 mod copying;
@@ -108,6 +112,7 @@ mod stream;
 mod swapping;
 mod version;
 
+pub use beginning::{begins, Beginning};
 pub use capture::{capture_bytes, read_capture, write_capture, Capture, MOST_LABEL_BYTES};
 pub use comparison::{
     compare, compare_lines, compare_stretch, Differences, FileOf, LinePlace, NotCompared,
@@ -119,7 +124,9 @@ pub use judging::{judge, Pattern, Reading, SentInto, Verdict};
 pub use level::{Level, MOST_BYTES, MOST_FRAMES};
 pub use line::{digits, line_digit, Digits};
 pub use multiframe::{Multiframe, MULTIFRAME_BYTES};
-pub use multiplexing::{extract, multiplex, read_notes, vote_after, Extracted, Noted, Sent};
+pub use multiplexing::{
+    extract, late_multiplex, multiplex, read_notes, vote_after, Extracted, Noted, Sent,
+};
 pub use note::Note;
 pub use place::{multiframe_place, place, Kind, MultiframePlace, Place};
 pub use rack::{Rack, MOST_LINES};

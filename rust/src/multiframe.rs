@@ -67,6 +67,33 @@ impl Multiframe {
         }
     }
 
+    /// Which of sixteen frames in a row begins the multiframe: the first whose byte 0 ends in the
+    /// word 0011011 and whose byte 16 begins with 0000. Nothing where there is none.
+    ///
+    /// # Examples
+    ///
+    /// ```
+    /// use spritbobbin::Multiframe;
+    ///
+    /// # fn main() -> Result<(), spritbobbin::Refusal> {
+    /// let carried = Multiframe { channels: [[0; 16]; 30], signalling: [0xD0; 15], spare: [0; 9] };
+    /// let mut frames = carried.build()?;
+    /// assert_eq!(Multiframe::start(&frames), Some(0));
+    /// frames.rotate_left(5 * 32); // begun with frame 5
+    /// assert_eq!(Multiframe::start(&frames), Some(11));
+    /// assert_eq!(Multiframe::start(&[0xFF; 512]), None);
+    /// # Ok(())
+    /// # }
+    /// ```
+    pub fn start(frames: &[u8; MULTIFRAME_BYTES]) -> Option<usize> {
+        let mut answer = [0];
+        // Sound: the pointer comes with its length, and nothing is written but the answer.
+        let number = unsafe {
+            raw::spritbobbin_multiframe_start(frames.as_ptr(), frames.len(), &mut answer)
+        };
+        Some(count(answer[0])).filter(|&frame| number == 0 && frame < 16)
+    }
+
     /// Takes a multiframe apart, whatever its fixed digits are.
     ///
     /// # Errors

@@ -108,6 +108,40 @@ pub fn vote_after(earlier: u8, notes: &[u8]) -> u8 {
     notes.last().map_or(earlier, |note| note & 0x0F)
 }
 
+/// Builds the line of a multiplexer that acts on its decisions a frame late, for demonstrations and
+/// tests: its control digits say each frame's own decision, and every other digit goes by that of the
+/// frame before. In frame 0 these are bits 0 to 3 of `earlier`, at every level.
+///
+/// # Errors
+///
+/// As of [`multiplex`].
+///
+/// # Examples
+///
+/// ```
+/// use spritbobbin::{late_multiplex, multiplex, Level};
+///
+/// # fn main() -> Result<(), spritbobbin::Refusal> {
+/// let (mut right, mut late, buffer) = ([0; 212], [0; 212], [0; 4 * 52]);
+/// let notes = [0b10_0001, 0b10_0000]; // tributary 1 is stuffed in frame 0
+/// let sent = multiplex(Level::Two, 0, &mut right, &notes, &buffer)?;
+/// assert_eq!(late_multiplex(Level::Two, 0, &mut late, &notes, &buffer)?, sent);
+/// // It says so in frame 0, and does it in frame 1: digit 640 of each.
+/// assert_eq!((right[80], right[106 + 80]), (0x80, 0x00));
+/// assert_eq!((late[80], late[106 + 80]), (0x00, 0x80));
+/// # Ok(())
+/// # }
+/// ```
+pub fn late_multiplex(
+    level: Level,
+    earlier: u8,
+    line: &mut [u8],
+    notes: &[u8],
+    buffer: &[u8],
+) -> Result<Sent, Refusal> {
+    multiplex_by(raw::spritbobbin_late_multiplex, level, earlier, line, notes, buffer)
+}
+
 /// The same, by one of the two engines.
 pub(crate) fn multiplex_by(
     by: raw::Multiplex,

@@ -126,6 +126,19 @@ extern "C" {
         answer: &mut [u64; 5],
     ) -> u64;
 
+    /// Answer: four digit counts, named frame.
+    pub fn spritbobbin_late_multiplex(
+        level: u64,
+        earlier: u64,
+        line: *mut u8,
+        line_bytes: usize,
+        notes: *const u8,
+        notes_bytes: usize,
+        buffer: *const u8,
+        buffer_bytes: usize,
+        answer: &mut [u64; 5],
+    ) -> u64;
+
     /// Answer: digits taken.
     pub fn spritbobbin_swap(
         level: u64,
@@ -289,6 +302,25 @@ extern "C" {
         count: u64,
         answer: &mut [u64; 16],
     ) -> u64;
+    /// Answer: the number, and how many digits differ there.
+    pub fn spritbobbin_begins(
+        read: *const u8,
+        read_bytes: usize,
+        digits: u64,
+        sent: *const u8,
+        sent_bytes: usize,
+        first: u64,
+        count: u64,
+        answer: &mut [u64; 2],
+    ) -> u64;
+
+    /// Answer: the frame, or 16.
+    pub fn spritbobbin_multiframe_start(
+        frames: *const u8,
+        frames_bytes: usize,
+        answer: &mut [u64; 1],
+    ) -> u64;
+
     /// Answer: the kind's number, the tributary or 0.
     pub fn spritbobbin_place(level: u64, place: u64, answer: &mut [u64; 2]) -> u64;
 

@@ -1,7 +1,7 @@
 /*
  * Calls every function of the library through its header, from C: worked cases 1, 9, 10 and 11
  * of the specification, frames of levels 12 and 14 worked by hand, swaps, repairs, judgements, each refusal, the digits of a line, captures,
- * copies of digits, what a place is, comparisons, multiframes, frames of 2048 kbit/s and a rack of lines. Prints "face: ok", or what failed.
+ * copies of digits, what a place is, late lines, beginnings, comparisons, multiframes, frames of 2048 kbit/s and a rack of lines. Prints "face: ok", or what failed.
  *
  * All bytes that are lent come from malloc in their exact number, so that valgrind sees a read or
  * a write of the library one byte beside them.
@@ -557,6 +557,38 @@ static void places(void)
     check(spritbobbin_version() == SPRITBOBBIN_VERSION, "header and library are of one version");
 }
 
+/* Tributary 1 is stuffed in the first of two frames: the late line says so there, and does it in the second. Then where six digits begin,
+   and which of sixteen frames begins a multiframe. */
+static void beginnings(void)
+{
+    uint8_t *line = lend(212, 0), *notes = lend(2, 0x20), *buffer = lend(208, 0);
+    uint8_t *read = lend(1, 0xB4), *sent = lend(4, 0), *frames = lend(512, 0xFF);
+    uint64_t answer[5];
+
+    notes[0] = 0x21;
+    check(spritbobbin_late_multiplex(2, 0, line, 212, notes, 2, buffer, 208, answer) == 0 && answer[0] == 411 && answer[1] == 412, "a late line");
+    check((line[80] & 0x80) == 0 && (line[186] & 0x80) == 0x80, "stuffed a frame late");
+    check(spritbobbin_read_notes(2, line, 212, notes, 2, answer) == 0 && notes[0] == 0x21 && notes[1] == 0x20, "and says it in time");
+    check(spritbobbin_late_multiplex(2, 0, line, 211, notes, 2, buffer, 208, answer) == SPRITBOBBIN_REFUSED_LINE && all_zero(answer, 5), "211 bytes");
+
+    sent[1] = 0x0B;
+    check(spritbobbin_begins(read, 1, 6, sent, 4, 0, 26, answer) == 0 && answer[0] == 12 && answer[1] == 1, "1011 at 12, a digit wrong");
+    check(spritbobbin_begins(read, 1, 6, sent, 4, 0, 28, answer) == SPRITBOBBIN_REFUSED_DIGITS && all_zero(answer, 2), "a number too many");
+    check(spritbobbin_begins(read, 1, 6, sent, 4, 0, 0, answer) == SPRITBOBBIN_REFUSED_DIGITS && all_zero(answer, 2), "no number");
+
+    check(spritbobbin_multiframe_start(frames, 512, answer) == 0 && answer[0] == 16, "no frame begins the multiframe");
+    frames[5 * 32] = 0x9B;
+    frames[5 * 32 + 16] = 0x0B;
+    check(spritbobbin_multiframe_start(frames, 512, answer) == 0 && answer[0] == 5, "frame 5 begins it");
+    check(spritbobbin_multiframe_start(frames, 511, answer) == SPRITBOBBIN_REFUSED_LINE && answer[0] == 0, "511 bytes");
+    free(line);
+    free(notes);
+    free(buffer);
+    free(read);
+    free(sent);
+    free(frames);
+}
+
 /* Compares two captures; answer and places hold 0xA5 before, so that what is not written is seen. */
 static uint64_t compared(const uint8_t *one, size_t one_bytes, const uint8_t *other, size_t other_bytes,
                          uint64_t answer[19], uint64_t places[128])
@@ -896,6 +928,7 @@ int main(void)
     line_digits();
     copies();
     places();
+    beginnings();
     captures();
     comparisons();
     multiframes();

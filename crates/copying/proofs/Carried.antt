@@ -1,7 +1,7 @@
 -- Laws of digits that are carried: a window's digits, those of a part of a slice, a copy's beginning and its end.
 use mathlib.Core.Path.{_≡_, refl, sym, ap, _∙_}
 use mathlib.Core.Bool.{Bool, true, false}
-use mathlib.Core.List.{List, [], _∷_, _++_, append-assoc, append-nil}
+use mathlib.Core.List.{List, _++_, append-assoc, append-nil}
 use Prim.Native.Nat.{ℕ, zero, suc, _+_, _-_, _*_, _/_, _%_, _^_, _≤_, _<_}
 use native.Mathlib.Omega.{arith}
 use native.Mathlib.Numerals.{add-one}
@@ -9,11 +9,11 @@ use borrow.Author.Tests.{leb-true, leb-false, le-leb, lt-leb}
 use lib.Dec.{leb}
 use lib.ListN.{length, getD, take, drop, replicate, length-drop, take-append-drop}
 use lib.Seq.{take-all, take-suc, getD-drop, drop-drop, take-add, sets, sets-eq, length-take-le}
-use Rattle.digits.specs.Digits.{digitsOf, bytesOf, Binary, Bytes, windowAt, written}
+use Rattle.digits.specs.Digits.{digitsOf, Binary, Bytes, windowAt, written}
 use Rattle.digits.proofs.Laws.{digits-length, digits-binary, digits-append, digits-take, digits-drop, bytes-of-digits}
 use Rattle.digits.proofs.Written.{written-cat, written-one}
 use Rattle.words.specs.declared.Writer.{Writer}
-use Rattle.words.specs.Words.{Ready, outFrom, Appended, zerosAfter, Finished}
+use Rattle.words.specs.Words.{outFrom, Appended, zerosAfter, Finished}
 use Rattle.words.proofs.Writing.{appended-more}
 use Rattle.copying.specs.Copying.{digitsFrom, hasDigits, putInto, copies, CopyMet, Begun}
 

@@ -3,7 +3,7 @@ use multiframe::Kind;
 use multiframe::SpareDigit;
 use multiframe::kinds;
 ghost use mathlib.Core.Path.{_≡_};
-ghost use Rattle.naming.specs.Multiframes.{nowhere, spareNumber, fixedNumber, kindNumber, numberOf, MultiframePlaceMet};
+ghost use Rattle.naming.specs.Multiframes.{spareNumber, fixedNumber, kindNumber, numberOf, MultiframePlaceMet};
 
 // The refusal, the number of the place's kind, and the digit that is fixed there or the channel whose it is, or 0.
 pub struct MultiframePlaced {

@@ -8,4 +8,6 @@ pub mod RepairAnswers
 pub mod JudgeAnswers
 pub mod CopyAnswers
 pub mod NamingAnswers
+pub mod LateAnswers
+pub mod BeginsAnswers
 pub mod VersionAnswers

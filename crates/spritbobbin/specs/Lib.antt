@@ -6,4 +6,6 @@ pub mod SwapFace
 pub mod RepairFace
 pub mod JudgeFace
 pub mod NamingFace
+pub mod LateFace
+pub mod BeginsFace
 pub mod VersionFace

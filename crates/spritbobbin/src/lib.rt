@@ -1,9 +1,11 @@
 // The C face: the calls over numbers, slices and fixed arrays, nothing else. A slice passes as a pointer and then a length, a fixed array as
 // a pointer. include/spritbobbin.h declares these functions for C; nothing checks that header against this file but the tests.
+pub mod begins_face;
 pub mod compare_face;
 pub mod copy_face;
 pub mod finder_face;
 pub mod judge_face;
+pub mod late_face;
 pub mod naming_face;
 pub mod plain_face;
 pub mod rack_face;

@@ -242,7 +242,7 @@ pub fn decisions(page: &Page<'_>, known: &Known<'_>) -> String {
         let _ = write!(bars, "M{x:.1} {base}V{top:.1}H{end:.1}V{base}Z");
     }
     let _ = write!(out, "<path class=\"dense\" d=\"{bars}\"/>");
-    let _ = write!(out, "<path class=\"axis\" d=\"M0 {base:.1}H{WIDE}\"/></svg></div></div>\n");
+    let _ = writeln!(out, "<path class=\"axis\" d=\"M0 {base:.1}H{WIDE}\"/></svg></div></div>");
     out.push_str(&ends(page));
     out.push_str("</figure>\n");
     out

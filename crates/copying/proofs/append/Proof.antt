@@ -1,6 +1,5 @@
 -- `append` goes by words. The invariant: what is appended are the first digits, as many as are not left, and the next one stands at digit p of its byte.
 use mathlib.Core.Path.{_≡_, refl, _∙_}
-use mathlib.Core.List.{[]}
 use Prim.Native.Nat.{_+_, _*_, _-_, _≤_}
 use native.Mathlib.Omega.{arith}
 use lib.ListN.{length}
@@ -8,7 +7,6 @@ use Rattle.words.specs.Words.{Appended}
 use Rattle.words.proofs.Writing.{appended-none, appended-more}
 use Rattle.copying.specs.Copying.{digitsFrom}
 use Rattle.copying.proofs.Carried.{more-from}
-use borrow.Author.Needs.{needs}
 use Rattle.copying.proofs.append.Statement.{statement}
 use Rattle.copying.proofs.append.Tie as tie
 

@@ -1,6 +1,6 @@
 -- The rest of the byte is read before it is written, and put out behind the digits held (Carried).
 use native.Mathlib.Omega.{arith}
-use mathlib.Core.Path.{_≡_, _∙_}
+use mathlib.Core.Path.{_≡_}
 use Prim.Native.Nat.{_+_, _*_, _/_, _%_}
 use Rattle.copying.proofs.Carried.{closed}
 use borrow.Author.Needs.{needs}

@@ -1,6 +1,6 @@
 -- A place of the frame has the numbers of its kind.
 use Rattle.naming.specs.Frames.{placeIn}
-use mathlib.Core.Path.{refl, _∙_}
+use mathlib.Core.Path.{refl}
 use borrow.Author.Tests.{lt-ltb, le-ltb}
 use borrow.Author.Needs.{needs}
 use Rattle.naming.proofs.place_in.Statement.{statement}

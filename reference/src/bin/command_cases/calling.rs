@@ -158,7 +158,12 @@ pub fn cases() -> Vec<Case> {
             [("long", format!("{command} --help")), ("help", format!("help {command}"))]
         {
             let name = format!("help-of-{command}-{how}");
-            cases.push(Case::new(&name).like(words(&call), 0, &[usage.clone()], &example));
+            cases.push(Case::new(&name).like(
+                words(&call),
+                0,
+                std::slice::from_ref(&usage),
+                &example,
+            ));
         }
     }
     cases.extend(WRONG.iter().map(|command| wrong(command)));

@@ -162,7 +162,10 @@ impl Case {
         if let Some(page) = &self.page {
             let counts = page.counts.iter().map(|(name, count)| format!("{count} {name}"));
             let all: Vec<String> = counts.chain(page.texts.iter().cloned()).collect();
-            fs::write(folder.join("expected.page"), lines(&[page.path.clone()]) + &lines(&all))?;
+            fs::write(
+                folder.join("expected.page"),
+                lines(std::slice::from_ref(&page.path)) + &lines(&all),
+            )?;
         }
         write_all(&folder.join("given"), &self.given)?;
         write_all(&folder.join("after"), &self.after)

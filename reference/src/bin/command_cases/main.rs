@@ -19,6 +19,9 @@
 //! `case` writes such a folder. `inputs` and `stream` make what is read, `worked` says
 //! what comes of it and `texts` in which words. The others list the cases.
 
+// Tributaries are numbered, and what is theirs stands in arrays by that number.
+#![allow(clippy::needless_range_loop)]
+
 mod approving;
 mod calling;
 mod case;

@@ -1,7 +1,7 @@
 //! A call with its inputs, what came of it, and what the reference says of it.
 
 use crate::face::UNWRITTEN;
-use reference::copy_digits;
+use reference::{begins, copy_digits, late_multiplex, multiframe_start};
 use reference::{build_multiframe, take_multiframe_apart};
 use reference::{compare, compare_lines, compare_stretch, Differences, MOST_LISTED};
 use reference::{extract, feed, fresh, line_digit, multiplex, read_notes, Counted, State};
@@ -77,6 +77,16 @@ pub struct Copying {
     pub count: u64,
 }
 
+/// What a search for a recording's beginning is lent.
+#[derive(Clone)]
+pub struct Search {
+    pub read: Vec<u8>,
+    pub digits: u64,
+    pub sent: Vec<u8>,
+    pub first: u64,
+    pub count: u64,
+}
+
 /// What a call on a multiframe is lent.
 #[derive(Clone)]
 pub struct Whole {
@@ -115,10 +125,13 @@ pub enum Call {
     Copy(Copying),
     CompareLines(Pair),
     CompareStretch(Pair, u64, u64),
+    LateMultiplex(Lending),
+    Begins(Search),
+    MultiframeStart(Vec<u8>),
 }
 
 /// The names of the calls, in the order of their numbers.
-pub const NAMES: [&str; 25] = [
+pub const NAMES: [&str; 28] = [
     "multiplex",
     "read_notes",
     "receiver_fresh",
@@ -144,6 +157,9 @@ pub const NAMES: [&str; 25] = [
     "place",
     "multiframe_place",
     "version",
+    "late_multiplex",
+    "begins",
+    "multiframe_start",
 ];
 
 /// All that a call answers and leaves: two outcomes are equal or there is a disagreement.
@@ -182,6 +198,9 @@ impl Call {
             Call::Copy(_) => 19,
             Call::CompareLines(_) => 20,
             Call::CompareStretch(..) => 21,
+            Call::LateMultiplex(_) => 25,
+            Call::Begins(_) => 26,
+            Call::MultiframeStart(_) => 27,
         }
     }
 
@@ -208,6 +227,9 @@ impl Call {
             Call::Repair(_) => "changed: word, control of four, stuffing of four, national",
             Call::Judge(_) => "of each: fits, wrong by own, before and after, changes",
             Call::Copy(_) => "none",
+            Call::LateMultiplex(_) => "four counts, frame",
+            Call::Begins(_) => "number, differing",
+            Call::MultiframeStart(_) => "frame",
             Call::Compare(..) => "file, byte, fifteen sums, all, listed; frame and place of each",
             Call::CompareLines(_) => "fifteen sums, all, listed; frame and place of each",
             Call::CompareStretch(..) => "fifteen sums, all",
@@ -217,6 +239,16 @@ impl Call {
     pub fn short(&self) -> String {
         match self {
             Call::Multiplex(with) | Call::ReadNotes(with) | Call::Extract(with) => with.short(),
+            Call::LateMultiplex(with) => with.short(),
+            Call::Begins(search) => format!(
+                "read {}; digits {}; sent {}; first {} count {}",
+                in_short(&search.read),
+                search.digits,
+                in_short(&search.sent),
+                search.first,
+                search.count
+            ),
+            Call::MultiframeStart(frames) => format!("frames {}", in_short(frames)),
             Call::Swap(with, tributary) => format!("tributary {tributary}; {}", with.short()),
             Call::Repair(worn) => format!(
                 "level {}; earlier {}; national {}; line {}",
@@ -314,6 +346,17 @@ impl Call {
             Call::Repair(worn) => repaired(worn.clone()),
             Call::Judge(trace) => judged(trace.clone()),
             Call::Copy(with) => copied(with.clone()),
+            Call::LateMultiplex(with) => late(with.clone()),
+            Call::Begins(search) => {
+                let Search { read, digits, sent, first, count } = search;
+                let [refusal, numbers @ ..] = begins(read, *digits, sent, *first, *count);
+                let lent = vec![("read", read.clone()), ("sent", sent.clone())];
+                outcome(refusal, numbers.to_vec(), lent)
+            }
+            Call::MultiframeStart(frames) => {
+                let [refusal, frame] = multiframe_start(frames);
+                outcome(refusal, vec![frame], vec![("frames", frames.clone())])
+            }
             Call::Compare(one, other) => {
                 let (refusal, numbers) = compared_numbers(&compare(one, other));
                 outcome(refusal, numbers, vec![("one", one.clone()), ("other", other.clone())])
@@ -394,6 +437,12 @@ fn repaired(mut worn: Worn) -> Outcome {
     let numbers =
         [&[answer.word], &answer.control[..], &answer.stuffing, &[answer.national]].concat();
     outcome(answer.refusal, numbers, vec![("line", worn.line)])
+}
+
+fn late(mut with: Lending) -> Outcome {
+    let (level, earlier) = (with.level, with.earlier);
+    let answer = late_multiplex(level, earlier, &mut with.line, &with.notes, &with.buffer);
+    outcome(answer.refusal, counted_numbers(&answer), slices(with))
 }
 
 fn copied(mut with: Copying) -> Outcome {

@@ -2,8 +2,8 @@
 
 use crate::call::Pair;
 use crate::call::{
-    finder_numbers, state_numbers, Call, Copying, Hunt, Lending, Outcome, Piece, Trace, Whole,
-    Worn, Writing,
+    finder_numbers, state_numbers, Call, Copying, Hunt, Lending, Outcome, Piece, Search, Trace,
+    Whole, Worn, Writing,
 };
 
 #[rustfmt::skip]
@@ -94,6 +94,18 @@ extern "C" {
     pub fn spritbobbin_copy_digits(
         to: *mut u8, to_bytes: usize, at: u64, from: *const u8, from_bytes: usize,
         first: u64, count: u64,
+    ) -> u64;
+    pub fn spritbobbin_late_multiplex(
+        level: u64, earlier: u64, line: *mut u8, line_bytes: usize,
+        notes: *const u8, notes_bytes: usize, buffer: *const u8, buffer_bytes: usize,
+        answer: *mut u64,
+    ) -> u64;
+    pub fn spritbobbin_begins(
+        read: *const u8, read_bytes: usize, digits: u64, sent: *const u8, sent_bytes: usize,
+        first: u64, count: u64, answer: *mut u64,
+    ) -> u64;
+    pub fn spritbobbin_multiframe_start(
+        frames: *const u8, frames_bytes: usize, answer: *mut u64,
     ) -> u64;
     pub fn spritbobbin_place(level: u64, place: u64, answer: *mut u64) -> u64;
     pub fn spritbobbin_multiframe_place(place: u64, answer: *mut u64) -> u64;
@@ -204,6 +216,9 @@ pub fn by_face(call: &Call) -> Outcome {
         Call::Repair(worn) => repair(worn),
         Call::Judge(trace) => judge(trace),
         Call::Copy(with) => copy_digits(with),
+        Call::LateMultiplex(with) => multiplex(with, spritbobbin_late_multiplex),
+        Call::Begins(search) => begins(search),
+        Call::MultiframeStart(frames) => multiframe_start(frames),
     }
 }
 
@@ -310,6 +325,27 @@ fn copy_digits(with: &Copying) -> Outcome {
         spritbobbin_copy_digits(t, tc, with.at, f, fc, with.first, with.count)
     };
     outcome(refusal, &[], &[to, from])
+}
+
+fn begins(search: &Search) -> Outcome {
+    let (mut read, mut sent) = (bytes("read", &search.read), bytes("sent", &search.sent));
+    let mut answer = numbers("answer", &[UNWRITTEN; 2]);
+    // Sound as above.
+    let refusal = unsafe {
+        let (r, s, a) = (read.pointer(), sent.pointer(), answer.pointer());
+        let (rc, sc) = (read.count(), sent.count());
+        spritbobbin_begins(r, rc, search.digits, s, sc, search.first, search.count, a)
+    };
+    outcome(refusal, &[answer], &[read, sent])
+}
+
+fn multiframe_start(frames: &[u8]) -> Outcome {
+    let mut frames = bytes("frames", frames);
+    let mut answer = numbers("answer", &[UNWRITTEN; 1]);
+    // Sound as above.
+    let refusal =
+        unsafe { spritbobbin_multiframe_start(frames.pointer(), frames.count(), answer.pointer()) };
+    outcome(refusal, &[answer], &[frames])
 }
 
 fn fresh(level: u64) -> Outcome {

@@ -1,6 +1,7 @@
 //! Lengths far beyond what a call accepts, which a cut to 32 bits would make small, and
 //! then pointers and lengths that lend no memory at all.
 
+use crate::beginnings;
 use crate::call::{compared_numbers, counted_numbers, judged_numbers, read_numbers};
 use crate::copying;
 use crate::face::spritbobbin_line_digit;
@@ -436,6 +437,7 @@ fn null_pointers(run: &mut Run) {
         run.expect(4, "null line", &[2], &[digit]);
     }
     copying::by_lengths(run, [0; 2]);
+    beginnings::by_lengths(run, [0; 2]);
     rack::no_records(run);
 }
 
@@ -495,6 +497,7 @@ fn false_lengths(run: &mut Run) {
     for long in lengths {
         for lengths in [[long, 8], [8, long], [long, long]] {
             copying::by_lengths(run, lengths);
+            beginnings::by_lengths(run, lengths);
         }
         let expected = [feed_refusal(&fresh(2).1, long, 0, 8), 0, 0, 0, 0];
         let fed = raw_feed(memory.as_ptr(), long as usize, 0, 8);

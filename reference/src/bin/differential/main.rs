@@ -12,6 +12,7 @@
 //! call before it is made, for a face that does not return. The first disagreement is
 //! printed and ends the run with 1.
 
+mod beginnings;
 mod call;
 mod captures;
 mod comparisons;
@@ -151,8 +152,11 @@ fn arguments() -> Run {
     run
 }
 
+/// A part of the comparison: its name, and what it calls.
+type Part = (&'static str, fn(&mut Run));
+
 /// The parts of a run by name, in their order.
-const PARTS: [(&str, fn(&mut Run)); 12] = [
+const PARTS: [Part; 13] = [
     ("multiplexing", multiplexing::part),
     ("receiver", receiver::part),
     ("captures", captures::part),
@@ -165,6 +169,7 @@ const PARTS: [(&str, fn(&mut Run)); 12] = [
     ("judging", judging::part),
     ("copying", copying::part),
     ("naming", naming::part),
+    ("beginnings", beginnings::part),
 ];
 
 fn main() {

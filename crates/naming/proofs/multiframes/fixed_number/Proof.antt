@@ -1,9 +1,7 @@
 -- The byte, then the frame.
 use Rattle.naming.specs.Multiframes.{fixedNumber}
 use mathlib.Core.Path.{refl}
-use Prim.Native.Nat.{_/_, _%_}
 use borrow.Author.Tests.{eq-eqb, ne-eqb}
-use borrow.Author.Needs.{needs}
 use Rattle.naming.proofs.multiframes.fixed_number.Statement.{statement}
 use Rattle.naming.proofs.multiframes.fixed_number.Tie as tie
 

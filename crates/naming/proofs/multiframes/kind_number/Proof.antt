@@ -1,5 +1,4 @@
 -- The arm of the kind says its number; of a fixed digit, its place does.
-use mathlib.Core.Path.{refl, _∙_}
 use borrow.Author.Needs.{needs}
 use Rattle.naming.proofs.multiframes.kind_number.Statement.{statement}
 use Rattle.naming.proofs.multiframes.kind_number.Tie as tie

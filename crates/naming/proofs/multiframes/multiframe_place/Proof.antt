@@ -1,6 +1,5 @@
 -- A place of the multiframe has the numbers of its kind.
 use mathlib.Core.Path.{refl}
-use native.Mathlib.Omega.{arith}
 use borrow.Author.Tests.{lt-ltb, le-ltb}
 use borrow.Author.Needs.{needs}
 use Rattle.naming.proofs.multiframes.multiframe_place.Statement.{statement}
