@@ -3,7 +3,7 @@
 //! verdict on the late one. Tributary 1 is stuffed in every frame, the others alternate.
 
 use serde::Serialize;
-use spritbobbin::{copy_digits, line_digit, multiplex, place, Kind, Level, Note};
+use spritbobbin::{late_multiplex, line_digit, multiplex, Level, Note};
 
 use crate::cli::Demo;
 use crate::failure::Failure;
@@ -15,10 +15,10 @@ use crate::verdict::{Absence, Read, Reading};
 
 const LEVEL: Level = Level::Two;
 
-/// The notes of the eight frames, each with the national bit, and the note of the frame before them,
+/// The notes of the eight frames, each with the national bit, and the decisions of the frame before them,
 /// which the late multiplexer acts on first.
 const NOTES: [u8; 8] = [0x25, 0x23, 0x2D, 0x2B, 0x25, 0x23, 0x2D, 0x2B];
-const BEFORE: u8 = 0x2B;
+const BEFORE: u8 = 0x0B;
 
 /// The bytes of eight frames, and of what is sent.
 const LINE: usize = 848;
@@ -31,7 +31,8 @@ pub fn run(_call: Demo, saying: Saying) -> Result<u8, Failure> {
     let sent = scattered();
     let mut right = vec![0; LINE];
     let digits = multiplex(LEVEL, 0, &mut right, &NOTES, &sent)?.digits;
-    let late = late_line(&right, &sent)?;
+    let mut late = vec![0; LINE];
+    late_multiplex(LEVEL, BEFORE, &mut late, &NOTES, &sent)?;
     let right = Shown::of("right", &right, &sent, digits)?;
     let late = Shown::of("late", &late, &sent, digits)?;
     let text = told(&right, &late).lines().map(String::from).collect();
@@ -45,28 +46,6 @@ pub fn run(_call: Demo, saying: Saying) -> Result<u8, Failure> {
 fn scattered() -> Vec<u8> {
     let numbers = std::iter::successors(Some(149_u32), |x| Some(x % 65_537 * 75 + 74));
     numbers.take(SENT).map(|x| (x / 16 % 256) as u8).collect()
-}
-
-/// The line of a multiplexer that says these notes and acts on those of the frame before: its tributary
-/// digits stand as where these were said, its control and service digits as where they were.
-fn late_line(right: &[u8], sent: &[u8]) -> Result<Vec<u8>, Failure> {
-    let mut acted = NOTES;
-    acted.rotate_right(1);
-    if let Some(first) = acted.first_mut() {
-        *first = BEFORE;
-    }
-    let mut late = vec![0; LINE];
-    multiplex(LEVEL, 0, &mut late, &acted, sent)?;
-    for frame in 0..NOTES.len() {
-        for number in 0..LEVEL.frame_digits() {
-            let kind = place(LEVEL, number)?.kind;
-            if matches!(kind, Kind::Control | Kind::RemoteAlarm | Kind::Service) {
-                let at = frame * LEVEL.frame_digits() + number;
-                copy_digits(&mut late, at, right, at, 1)?;
-            }
-        }
-    }
-    Ok(late)
 }
 
 /// What is said, as JSON and as text.

@@ -319,9 +319,9 @@ impl Verdict {
         let wrong = |known: &Known<'_>| {
             known.finding.is_index() || known.finding.is_absent() || known.clock_slips() > 0
         };
-        let ok = !known.iter().any(wrong) && !(self.found.is_some() && self.frames() == 0);
+        let ok = !known.iter().any(wrong) && (self.found.is_none() || self.frames() > 0);
         let tributaries =
-            known.iter().zip(&self.clocks).map(|(k, clock)| Of::of(k, clock)).collect();
+            known.iter().zip(&self.clocks).map(|(k, clock)| Of::known(k, clock)).collect();
         Said {
             level: self.level.number(),
             kilobits: self.level.kilobits(),
@@ -567,7 +567,7 @@ struct PartSaid {
 }
 
 impl Of {
-    fn of(known: &Known<'_>, clock: &Clock) -> Of {
+    fn known(known: &Known<'_>, clock: &Clock) -> Of {
         let [own, before, after] = READINGS.map(|reading| {
             let read = *known.of.reading(reading);
             let ratio = read.wrong as f64 / read.judged().max(1) as f64;

@@ -59,11 +59,6 @@ impl Svg {
         }
     }
 
-    /// What is drawn elsewhere, as it is.
-    pub fn raw(&mut self, text: &str) {
-        self.out.push_str(text);
-    }
-
     /// The picture.
     pub fn end(mut self) -> String {
         self.out.push_str("</svg>\n");

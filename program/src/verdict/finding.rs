@@ -226,10 +226,10 @@ impl Search {
             }
             let tried =
                 spritbobbin::digits_in(bytes as u64).saturating_sub(count).saturating_add(1);
-            let found = begins(digits, count, window, 0, tried)?;
-            if found.differing < best.differ {
-                let at = spritbobbin::digits_in(at).saturating_add(found.at);
-                best = Found { at, differ: found.differing, looked: count };
+            let found = begins(digits, count as usize, window, 0, tried as usize)?;
+            if (found.differing as u64) < best.differ {
+                let at = spritbobbin::digits_in(at).saturating_add(found.at as u64);
+                best = Found { at, differ: found.differing as u64, looked: count };
             }
             if best.is_sure() || bytes < WINDOW {
                 break;

@@ -210,8 +210,6 @@ pub enum Absence {
     Zeros,
     /// The other of the two patterns is there: so many stages.
     Other(u64),
-    /// It is the pattern, but not inverted.
-    Upright,
 }
 
 /// What the readings of a tributary say.

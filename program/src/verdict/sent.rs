@@ -51,11 +51,6 @@ impl SentFile {
         &self.input
     }
 
-    /// The bytes of a quarter.
-    pub fn quarter(&self) -> u64 {
-        self.quarter
-    }
-
     /// The stretch at hand begins with these digits.
     pub fn begin_at(&mut self, begins: [u64; 4]) {
         self.begins = begins;

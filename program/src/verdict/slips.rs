@@ -64,11 +64,6 @@ impl Located {
         }
     }
 
-    /// How many slips of this stretch are in the list.
-    pub fn in_stretch(&self, stretch: usize) -> u64 {
-        self.slips.iter().filter(|slip| slip.stretch == stretch).map(|slip| slip.slips).sum()
-    }
-
     /// One more, where there is room.
     pub fn push(&mut self, slip: Slip) {
         if self.is_open() {

@@ -210,7 +210,6 @@ impl Known<'_> {
             Absence::Other(stages) => {
                 format!("it carries the pattern of 2^{stages} - 1 digits, inverted")
             }
-            Absence::Upright => "it carries the pattern, but not inverted".into(),
             Absence::Unknown => format!(
                 "in {digits} digits no {} in a row are the pattern's: another signal, or a line \
                  too worn to take it up",
