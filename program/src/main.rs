@@ -21,6 +21,7 @@ mod files;
 mod level;
 mod listening;
 mod made;
+#[cfg(feature = "verdict")]
 mod page;
 mod pictures;
 mod places;
@@ -30,6 +31,7 @@ mod report;
 mod runs;
 mod stretches;
 mod totals;
+#[cfg(feature = "verdict")]
 mod verdict;
 
 use std::io::Write;

@@ -4,16 +4,11 @@
 //! Nothing here looks at a digit: every number comes from the pair.
 
 pub mod clock;
-#[cfg(feature = "verdict")]
 pub mod engine;
-#[cfg(feature = "verdict")]
 pub mod finding;
 pub mod numbers;
-#[cfg(feature = "verdict")]
 pub mod pair;
-#[cfg(feature = "verdict")]
 pub mod places;
-#[cfg(feature = "verdict")]
 pub mod sent;
 pub mod slips;
 pub mod timeline;
