@@ -110,7 +110,7 @@ fn the_search_agrees() {
         let (level, digits, limit) = LEVELS[round % 5];
         let zeros = (0..12).map(|_| random.index(2 * limit + 2));
         let stream: Vec<u8> = zeros.flat_map(|zeros| stretch(digits, zeros)).collect();
-        let (_, state) = after(&fresh(level).1, &[stream.clone()]);
+        let (_, state) = after(&fresh(level).1, std::slice::from_ref(&stream));
         assert_eq!(history::whole(level, &stream).2, state);
     }
 }

@@ -939,7 +939,7 @@ fn digits_run_on_over_the_three_actions() {
 fn the_layouts_of_levels_12_and_14() {
     let table_3 = |group, position: usize| match (group, position) {
         (1, 1..=8) => Place::Word(position - 1),
-        (2 | 3 | 4, 1..=4) => Place::Control(position - 1),
+        (2..=4, 1..=4) => Place::Control(position - 1),
         (2 | 3, 5..=8) => Place::Service,
         (4, 5..=8) => Place::Negative(position - 5),
         (4, 9..=12) => Place::Justification(position - 9),
@@ -949,7 +949,7 @@ fn the_layouts_of_levels_12_and_14() {
     let table_5 = |group, position: usize| match (group, position) {
         (1, 1..=10) => Place::Word(position - 1),
         (1, 11..=12) => Place::Service,
-        (2 | 3 | 4, 1..=4) => Place::Control(position - 1),
+        (2..=4, 1..=4) => Place::Control(position - 1),
         (4, 5..=8) => Place::Negative(position - 5),
         (4, 9..=12) => Place::Justification(position - 9),
         (1 | 4, _) => Place::Tributary((position - 13) % 4),

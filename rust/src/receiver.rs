@@ -163,6 +163,33 @@ impl Receiver {
         self.numbers[8] == 1
     }
 
+    /// How many digits on it can first be seen to change: at the next word that it judges, while hunting at any digit, and at the end
+    /// of the stretch that is being cut. Fed at most so many at a time ([`take`](Self::take)), it shows each finding and losing of
+    /// alignment, and each begin and end of the alarm, by what it is before and after.
+    ///
+    /// ```
+    /// use spritbobbin::{Level, Receiver};
+    ///
+    /// let mut receiver = Receiver::new(Level::Two);
+    /// assert_eq!(receiver.until_change(), 848); // hunting: the end of the stretch
+    /// receiver.take(&[0b1111_0100, 0b0000_0000], 0, 10)?;
+    /// assert_eq!(receiver.until_change(), 838); // a word was found: the stretch ends before the next is due
+    /// # Ok::<(), spritbobbin::Refusal>(())
+    /// ```
+    pub fn until_change(&self) -> usize {
+        let [_, _, _, mode, place, stretch, ..] = self.numbers;
+        let until = |done: u64| self.level.frame_digits().saturating_sub(count(done));
+        if mode == 0 {
+            return until(stretch);
+        }
+        until(stretch).min(until(place))
+    }
+
+    /// The digits since the end of the last word; 0 while hunting.
+    pub fn place(&self) -> usize {
+        count(self.numbers[4])
+    }
+
     /// Its state.
     pub fn state(&self) -> State {
         State::of(self.level, &self.numbers, &self.store)

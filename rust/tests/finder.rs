@@ -14,7 +14,7 @@ fn line(pairs: usize, with_word: impl Fn(usize) -> bool) -> Vec<u8> {
 #[test]
 fn found_lost_and_found_again() {
     // Words in pairs 0 to 2 and from 6 on: those of 3, 4 and 5 are wrong.
-    let bytes = line(10, |pair| pair < 3 || pair > 5);
+    let bytes = line(10, |pair| !(3..=5).contains(&pair));
     let end_of_word = |pair: usize| 512 * pair + 8;
     let expected = [
         Turn::Found { digits: end_of_word(1) },

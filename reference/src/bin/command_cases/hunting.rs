@@ -3,7 +3,7 @@
 
 use crate::case::{words, Case};
 use crate::multiframes;
-use crate::texts::cannot;
+use crate::texts::{cannot, time};
 use reference::digits::{pack, unpack};
 use reference::random::Random;
 use reference::{finder_feed, FinderState, FRAME_DIGITS, SECOND_PLACE, WORD, WORD_PLACE};
@@ -93,10 +93,14 @@ fn text(bytes: usize, events: &[Event], mode: u64) -> String {
     let mut text = format!("2048 kbit/s: {bytes} bytes, {} digits, numbered from 0.\n", 8 * bytes);
     for event in events {
         text += &match event {
-            Event::Found(digit) => {
-                format!("found at digit {digit}: the second good word, after a second digit of 1\n")
+            Event::Found(digit) => format!(
+                "found at digit {digit} ({}): the second good word, after a second digit of 1\n",
+                time(2048, *digit)
+            ),
+            Event::Lost(digit) => {
+                let time = time(2048, *digit);
+                format!("lost at digit {digit} ({time}): the third wrong word in a row\n")
             }
-            Event::Lost(digit) => format!("lost at digit {digit}: the third wrong word in a row\n"),
         };
     }
     let found = events.iter().filter(|event| matches!(event, Event::Found(_))).count();

@@ -152,8 +152,11 @@ fn arguments() -> Run {
     run
 }
 
+/// A part of the comparison: its name, and what it calls.
+type Part = (&'static str, fn(&mut Run));
+
 /// The parts of a run by name, in their order.
-const PARTS: [(&str, fn(&mut Run)); 13] = [
+const PARTS: [Part; 13] = [
     ("multiplexing", multiplexing::part),
     ("receiver", receiver::part),
     ("captures", captures::part),

@@ -61,7 +61,7 @@ fn any_line(random: &mut Random, records: &[State]) -> u64 {
     random.below(number)
 }
 
-fn any_call(run: &mut Run, records: &mut Vec<State>) {
+fn any_call(run: &mut Run, records: &mut [State]) {
     let line = any_line(&mut run.random, records);
     if run.random.once_in(3) {
         reset(run, records, line);

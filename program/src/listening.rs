@@ -1,0 +1,152 @@
+//! A recording begun anywhere: a receiver listens to it from its first digit to its last, and what changes is seen at its own digit.
+
+use std::path::Path;
+
+use serde::Serialize;
+use spritbobbin::{digits_in, Frame, Level, Mode, Receiver};
+
+use crate::failure::Failure;
+use crate::files::{Output, Stream, CHUNK};
+use crate::progress::Progress;
+use crate::report::Saying;
+use crate::runs::Line;
+
+/// What was heard: alignment found and lost at the first digit of the word that decides it, the alarm at the last digit of the stretch
+/// that decides it, and a frame, which begins at this digit.
+#[derive(Debug)]
+pub enum Heard {
+    Found { digit: u64 },
+    Lost { digit: u64 },
+    AlarmBegins { digit: u64 },
+    AlarmEnds { digit: u64 },
+    Frame { frame: Box<Frame>, digit: u64 },
+}
+
+/// What a recording came to.
+#[derive(Debug)]
+pub struct Listened {
+    pub bytes: u64,
+    pub words: u64,
+    pub mode: Mode,
+}
+
+/// Feeds a recording to a fresh receiver, and hands on what is heard.
+pub fn listen(
+    stream: &mut Stream,
+    level: Level,
+    saying: Saying,
+    mut heard: impl FnMut(Heard) -> Result<(), Failure>,
+) -> Result<Listened, Failure> {
+    let mut receiver = Receiver::new(level);
+    let progress = Progress::of(stream.bytes(), saying);
+    let mut chunk = vec![0; CHUNK];
+    let (mut bytes, mut words): (u64, u64) = (0, 0);
+    loop {
+        let count = stream.read(&mut chunk)?;
+        if count == 0 {
+            return Ok(Listened { bytes, words, mode: receiver.mode() });
+        }
+        let piece = chunk.get(..count).unwrap_or_default();
+        words = words.saturating_add(feed(&mut receiver, piece, digits_in(bytes), &mut heard)?);
+        bytes = bytes.saturating_add(count as u64);
+        progress.at(bytes);
+    }
+}
+
+/// Feeds a piece whose first digit has this number, up to each digit at which something can change, and answers the words tested.
+fn feed(
+    receiver: &mut Receiver,
+    piece: &[u8],
+    number: u64,
+    heard: &mut impl FnMut(Heard) -> Result<(), Failure>,
+) -> Result<u64, Failure> {
+    let all = usize::try_from(digits_in(piece.len() as u64)).unwrap_or(0);
+    let level = receiver.level();
+    let (frame_digits, word_digits) = (level.frame_digits() as u64, level.word_digits() as u64);
+    let mut first: usize = 0;
+    let mut words: u64 = 0;
+    while first < all {
+        let (aligned, alarm) = (receiver.is_aligned(), receiver.has_alarm());
+        let share = receiver.until_change().min(all.saturating_sub(first));
+        let taken = receiver.take(piece, first, share)?;
+        if taken.digits == 0 {
+            break;
+        }
+        first = first.saturating_add(taken.digits);
+        words = words.saturating_add(taken.words as u64);
+        let digits = number.saturating_add(first as u64);
+        match (aligned, receiver.is_aligned()) {
+            (false, true) => {
+                let since = word_digits.saturating_add(receiver.place() as u64);
+                heard(Heard::Found { digit: digits.saturating_sub(since) })?;
+            }
+            (true, false) => heard(Heard::Lost { digit: digits.saturating_sub(word_digits) })?,
+            _ => {}
+        }
+        match (alarm, taken.alarm) {
+            (false, true) => heard(Heard::AlarmBegins { digit: digits.saturating_sub(1) })?,
+            (true, false) => heard(Heard::AlarmEnds { digit: digits.saturating_sub(1) })?,
+            _ => {}
+        }
+        if let Some(frame) = taken.frame {
+            let digit = digits.saturating_sub(frame_digits);
+            heard(Heard::Frame { frame: Box::new(frame), digit })?;
+        }
+    }
+    Ok(words)
+}
+
+/// Frames of a recording that follow one another without a gap.
+#[derive(Clone, Copy, Debug, PartialEq, Eq, Serialize)]
+pub struct Stretch {
+    /// The digit of the recording at which its first frame begins.
+    pub digit: u64,
+    /// The number of its first frame among all that were handed over.
+    pub first: u64,
+    pub frames: u64,
+}
+
+/// Adds a frame that begins at this digit to the stretches.
+pub fn add_frame(stretches: &mut Vec<Stretch>, level: Level, digit: u64) {
+    let frame = level.frame_digits() as u64;
+    let next = |one: &Stretch| one.digit.saturating_add(frame.saturating_mul(one.frames));
+    if let Some(last) = stretches.last_mut().filter(|last| next(last) == digit) {
+        last.frames = last.frames.saturating_add(1);
+        return;
+    }
+    let first = stretches.last().map_or(0, |last| last.first.saturating_add(last.frames));
+    stretches.push(Stretch { digit, first, frames: 1 });
+}
+
+/// The frames of a recording as a line, and where they were.
+pub fn found(
+    name: &Path,
+    level: Level,
+    earlier: u8,
+    saying: Saying,
+) -> Result<(Line, Vec<Stretch>), Failure> {
+    let mut stream = Stream::open(name)?;
+    let mut frames = Output::aside(name)?;
+    let mut stretches = Vec::new();
+    listen(&mut stream, level, saying, |heard| {
+        if let Heard::Frame { frame, digit } = heard {
+            add_frame(&mut stretches, level, digit);
+            frames.append(frame.bytes())?;
+        }
+        Ok(())
+    })?;
+    Ok((Line::of_input(frames.read_again()?, level, earlier)?, stretches))
+}
+
+/// A time of a recording at the level's nominal rate, in microseconds.
+pub fn microseconds(kilobits: u32, digit: u64) -> u64 {
+    let time = u128::from(digit).saturating_mul(1000) / u128::from(kilobits.max(1));
+    u64::try_from(time).unwrap_or(u64::MAX)
+}
+
+/// The same in seconds, as it is said.
+pub fn seconds(kilobits: u32, digit: u64) -> String {
+    let time = microseconds(kilobits, digit);
+    let (whole, rest) = (time / 1_000_000, time % 1_000_000);
+    format!("{whole}.{rest:06} s")
+}
