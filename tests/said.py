@@ -182,12 +182,19 @@ def build(said):
 
 
 def apart(said):
-    return f"{said['multiframes']} multiframes taken apart.\n" + written(said)
+    text = ""
+    for one in said.get("stretches", []):
+        time = seconds(one["digit"] * 1000 // 2048)
+        text += f"{one['multiframes']} multiframes from digit {one['digit']} of the recording on ({time})\n"
+    return text + f"{said['multiframes']} multiframes taken apart.\n" + written(said)
 
 
 def hunt(said):
     text = f"2048 kbit/s: {said['bytes']} bytes, {said['digits']} digits, numbered from 0.\n"
-    text += events(said, {"found": "the second good word, after a second digit of 1", "lost": "the third wrong word in a row"})
+    why = {"found": "the second good word, after a second digit of 1", "lost": "the third wrong word in a row", "multiframe begins": "0000 in byte 16"}
+    for one in said["events"]:
+        none = one["event"] == "no multiframe begins"
+        text += "no multiframe begins in the sixteen frames from there on\n" if none else events({"events": [one]}, why)
     if not said["times_found"]:
         text += "alignment was not found: two good words 512 digits apart, with a second digit of 1 between them, did not come\n"
     return text + f"times found: {said['times_found']}\ntimes lost: {said['times_lost']}\n" + mode(said)

@@ -453,6 +453,9 @@ pub struct Apart {
     pub signalling: PathBuf,
     /// 9 bytes to a multiframe
     pub spare: PathBuf,
+    /// The file is a recording begun anywhere: its multiframes are found first
+    #[arg(long)]
+    pub find: bool,
 }
 
 #[derive(Debug, Args)]

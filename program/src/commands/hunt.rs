@@ -1,19 +1,21 @@
 //! `hunt`: finds the frames in a recording of 2048 kbit/s begun anywhere, and says where alignment is found and lost.
 
 use serde::Serialize;
-use spritbobbin::{digits_in, Finder, FinderMode, Turn};
+use spritbobbin::{
+    copy_digits, digits_in, span, Finder, FinderMode, Multiframe, Turn, MULTIFRAME_BYTES,
+};
 
 use crate::cli::Hunt;
 use crate::failure::Failure;
-use crate::files::{Stream, CHUNK};
+use crate::files::{Input, Stream, CHUNK};
 use crate::listening::{microseconds, seconds};
 use crate::progress::Progress;
 use crate::report::{Report, Saying, Telling};
 
 const KILOBITS: u32 = 2048;
 
-/// A word's digits.
-const WORD: u64 = 7;
+/// A word's digits. A frame begins a digit before its word.
+pub const WORD: u64 = 7;
 
 #[derive(Serialize)]
 struct Event {
@@ -36,6 +38,11 @@ struct Hunted {
 
 pub fn run(call: Hunt, saying: Saying) -> Result<u8, Failure> {
     let mut stream = Stream::open(&call.recording)?;
+    // A pipe is read once, and no multiframe is looked for in it.
+    let again = match stream.bytes() {
+        Some(_) => Some(Input::open(&call.recording)?),
+        None => None,
+    };
     let mut telling = saying.telling();
     if let Some(bytes) = stream.bytes() {
         telling.text(&length(bytes))?;
@@ -56,6 +63,10 @@ pub fn run(call: Hunt, saying: Saying) -> Result<u8, Failure> {
                 Turn::Lost { .. } => lost = lost.saturating_add(1),
             }
             say(&mut telling, digits_in(bytes), turn)?;
+            if let (Some(input), Turn::Found { digits }) = (&again, turn) {
+                let digit = digits_in(bytes).saturating_add(digits as u64);
+                say_start(&mut telling, input, digit.saturating_sub(WORD + 1))?;
+            }
         }
         bytes = bytes.saturating_add(count as u64);
         progress.at(bytes);
@@ -95,6 +106,66 @@ fn say(telling: &mut Telling, before: u64, turn: Turn) -> Result<(), Failure> {
     let time = seconds(KILOBITS, digit);
     telling.text(&format!("{event} at digit {digit} ({time}): {why}\n"))?;
     telling.item(&Event { event, digit, microseconds: microseconds(KILOBITS, digit) })
+}
+
+/// Where the multiframe begins, of the sixteen frames from this digit on.
+fn say_start(telling: &mut Telling, input: &Input, first: u64) -> Result<(), Failure> {
+    match start(input, first)? {
+        Start::Cut => Ok(()),
+        Start::None => {
+            telling.text("no multiframe begins in the sixteen frames from there on\n")?;
+            telling.item(&Event {
+                event: "no multiframe begins",
+                digit: first,
+                microseconds: microseconds(KILOBITS, first),
+            })
+        }
+        Start::At(digit) => {
+            let time = seconds(KILOBITS, digit);
+            telling
+                .text(&format!("multiframe begins at digit {digit} ({time}): 0000 in byte 16\n"))?;
+            telling.item(&Event {
+                event: "multiframe begins",
+                digit,
+                microseconds: microseconds(KILOBITS, digit),
+            })
+        }
+    }
+}
+
+/// What there is of a multiframe's start in sixteen frames.
+pub enum Start {
+    /// At this digit of the recording.
+    At(u64),
+    None,
+    /// The recording ends before the sixteenth.
+    Cut,
+}
+
+/// The start among the sixteen frames from this digit on.
+pub fn start(input: &Input, first: u64) -> Result<Start, Failure> {
+    let Some(frames) = multiframe_at(input, first)? else { return Ok(Start::Cut) };
+    let begin = |frame: usize| first.saturating_add((frame as u64).saturating_mul(FRAME));
+    Ok(Multiframe::start(&frames).map_or(Start::None, |frame| Start::At(begin(frame))))
+}
+
+/// A frame's digits.
+pub const FRAME: u64 = 256;
+
+/// The digits of sixteen frames from this one of the recording on, where it has so many.
+pub fn multiframe_at(input: &Input, first: u64) -> Result<Option<[u8; MULTIFRAME_BYTES]>, Failure> {
+    let count = digits_in(MULTIFRAME_BYTES as u64);
+    let wanted = span(first, count);
+    if wanted.bytes.end > input.bytes() {
+        return Ok(None);
+    }
+    let bytes = wanted.bytes.end.saturating_sub(wanted.bytes.start);
+    let mut held = vec![0; usize::try_from(bytes).unwrap_or(0)];
+    input.read_at(wanted.bytes.start, &mut held)?;
+    let mut frames = [0; MULTIFRAME_BYTES];
+    let number = |digits: u64| usize::try_from(digits).unwrap_or(0);
+    copy_digits(&mut frames, 0, &held, number(wanted.first), number(count))?;
+    Ok(Some(frames))
 }
 
 fn mode(mode: FinderMode) -> (&'static str, Option<u8>) {

@@ -2,11 +2,13 @@
 //! file of channels has 480 bytes, a file of signalling 15, and a file of spare digits 9.
 
 use serde::Serialize;
-use spritbobbin::{Multiframe, Refusal, MULTIFRAME_BYTES};
+use spritbobbin::{digits_in, whole_bytes, Finder, Multiframe, Refusal, Turn, MULTIFRAME_BYTES};
 
 use crate::cli::{Apart, Build};
+use crate::commands::hunt::{multiframe_at, start, Start, WORD};
 use crate::failure::Failure;
-use crate::files::{self, Input, Output};
+use crate::files::{self, Input, Output, CHUNK};
+use crate::listening::seconds;
 use crate::progress::Progress;
 use crate::report::{shown, written, Report, Saying};
 
@@ -17,15 +19,33 @@ const SPARE: usize = 9;
 #[derive(Serialize)]
 struct Done {
     multiframes: u64,
+    #[serde(skip_serializing_if = "Option::is_none")]
+    stretches: Option<Vec<Stretch>>,
     written: Vec<String>,
     #[serde(skip)]
     what: &'static str,
 }
 
+/// Multiframes of a recording that follow one another.
+#[derive(Clone, Copy, Debug, Serialize)]
+struct Stretch {
+    /// The digit at which the first begins.
+    digit: u64,
+    multiframes: u64,
+}
+
 impl Report for Done {
     fn text(&self) -> String {
         let Done { multiframes, what, .. } = self;
-        format!("{multiframes} multiframes {what}.\n") + &written(&self.written)
+        let found = |one: &Stretch| {
+            let Stretch { digit, multiframes } = one;
+            format!(
+                "{multiframes} multiframes from digit {digit} of the recording on ({})\n",
+                seconds(2048, *digit)
+            )
+        };
+        let stretches: String = self.stretches.iter().flatten().map(found).collect();
+        format!("{stretches}{multiframes} multiframes {what}.\n") + &written(&self.written)
     }
 }
 
@@ -60,7 +80,7 @@ pub fn build(call: Build, mut saying: Saying) -> Result<u8, Failure> {
         progress.at(number.saturating_mul(CHANNELS as u64));
     }
     let written = files::keep(vec![output])?;
-    saying.say(&Done { multiframes: count, written, what: "built" })?;
+    saying.say(&Done { multiframes: count, stretches: None, written, what: "built" })?;
     Ok(0)
 }
 
@@ -73,25 +93,66 @@ pub fn apart(call: Apart, mut saying: Saying) -> Result<u8, Failure> {
     files::distinct(&[("MULTIFRAMES", &call.multiframes)], &outputs)?;
     saying.aside = files::any_standard(&[&call.channels, &call.signalling, &call.spare]);
     let multiframes = Input::open(&call.multiframes)?;
-    whole(&multiframes, MULTIFRAME_BYTES)?;
+    let (stretches, count) = if call.find {
+        let stretches = found(&multiframes)?;
+        let count = stretches.iter().map(|one| one.multiframes).sum();
+        (stretches, count)
+    } else {
+        whole(&multiframes, MULTIFRAME_BYTES)?;
+        let count = multiframes.bytes() / MULTIFRAME_BYTES as u64;
+        (vec![Stretch { digit: 0, multiframes: count }], count)
+    };
     let mut channels = Output::create(&call.channels)?;
     let mut signalling = Output::create(&call.signalling)?;
     let mut spare = Output::create(&call.spare)?;
-    let count = multiframes.bytes() / MULTIFRAME_BYTES as u64;
     let progress = Progress::of(Some(multiframes.bytes()), saying);
-    for number in 0..count {
-        let mut bytes = [0; MULTIFRAME_BYTES];
-        let at = number.saturating_mul(MULTIFRAME_BYTES as u64);
-        multiframes.read_at(at, &mut bytes)?;
-        let one = Multiframe::apart(&bytes)?;
-        channels.append(&one.channels.concat())?;
-        signalling.append(&one.signalling)?;
-        spare.append(&one.spare)?;
-        progress.at(at);
+    for stretch in &stretches {
+        for number in 0..stretch.multiframes {
+            let digit = stretch.digit.saturating_add(number.saturating_mul(MULTIFRAME));
+            let Some(bytes) = multiframe_at(&multiframes, digit)? else { break };
+            let one = Multiframe::apart(&bytes)?;
+            channels.append(&one.channels.concat())?;
+            signalling.append(&one.signalling)?;
+            spare.append(&one.spare)?;
+            progress.at(whole_bytes(digit));
+        }
     }
     let written = files::keep(vec![channels, signalling, spare])?;
-    saying.say(&Done { multiframes: count, written, what: "taken apart" })?;
+    let stretches = call.find.then_some(stretches);
+    saying.say(&Done { multiframes: count, stretches, written, what: "taken apart" })?;
     Ok(0)
+}
+
+/// A multiframe's digits.
+const MULTIFRAME: u64 = 4096;
+
+/// Where multiframes begin in a recording begun anywhere: in each stretch in which frames are found, from the first start on.
+fn found(recording: &Input) -> Result<Vec<Stretch>, Failure> {
+    let (mut finder, mut chunk, mut at) = (Finder::new(), vec![0; CHUNK], 0_u64);
+    let (mut aligned, mut begun): (Vec<(u64, u64)>, Option<u64>) = (Vec::new(), None);
+    while at < recording.bytes() {
+        let count = recording.bytes().saturating_sub(at).min(CHUNK as u64);
+        let piece = chunk.get_mut(..usize::try_from(count).unwrap_or(0)).unwrap_or_default();
+        recording.read_at(at, piece)?;
+        for turn in finder.feed(piece) {
+            let (Turn::Found { digits } | Turn::Lost { digits }) = turn;
+            let word = digits_in(at).saturating_add(digits as u64).saturating_sub(WORD);
+            match begun.take() {
+                Some(first) => aligned.push((first, word)),
+                None => begun = Some(word.saturating_sub(1)),
+            }
+        }
+        at = at.saturating_add(count);
+    }
+    aligned.extend(begun.map(|first| (first, digits_in(recording.bytes()))));
+    let mut stretches = Vec::new();
+    for (first, end) in aligned {
+        if let Start::At(digit) = start(recording, first)? {
+            let multiframes = end.saturating_sub(digit) / MULTIFRAME;
+            stretches.push(Stretch { digit, multiframes });
+        }
+    }
+    Ok(stretches)
 }
 
 /// That a file has so many bytes to a multiframe.
