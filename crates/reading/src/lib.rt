@@ -80,7 +80,7 @@ pub fn read_note(row: Row, line: &[u8], f: usize) -> FrameRead
     }
 }
 
-// Four counts, each with one more.
+// Four counts and four more, added one by one.
 fn four_sums(a: [usize; 4], b: [usize; 4]) -> [usize; 4]
     requires { ⌜
         (getD a 0 0 + getD b 0 0 < 65536)
