@@ -1,6 +1,6 @@
 -- Packed digits: what a slice of bytes means as a list of digits, and which bytes a list of digits makes.
 -- Document 01, "Digits and bytes": eight to a byte, first digit in the most significant bit.
--- There is no other notion of a digit in the project: every statement on a line, a quarter or a frame goes through `digitsOf`.
+-- Statements on a line, a quarter or a frame go through `digitsOf`; only the plain engine, which shares nothing but the level table, has a notion of its own.
 use Prim.Native.Nat.{ℕ, zero, suc, _+_, _-_, _*_, _/_, _%_, _^_, _<_}
 use mathlib.Core.Bool.{cond}
 use mathlib.Core.List.{List, [], _∷_, _++_}

@@ -1,6 +1,6 @@
 // Packed digits: read the digit at a place of a slice, write the digit at a place of a slice, count the zeros of a part.
-// Digits stand eight to a byte, first digit in the most significant bit. Every crate above speaks of lists of digits
-// (specs/Digits.antt) and of the laws in proofs/Laws.antt, and of bytes no more.
+// Digits stand eight to a byte, first digit in the most significant bit. Statements above speak of lists of digits
+// (specs/Digits.antt) and cite the laws in proofs/Laws.antt.
 pub mod zeros;
 
 ghost use mathlib.Core.Path.{_≡_};

@@ -209,7 +209,7 @@ fn said_by(row: Row, line: &[u8], f: usize) -> Said
     }
 }
 
-// Four counts, each with one more.
+// Four counts and four more, added one by one.
 fn four_sums(a: [usize; 4], b: [usize; 4]) -> [usize; 4]
     requires { ⌜ ((i : ℕ) → getD a i 0 + getD b i 0 < 1000000) ⌝ }
     ensures { λ r. ⌜ r ≡ fourSums a b ⌝ }

@@ -89,7 +89,7 @@ fn word_errors(row: Row, line: &[u8], p: FramePlace) -> u32
     u64::count_ones(window ^ row.word as u64)
 }
 
-// Four counts, each with one more.
+// Four counts and four more, added one by one.
 fn four_sums(a: [usize; 4], b: [usize; 4]) -> [usize; 4]
     requires { ⌜
         (getD a 0 0 + getD b 0 0 < 65536)
