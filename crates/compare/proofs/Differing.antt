@@ -16,9 +16,8 @@ use Rattle.digits.proofs.Sums.{sum-most}
 use Rattle.digits.proofs.Laws.{by-digit, digits-binary}
 use Rattle.digits.proofs.Windows.{window-first, window-last}
 use Rattle.levels.proofs.Windows.{xor-more}
-use Rattle.tally.specs.Tally.{differAt}
 use Rattle.compare.specs.declared.masks.Lanes.{Lanes}
-use Rattle.compare.specs.Masks.{unitAt, differing, allFrom, columnsOf, EVERY, nibbles, Within, Lane, Held}
+use Rattle.compare.specs.Masks.{unitAt, differing, allFrom, columnsOf, EVERY, nibbles, Lane, Held}
 use Rattle.compare.proofs.Groups.{lowest, and-ones, within-more, within-lowest, within-zero, within-lt, nibbles-zero, side-by-side}
 
 -- two digits differ or not

@@ -5,15 +5,15 @@
 use mathlib.Core.Path.{_≡_, refl, sym, _∙_, ap}
 use mathlib.Core.Bool.{Bool, cond, true, false, _&&_}
 use mathlib.Core.List.{List}
-use Prim.Native.Nat.{ℕ, zero, suc, _+_, _*_, _≤_, _<_}
+use Prim.Native.Nat.{ℕ, zero, suc, _+_, _*_, _<_}
 use native.Mathlib.Omega.{arith}
-use lib.Dec.{eqb, ltb, leb}
+use lib.Dec.{eqb, leb}
 use lib.ListN.{length, getD, replicate}
 use contract.Lifetimes.{Lfts}
 use denote.Ref.{now}
 use denote.Triple.Clauses.{AtExit}
 use borrow.Fn.World.{ArgsD, ResD}
-use borrow.Author.Tests.{eqb-true, le-leb, lt-leb, eq-eqb, le-ltb}
+use borrow.Author.Tests.{eqb-true, le-leb, lt-leb, eq-eqb}
 use Rattle.digits.specs.Sums.{sumTo}
 use Rattle.digits.proofs.Sums.{sum-all}
 use Rattle.table.specs.declared.Row.{Row}
@@ -23,12 +23,12 @@ use Rattle.table.specs.Table.{levelOf}
 use Rattle.levels.specs.Sizes.{onLevel}
 use Rattle.levels.proofs.Choice.{cond-by}
 use Rattle.levels.proofs.Rows.{shared-row}
-use Rattle.tally.specs.Tally.{numberAt, allOf, sumsOf, differAt}
+use Rattle.tally.specs.Tally.{numberAt, allOf, differAt}
 use Rattle.tally.proofs.Sums.{sums-at, sums-agree, all-agree}
 use Rattle.compare.specs.declared.Compared.{Compared}
 use Rattle.compare.specs.declared.lines.Stretch.{Stretch}
 use Rattle.compare.specs.Compare.{faultIn, refusedBy, countedOn, listedOn}
-use Rattle.compare.specs.Lines.{linesRefusal, linesOf, linesListed, LinesMet, differFrom, stretchRefused, stretchOn, stretchOf, StretchAnswered}
+use Rattle.compare.specs.Lines.{linesRefusal, linesOf, linesListed, LinesMet, differFrom, stretchOn, StretchAnswered}
 use Rattle.compare.specs.Promises.{Lists}
 use Rattle.compare.proofs.Lists.{lists-all}
 use Rattle.compare.proofs.TwoLines.{lines-fit}

@@ -15,11 +15,10 @@ use borrow.Author.Tests.{eq-eqb, ne-eqb, lt-ltb, le-ltb}
 use Rattle.digits.specs.Sums.{sumTo}
 use Rattle.table.specs.declared.Row.{Row}
 use Rattle.levels.specs.declared.places.Kind.{Kind}
-use Rattle.levels.specs.declared.places.Kind.the-variants.{Word, Service, Control, Justification, Tributary}
-use Rattle.levels.specs.declared.places.Sign.the-variants.{Negative, Positive}
+use Rattle.levels.specs.declared.places.Kind.the-variants.{Word, Service, Control, Tributary}
 use Rattle.levels.specs.Table.{Shared}
 use Rattle.levels.specs.Sizes.{framesOf}
-use Rattle.levels.specs.Places.{notedDigit, notedOf, serviceDigit, headEnd, kindOf, posOf}
+use Rattle.levels.specs.Places.{notedDigit, notedOf, serviceDigit, headEnd, kindOf}
 use Rattle.levels.proofs.Positions.{pos-unique}
 use Rattle.levels.proofs.Ways.{kind-word, kind-service, kind-noted, kind-control, kind-negative, kind-positive, kind-fixed}
 use Rattle.levels.proofs.Runs.{past-head, head-end-fours, head-end-in, head-end-short}

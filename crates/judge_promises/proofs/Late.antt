@@ -2,21 +2,19 @@
 use mathlib.Core.Path.{_≡_, refl, sym, _∙_, ap, subst}
 use mathlib.Core.Bool.{Bool, cond, true, false}
 use mathlib.Core.List.{List, _∷_}
-use Prim.Native.Nat.{ℕ, zero, suc, _+_, _*_, _-_, _/_, _%_, _^_, _≤_, _<_}
+use Prim.Native.Nat.{ℕ, zero, _+_, _*_, _/_, _%_, _^_, _<_}
 use native.Mathlib.Omega.{arith}
 use native.Mathlib.Nat.{zero-add, mul-left-comm}
 use lib.Dec.{eqb}
-use lib.ListN.{length, getD, take, drop, replicate}
+use lib.ListN.{length, getD, take, drop}
 use lib.Seq.{getD-take}
 use borrow.Author.Tests.{lt-ltb}
-use Rattle.digits.specs.Digits.{digitsOf, bytesOf, tab, Binary, differing}
+use Rattle.digits.specs.Digits.{digitsOf, tab, Binary, differing}
 use Rattle.digits.proofs.Laws.{digits-binary, bytes-length, digits-of-bytes, tab-length, tab-at, tab-binary}
 use Rattle.digits.proofs.Lists.{differing-self, of-four}
 use Rattle.table.specs.declared.Row.{Row}
 use Rattle.levels.specs.Table.{Shared}
-use Rattle.levels.specs.declared.order.Action.{Action}
 use Rattle.levels.specs.Places.{kindAt, posOf}
-use Rattle.levels.specs.Sizes.{framesOf}
 use Rattle.levels.specs.Order.{stuffed, decisions, hasNegative, actions, carries, carried, before}
 use Rattle.levels.proofs.Positions.{pos-of-sum}
 use Rattle.levels.proofs.Ways.{kind-control}
@@ -24,7 +22,7 @@ use Rattle.levels.proofs.Groups.{group-same}
 use Rattle.levels.proofs.Columns.{columns, frame-start}
 use Rattle.multiplex.specs.Line.{lineDigit, lineOf}
 use Rattle.tally.proofs.Sums.{kind-in-frame}
-use Rattle.promises.specs.Damage.{kept, libertyAt, groupAt, allowed, Damage, lineDigits}
+use Rattle.promises.specs.Damage.{kept, groupAt, lineDigits}
 use Rattle.promises.specs.Carried.{Room}
 use Rattle.promises.proofs.Accepted.{line-digits}
 use Rattle.promises.proofs.Order.{column-place, carries-same, before-same}

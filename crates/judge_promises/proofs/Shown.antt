@@ -12,8 +12,8 @@ use lib.Dec.{eqb}
 use lib.ListN.{length, getD, drop, replicate, length-append, length-replicate, List·getD-append}
 use lib.Seq.{getD-append-add}
 use lib.Arith.{digits-div, digits-mod}
-use borrow.Author.Tests.{eq-eqb, ne-eqb, le-ltb}
-use Rattle.digits.specs.Digits.{digitsOf, bytesOf, tab, Binary}
+use borrow.Author.Tests.{ne-eqb, le-ltb}
+use Rattle.digits.specs.Digits.{digitsOf, tab, Binary}
 use Rattle.digits.proofs.Laws.{tab-length, tab-binary, binary-append, digits-of-bytes, bytes-length}
 use Rattle.digits.proofs.Lists.{differing-self}
 use Rattle.table.specs.declared.Row.{Row}

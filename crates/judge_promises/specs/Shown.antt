@@ -1,8 +1,7 @@
 -- What the theorems speak of is there: the line of each multiplexer, of any decisions and any digits, and each pattern's digits.
 use mathlib.Core.Path.{_≡_}
-use mathlib.Core.Bool.{false}
 use mathlib.Core.List.{List, [], _∷_, _++_}
-use Prim.Native.Nat.{ℕ, zero, suc, _+_, _*_, _≤_, _<_}
+use Prim.Native.Nat.{ℕ, zero, suc, _+_, _*_, _<_}
 use lib.ListN.{length, getD, replicate}
 use Rattle.digits.specs.Digits.{bytesOf}
 use Rattle.table.specs.declared.Row.{Row}

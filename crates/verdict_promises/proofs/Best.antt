@@ -1,8 +1,7 @@
 -- The best lane has the least number, and laying the lanes anew around it leaves the least as it was.
-use mathlib.Core.Path.{_≡_, refl, sym, _∙_}
-use mathlib.Core.Bool.{cond, true, false}
+use mathlib.Core.Path.{_≡_, _∙_}
 use mathlib.Core.List.{List}
-use Prim.Native.Nat.{ℕ, zero, suc, _+_, _-_, _*_, _≤_, _<_}
+use Prim.Native.Nat.{ℕ, zero, suc, _+_, _-_, _*_, _≤_}
 use native.Mathlib.Omega.{arith}
 use native.Mathlib.Decide.{decLe, decLt}
 use native.Mathlib.Nat.{zero-add}
@@ -12,7 +11,7 @@ use borrow.Author.Tests.{lt-ltb, le-ltb}
 use Rattle.digits.specs.Digits.{tab}
 use Rattle.digits.proofs.Laws.{tab-at}
 use Rattle.slips.specs.Slips.{stepPrice, apart, leastTo, leastOf, cheaper, bestTo, bestOf, laidAt, laidOf}
-use Rattle.slips.proofs.Sweeping.{least-le, least-found, least-most}
+use Rattle.slips.proofs.Sweeping.{least-le, least-found}
 
 module _ (v : List ℕ) where
   abbrev lane : ℕ → ℕ

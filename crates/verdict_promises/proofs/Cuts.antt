@@ -1,7 +1,7 @@
 -- A line cut between two frames: its notes are those of the two parts, and what a reading makes of a block is what the parts make of it one after the other.
 use mathlib.Core.Path.{_≡_, refl, sym, _∙_, ap}
 use mathlib.Core.Bool.{Bool, cond, true, false}
-use mathlib.Core.List.{List, [], _∷_, _++_, map}
+use mathlib.Core.List.{List, _∷_, _++_, map}
 use Prim.Native.Nat.{ℕ, zero, suc, _+_, _*_, _-_, _/_, _≤_, _<_}
 use native.Mathlib.Omega.{arith}
 use native.Mathlib.Nat.{add-zero, add-suc, zero-add, add-mul, suc-mul, zero-mul, mul-left-comm}
@@ -12,7 +12,7 @@ use lib.Arith.{digits-div}
 use borrow.Author.Tests.{ltb-true}
 use Rattle.digits.specs.Digits.{digitsOf, tab}
 use Rattle.digits.proofs.Laws.{digits-length, digits-append, tab-length, tab-at, tab-of}
-use Rattle.digits.proofs.Lists.{tab-cat, of-four}
+use Rattle.digits.proofs.Lists.{tab-cat}
 use Rattle.table.specs.declared.Row.{Row}
 use Rattle.levels.specs.Table.{Shared}
 use Rattle.levels.specs.declared.order.Action.{Action}

@@ -1,14 +1,13 @@
 -- What the physics speaks of is there: the line of a right, a late or an early multiplexer as it left it is worn in no digit, and the path that never steps explains it.
-use mathlib.Core.Path.{_≡_, refl, sym, _∙_, ap, subst}
+use mathlib.Core.Path.{_≡_, refl, sym, _∙_, subst}
 use mathlib.Core.Bool.{Bool, cond, true, false}
 use mathlib.Core.List.{List}
-use Prim.Native.Nat.{ℕ, zero, suc, _+_, _*_, _-_, _≤_, _<_}
+use Prim.Native.Nat.{ℕ, zero, suc, _+_, _*_, _≤_, _<_}
 use native.Mathlib.Omega.{arith}
 use lib.Dec.{eqb}
 use lib.ListN.{length, getD, drop}
 use borrow.Author.Tests.{eq-eqb}
 use Rattle.digits.specs.Digits.{digitsOf, differing, Binary}
-use Rattle.digits.specs.Sums.{sumTo}
 use Rattle.digits.proofs.Lists.{differing-self}
 use Rattle.digits.proofs.Sums.{sum-all, sum-zero}
 use Rattle.table.specs.declared.Row.{Row}

@@ -1,16 +1,15 @@
 -- Nothing lost: a reading costs nothing exactly where `judge` finds no wrong digit in it. So what is promised of `judge` is promised of the answer that costs nothing.
-use mathlib.Core.Path.{_≡_, refl, sym, _∙_, ap, subst}
+use mathlib.Core.Path.{_≡_, refl, sym, _∙_, ap}
 use mathlib.Core.Bool.{Bool, cond, true, false, true≢false, not, _&&_, _||_}
 use mathlib.Core.List.{List, []}
-use Prim.Native.Nat.{ℕ, zero, suc, _+_, _*_, _-_, _/_, _%_, _≤_, _<_, min}
+use Prim.Native.Nat.{ℕ, zero, _+_, _*_, _-_, _/_, _%_, _≤_, _<_, min}
 use native.Mathlib.Omega.{arith}
 use native.Mathlib.Decide.{ℕ-discrete}
 use native.Mathlib.Nat.{zero-add, div-add-mod'}
-use lib.Dec.{eqb, leb, ltb}
+use lib.Dec.{eqb, ltb}
 use lib.ListN.{length, getD}
-use borrow.Author.Tests.{eq-eqb, eqb-true, le-leb, lt-ltb, ltb-false}
+use borrow.Author.Tests.{eq-eqb, eqb-true, ltb-false}
 use Rattle.digits.specs.Digits.{digitsOf}
-use Rattle.digits.specs.Sums.{sumTo}
 use Rattle.digits.proofs.Laws.{digits-length}
 use Rattle.digits.proofs.Sums.{sum-zero, sum-all}
 use Rattle.table.specs.declared.Row.{Row}
@@ -28,7 +27,7 @@ use Rattle.judge.specs.Verdict.{ownWrong, beforeWrong, afterWrong, judgement, b
 use Rattle.judge_promises.specs.Verdicts.{Index, right, late, early, AllAsSent, MadeAt, Question, verdict, JudgeAccepted, wrongBy}
 use Rattle.judge_promises.proofs.Fitting.{no-number, four-at, answers}
 use Rattle.judge_promises.proofs.Verdicts.{made-fits}
-use Rattle.slips.specs.Slips.{lentFrom, wrongOf, leastOf}
+use Rattle.slips.specs.Slips.{lentFrom, wrongOf}
 use Rattle.verdict.specs.Blocks.{Block, zeroAt, freshBlock, startOf, isBetter, betterOf}
 use Rattle.levels.specs.Order.{hasNegative}
 use Rattle.verdict.specs.Readings.{majorities, readBy, countsBy, ranBy, ranAfter, ownVotes, beforeVotes, afterVotes}

@@ -2,34 +2,21 @@
 use mathlib.Core.Path.{_≡_, refl, sym, _∙_, ap}
 use mathlib.Core.Bool.{Bool, cond, true, false}
 use mathlib.Core.List.{List, [], _∷_, _++_, map, append-nil, append-assoc}
-use Prim.Native.Nat.{ℕ, zero, suc, _+_, _*_, _-_, _/_, _≤_, _<_}
+use Prim.Native.Nat.{ℕ, zero, suc, _+_, _*_, _<_}
 use native.Mathlib.Omega.{arith}
-use native.Mathlib.Nat.{add-zero, add-suc, zero-add, add-mul, suc-mul, zero-mul, mul-le-mul-right, mul-left-comm}
-use lib.ListN.{length, getD, take, drop, length-append, List·getD-append}
-use lib.Seq.{getD-append-add, getD-drop}
-use lib.Arith.{digits-div}
-use Rattle.digits.specs.Digits.{digitsOf, tab}
-use Rattle.digits.proofs.Laws.{digits-length, digits-append, map-append, tab-length, tab-at, tab-of}
-use Rattle.digits.proofs.Lists.{tab-cat}
+use native.Mathlib.Nat.{add-zero, add-suc, add-mul}
+use lib.ListN.{length, getD, List·getD-append}
+use lib.Seq.{getD-append-add}
+use Rattle.digits.proofs.Laws.{map-append}
 use Rattle.table.specs.declared.Row.{Row}
 use Rattle.levels.specs.Table.{Shared}
 use Rattle.levels.specs.declared.order.Action.{Action}
-use Rattle.levels.specs.declared.vote.Vote.{Vote}
-use Rattle.levels.specs.Places.{posOf, kindAt, notedOf}
-use Rattle.levels.specs.Sizes.{framesOf}
-use Rattle.levels.specs.Order.{stuffed, decisions, hasNegative, actionOf, actions, isStuffed, bothCarry, carries, before, placesOf}
-use Rattle.levels.specs.Vote.{voteOf, groupOf}
+use Rattle.levels.specs.Places.{posOf}
+use Rattle.levels.specs.Order.{carries, placesOf}
 use Rattle.levels.proofs.Positions.{stands, pos-of-sum}
 use Rattle.levels.proofs.Columns.{columns, frame-start}
-use Rattle.levels.proofs.Counts.{frame-count}
-use Rattle.levels.proofs.Inverse.{places-length}
-use Rattle.levels.proofs.Groups.{group-same}
-use Rattle.reading.specs.Notes.{voteAt, serviceAt, bitOf, noteOf, notesOf}
-use Rattle.extraction.specs.Quarters.{takenTo}
-use Rattle.promises.proofs.Order.{column-place, places-same, digits-same}
-use Rattle.promises.proofs.Sent.{in-line, control-place}
-use Rattle.verdict.specs.Blocks.{Block, digitOf, digitsTo, laidAnew, frameTo, startOf, framesTo}
-use Rattle.verdict.specs.Readings.{majorities, readBy, carriedIn, countsBy, ranBy}
+use Rattle.promises.proofs.Order.{column-place, digits-same}
+use Rattle.verdict.specs.Blocks.{Block, digitsTo, frameTo, startOf, framesTo}
 
 -- ---- only a frame's digits count
 

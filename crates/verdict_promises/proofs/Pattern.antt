@@ -1,7 +1,7 @@
 -- Least, with a pattern: from where it was taken up no path costs less than what the lanes come to, and one costs it, beside the pattern that goes on for ever.
 use mathlib.Core.Path.{_≡_, refl, sym, _∙_, ap}
 use mathlib.Core.Logic.{_≢_}
-use mathlib.Core.Bool.{cond, _&&_}
+use mathlib.Core.Bool.{cond}
 use mathlib.Core.List.{List}
 use Prim.Native.Nat.{ℕ, zero, suc, _+_, _-_, _*_, _/_, _%_, _^_, _≤_, _<_}
 use native.Mathlib.Omega.{arith}
@@ -14,9 +14,8 @@ use Rattle.digits.specs.Digits.{tab}
 use Rattle.digits.proofs.Laws.{tab-length, tab-at, tab-of}
 use Rattle.slips.specs.Slips.{lentFrom, wrongOf, heldAt, heldOf, stepOf, leastOf, bestOf, laidOf, fresh, enterOf}
 use Rattle.verdict.specs.Patterns.{windowAfter, patternDigits}
-use Rattle.verdict.specs.Blocks.{Block, zeroAt, freshLow, judgedBy, takenUp, sentTo, digitOf, digitsTo, laidAnew, frameTo, startOf, framesTo}
+use Rattle.verdict.specs.Blocks.{Block, freshLow, judgedBy, takenUp, sentTo, digitOf, digitsTo, laidAnew, frameTo, startOf, framesTo}
 use Rattle.verdict_promises.specs.Paths.{Cheapest, goesOn, JustTaken, sentFrom, lowFrom}
-use Rattle.verdict_promises.proofs.Best.{best-lane}
 use Rattle.verdict_promises.proofs.Least.{Lanes, cheapest-run}
 
 -- ---- windows

@@ -1,21 +1,20 @@
 -- Nothing lost: a reading costs nothing exactly where every one of its digits is the one sent at its own number; then no lane has moved.
-use mathlib.Core.Path.{_≡_, refl, sym, _∙_, ap}
+use mathlib.Core.Path.{_≡_, refl, _∙_, ap}
 use mathlib.Core.List.{List}
 use Prim.Native.Nat.{ℕ, zero, suc, _+_, _-_, _*_, _/_, _≤_, _<_}
 use native.Mathlib.Omega.{arith}
 use native.Mathlib.Nat.{add-zero, add-suc}
 use lib.ListN.{length, getD}
 use Rattle.digits.specs.Digits.{tab}
-use Rattle.digits.specs.Sums.{sumTo}
 use Rattle.digits.proofs.Laws.{tab-length}
 use Rattle.digits.proofs.Sums.{sum-zero}
-use Rattle.slips.specs.Slips.{stepPrice, wrongPrice, apart, wrongOf, stepOf, leastTo, leastOf, cheaper, bestTo, bestOf, laidAt, laidOf, fresh, Settled}
+use Rattle.slips.specs.Slips.{stepPrice, wrongPrice, apart, wrongOf, stepOf, leastTo, leastOf, bestTo, bestOf, laidAt, laidOf, fresh, Settled}
 use Rattle.slips.proofs.Rooms.{fresh-at}
 use Rattle.slips.proofs.Settling.{settled-step}
-use Rattle.verdict.specs.Blocks.{Block, zeroAt, freshLow, freshBlock, startOf, framesTo, frameTo, digitsTo}
+use Rattle.verdict.specs.Blocks.{zeroAt, freshLow, startOf, framesTo, frameTo, digitsTo}
 use Rattle.verdict_promises.specs.Paths.{wrongsOn, slipsOn, Near, Path, fromFresh, lowIn}
 use Rattle.verdict_promises.proofs.Least.{Best, least-reached}
-use Rattle.verdict_promises.proofs.Runs.{Known, digit-lanes, laid-known, laid-lanes, digits-known, run-known, run-lanes, blockIn, lanesIn}
+use Rattle.verdict_promises.proofs.Runs.{digit-lanes, laid-known, laid-lanes, digits-known, run-known, run-lanes, blockIn, lanesIn}
 
 -- ---- the fresh lanes, settled in the middle one
 

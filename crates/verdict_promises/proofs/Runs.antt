@@ -1,17 +1,15 @@
 -- What frames make of a block whose digits sent are known: its lanes, its shifts and how much was read; and so what a recording costs from a fresh state on.
-use mathlib.Core.Path.{_≡_, refl, sym, _∙_, ap}
-use mathlib.Core.Bool.{cond}
+use mathlib.Core.Path.{_≡_, refl, ap}
 use mathlib.Core.List.{List}
 use Prim.Native.Nat.{ℕ, zero, suc, _+_, _-_, _*_, _≤_, _<_}
 use native.Mathlib.Omega.{arith}
-use native.Mathlib.Nat.{add-zero, add-suc, zero-add}
+use native.Mathlib.Nat.{add-zero, add-suc}
 use lib.Dec.{eqb}
 use lib.ListN.{getD}
 use borrow.Author.Tests.{eq-eqb}
 use Rattle.slips.specs.Slips.{stepOf, leastOf, bestOf, laidOf}
 use Rattle.verdict.specs.Blocks.{Block, freshLow, freshBlock, judgedBy, sentTo, digitOf, digitsTo, laidAnew, frameTo, startOf, framesTo}
 use Rattle.verdict_promises.specs.Paths.{Cheapest, fromFresh, lowIn}
-use Rattle.verdict_promises.proofs.Best.{best-lane}
 use Rattle.verdict_promises.proofs.Least.{Lanes, cheapest-run}
 
 -- what was sent is known, so many digits were read, and lane 0 has this shift

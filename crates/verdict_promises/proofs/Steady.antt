@@ -3,7 +3,7 @@ use mathlib.Core.Path.{_≡_, refl, sym, _∙_, ap, subst}
 use mathlib.Core.Logic.{_≢_}
 use mathlib.Core.Bool.{Bool, cond, true, false}
 use mathlib.Core.List.{List, [], _∷_, _++_}
-use Prim.Native.Nat.{ℕ, zero, suc, _+_, _*_, _/_, _%_, _≤_, _<_}
+use Prim.Native.Nat.{ℕ, zero, suc, _+_, _*_, _≤_, _<_}
 use native.Mathlib.Omega.{arith}
 use native.Mathlib.Decide.{decLt, ℕ-discrete}
 use lib.Dec.{eqb, ltb}
@@ -16,7 +16,7 @@ use Rattle.digits.proofs.Lists.{of-four}
 use Rattle.table.specs.declared.Row.{Row}
 use Rattle.levels.specs.Table.{Shared}
 use Rattle.levels.specs.Sizes.{framesOf}
-use Rattle.levels.specs.Order.{stuffed, decisions, hasNegative, actionOf, byOwn}
+use Rattle.levels.specs.Order.{stuffed, decisions, hasNegative, actionOf}
 use Rattle.levels.proofs.Columns.{columns}
 use Rattle.reading.specs.Notes.{noteOf}
 use Rattle.extraction.specs.Quarters.{takenTo}
@@ -24,7 +24,7 @@ use Rattle.promises.proofs.Order.{places-same}
 use Rattle.slips.specs.Slips.{leastOf}
 use Rattle.verdict.specs.Blocks.{Block, freshBlock, isBetter, betterOf}
 use Rattle.verdict.specs.Readings.{majorities, readBy, carriedIn, countsBy, ranBy, ranAfter, ownVotes, beforeVotes, afterVotes}
-use Rattle.verdict.specs.Feed.{State, freshState, fedBlock, fedState}
+use Rattle.verdict.specs.Feed.{State, freshState}
 use Rattle.verdict_promises.specs.Steady.{Steady, recorded, byBefore, byAfter, NoDearer}
 use Rattle.verdict_promises.proofs.Frames.{frames-alike}
 use Rattle.verdict_promises.proofs.Blocks.{own-block, none-block, all-block, after-block}

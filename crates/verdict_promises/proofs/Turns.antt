@@ -2,7 +2,7 @@
 use mathlib.Core.Path.{_≡_, refl, sym, _∙_, ap, subst}
 use mathlib.Core.Bool.{Bool, cond, true, false, _&&_}
 use mathlib.Core.List.{List, [], _∷_, _++_, append-nil, append-assoc}
-use Prim.Native.Nat.{ℕ, zero, suc, _+_, _*_, _-_, _/_, _%_, _^_, _≤_, _<_}
+use Prim.Native.Nat.{ℕ, zero, suc, _+_, _*_, _-_, _/_, _%_, _≤_, _<_}
 use native.Mathlib.Omega.{arith}
 use native.Mathlib.Decide.{decLt, ℕ-discrete}
 use native.Mathlib.Nat.{add-zero, add-suc, zero-add}
@@ -12,17 +12,17 @@ use lib.Seq.{getD-take, getD-append-add}
 use borrow.Author.Tests.{eq-eqb, ne-eqb}
 use Rattle.digits.specs.Digits.{digitsOf}
 use Rattle.digits.specs.Sums.{sumTo}
-use Rattle.digits.proofs.Laws.{digits-append, tab-length}
+use Rattle.digits.proofs.Laws.{tab-length}
 use Rattle.digits.proofs.Lists.{of-four}
 use Rattle.digits.proofs.Sums.{sum-same}
 use Rattle.table.specs.declared.Row.{Row}
 use Rattle.levels.specs.Table.{Shared}
 use Rattle.levels.specs.Sizes.{framesOf}
 use Rattle.levels.specs.Order.{stuffed}
-use Rattle.reading.specs.Notes.{noteOf, notesOf}
-use Rattle.verdict.specs.Blocks.{Block, betterOf}
+use Rattle.reading.specs.Notes.{noteOf}
+use Rattle.verdict.specs.Blocks.{Block}
 use Rattle.verdict.specs.Readings.{majorities, ownVotes, beforeVotes, afterVotes, ranBy, ranAfter}
-use Rattle.verdict.specs.Feed.{State, ownWay, beforeNone, beforeAll, afterWay, decided, changesIn, voteAgo, fedBlock, fedState}
+use Rattle.verdict.specs.Feed.{State, decided, changesIn, voteAgo, fedBlock, fedState}
 use Rattle.verdict_promises.specs.Turns.{Same, fedInTurn, joined, Whole, AllWhole, no-more, one-more}
 use Rattle.verdict_promises.proofs.Cuts.{bitAt, frames-of, line-long, majorities-cat, ran-cat}
 

@@ -3,15 +3,15 @@ use mathlib.Core.Path.{_≡_, refl, sym, _∙_, ap, subst}
 use mathlib.Core.Logic.{_≢_}
 use mathlib.Core.Bool.{Bool, cond, true, false}
 use mathlib.Core.List.{List, [], _∷_, _++_, map, append-nil}
-use Prim.Native.Nat.{ℕ, zero, suc, _+_, _*_, _-_, _/_, _%_, _≤_, _<_}
+use Prim.Native.Nat.{ℕ, zero, suc, _+_, _*_, _-_, _/_, _≤_, _<_}
 use native.Mathlib.Omega.{arith}
 use native.Mathlib.Decide.{ℕ-discrete}
-use native.Mathlib.Nat.{add-zero, add-suc, zero-add, suc-mul, mul-left-comm, mul-le-mul-left}
+use native.Mathlib.Nat.{add-zero, suc-mul, mul-left-comm, mul-le-mul-left}
 use lib.Dec.{eqb}
 use lib.ListN.{length, getD, drop, length-append, length-map, List·getD-append}
 use lib.Seq.{getD-append-add}
 use borrow.Author.Tests.{eq-eqb, ne-eqb}
-use Rattle.digits.specs.Digits.{digitsOf, differing, Binary}
+use Rattle.digits.specs.Digits.{digitsOf}
 use Rattle.digits.specs.Sums.{sumTo}
 use Rattle.digits.proofs.Laws.{digits-binary, tab-length}
 use Rattle.digits.proofs.Lists.{of-four}
@@ -22,12 +22,11 @@ use Rattle.levels.specs.declared.order.Action.{Action}
 use Rattle.levels.specs.declared.vote.Vote.{Vote}
 use Rattle.levels.specs.Sizes.{framesOf}
 use Rattle.levels.specs.Places.{kindAt, posOf}
-use Rattle.levels.specs.Order.{stuffed, decisions, hasNegative, actions, isStuffed, bothCarry, carries, carried, before, placesOf}
+use Rattle.levels.specs.Order.{stuffed, decisions, hasNegative, isStuffed, bothCarry, carries, carried, before, placesOf}
 use Rattle.levels.proofs.Columns.{columns}
 use Rattle.levels.proofs.Inverse.{places-length}
 use Rattle.reading.specs.Notes.{noteOf, notesOf}
 use Rattle.extraction.specs.Quarters.{takenTo}
-use Rattle.promises.specs.Damage.{groupAt}
 use Rattle.promises.proofs.Order.{column-place, places-same}
 use Rattle.promises.proofs.Reading.{decisions-read}
 use Rattle.promises.proofs.Sent.{sent-carried}
@@ -38,17 +37,17 @@ use Rattle.judge_promises.proofs.Readings.{index-alike}
 use Rattle.judge_promises.proofs.Acted as Acted
 use Rattle.slips.specs.Slips.{wrongPrice, stepPrice, wrongOf, leastOf}
 use Rattle.verdict.specs.Blocks.{Block, zeroAt, freshBlock, isBetter, betterOf, digitsTo, startOf}
-use Rattle.verdict.specs.Readings.{majorities, readBy, carriedIn, countsBy, ranBy, ranAfter, ownVotes, beforeVotes, afterVotes}
+use Rattle.verdict.specs.Readings.{majorities, readBy, countsBy, ranBy, ranAfter, ownVotes, beforeVotes, afterVotes}
 use Rattle.verdict_promises.specs.Paths.{wrongsOn, slipsOn, Path, fromFresh, lowIn}
 use Rattle.verdict.specs.Feed.{State}
-use Rattle.verdict_promises.specs.Steady.{recorded, byBefore, byAfter, NoDearer}
+use Rattle.verdict_promises.specs.Steady.{recorded, byBefore, byAfter}
 use Rattle.verdict_promises.specs.Worn.{changedIn, Worn, Along, costTold, readCount, Explains, Few, tried}
 use Rattle.verdict_promises.proofs.Frames.{taken-more}
-use Rattle.verdict_promises.proofs.Cuts.{bitAt, actsOf, in-columns, frames-of, start-counts}
+use Rattle.verdict_promises.proofs.Cuts.{actsOf, in-columns, frames-of, start-counts}
 use Rattle.verdict_promises.proofs.Blocks.{own-block, none-block, all-block, after-block}
 use Rattle.verdict_promises.proofs.Steady.{Alike, acts-alike, better-both}
 use Rattle.verdict_promises.proofs.Least.{least-below, few-path}
-use Rattle.verdict_promises.proofs.Runs.{Known, lanesIn, run-known, run-lanes}
+use Rattle.verdict_promises.proofs.Runs.{lanesIn, run-known, run-lanes}
 
 -- ---- a frame has some digits of each tributary, stuffed or not
 

@@ -1,6 +1,5 @@
 -- What the answer says beside what `judge` says of the same line, fed as one run to a fresh state.
 use Prim.Native.Nat.{ℕ}
-use mathlib.Core.List.{List}
 use Rattle.table.specs.declared.Row.{Row}
 use Rattle.judge_promises.specs.Verdicts.{Index, right, late, early, Question}
 use Rattle.verdict.specs.Blocks.{Block}

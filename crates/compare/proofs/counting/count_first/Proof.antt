@@ -2,7 +2,6 @@
 use native.Mathlib.Omega.{arith}
 use Prim.Native.Nat.{_+_, _*_}
 use Rattle.compare.proofs.SumsByKind.{even, set-inside, head-short, few-sums, word-sums, alarm-sums, national-sums}
-use borrow.Author.Needs.{needs}
 use Rattle.compare.proofs.counting.count_first.Statement.{statement}
 use Rattle.compare.proofs.counting.count_first.Tie as tie
 

@@ -1,11 +1,8 @@
 -- `count_frame`: set after set.
 use native.Mathlib.Omega.{arith}
-use native.Mathlib.Nat.{add-mul}
-use mathlib.Core.Path.{_≡_, refl, sym, _∙_, ap}
-use Prim.Native.Nat.{ℕ, _+_, _-_, _*_, _≤_}
+use Prim.Native.Nat.{_+_, _-_, _*_, _≤_}
 use Rattle.compare.specs.Counting.{SumsTo}
 use Rattle.compare.proofs.SumsByKind.{first-set, next-set, last-set}
-use borrow.Author.Needs.{needs}
 use Rattle.compare.proofs.counting.count_frame.Statement.{statement}
 use Rattle.compare.proofs.counting.count_frame.Tie as tie
 

@@ -6,7 +6,6 @@ use lib.ListN.{length}
 use Rattle.levels.specs.Sizes.{framesOf}
 use Rattle.compare.specs.Counting.{SumsTo}
 use Rattle.compare.proofs.SumsByKind.{frame-in, frames-end, frames-start, few-frames}
-use borrow.Author.Needs.{needs}
 use Rattle.compare.proofs.counting.count_frames.Statement.{statement}
 use Rattle.compare.proofs.counting.count_frames.Tie as tie
 

@@ -1,11 +1,6 @@
 -- `count_head`: the first set's head, or a later one's.
 use native.Mathlib.Omega.{arith}
-use mathlib.Core.Path.{_≡_, sym}
-use Prim.Native.Nat.{_+_, _*_}
-use borrow.Author.Tests.{eq-eqb}
-use Rattle.levels.specs.Places.{headEnd}
 use Rattle.compare.proofs.SumsByKind.{first-place, first-end}
-use borrow.Author.Needs.{needs}
 use Rattle.compare.proofs.counting.count_head.Statement.{statement}
 use Rattle.compare.proofs.counting.count_head.Tie as tie
 

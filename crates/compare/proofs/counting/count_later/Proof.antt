@@ -2,7 +2,6 @@
 use native.Mathlib.Omega.{arith}
 use Prim.Native.Nat.{_+_, _*_}
 use Rattle.compare.proofs.SumsByKind.{even, set-inside, few-sums, control-sums, justification-sums, fixed-sums}
-use borrow.Author.Needs.{needs}
 use Rattle.compare.proofs.counting.count_later.Statement.{statement}
 use Rattle.compare.proofs.counting.count_later.Tie as tie
 

@@ -1,11 +1,9 @@
 -- `count_run`: the columns from the head's end to the set's.
 use native.Mathlib.Omega.{arith}
-use mathlib.Core.Path.{_≡_, refl}
-use Prim.Native.Nat.{_+_, _-_, _*_, _/_}
+use Prim.Native.Nat.{_+_, _*_}
 use Rattle.levels.specs.Places.{headEnd}
-use Rattle.levels.proofs.Runs.{head-end-in, head-end-fours}
+use Rattle.levels.proofs.Runs.{head-end-in}
 use Rattle.compare.proofs.SumsByKind.{even, set-inside, few-sums, run-columns, run-whole, run-first, run-rest}
-use borrow.Author.Needs.{needs}
 use Rattle.compare.proofs.counting.count_run.Statement.{statement}
 use Rattle.compare.proofs.counting.count_run.Tie as tie
 

@@ -1,7 +1,6 @@
 -- `count_unequal`: an equal frame has nothing to count.
 use native.Mathlib.Omega.{arith}
 use Rattle.compare.proofs.SumsByKind.{frame-bytes, equal-frame}
-use borrow.Author.Needs.{needs}
 use Rattle.compare.proofs.counting.count_unequal.Statement.{statement}
 use Rattle.compare.proofs.counting.count_unequal.Tie as tie
 

@@ -2,7 +2,6 @@
 use native.Mathlib.Omega.{arith}
 use mathlib.Core.Path.{sym, _∙_}
 use Rattle.compare.proofs.Walking.{listed-pass, listed-more, not-differ, do-differ}
-use borrow.Author.Needs.{needs}
 use Rattle.compare.proofs.entries.list_digit.Statement.{statement}
 use Rattle.compare.proofs.entries.list_digit.Tie as tie
 

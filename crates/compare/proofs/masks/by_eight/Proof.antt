@@ -1,7 +1,6 @@
 -- `by_eight`: one turn more, or nothing is left.
 use native.Mathlib.Omega.{arith}
-use mathlib.Core.Path.{_≡_, refl, sym, _∙_, ap}
-use Prim.Native.Nat.{_+_, _≤_}
+use mathlib.Core.Path.{ap}
 use Rattle.compare.specs.declared.masks.Lanes.{Lanes}
 use Rattle.compare.proofs.Differing.{held-more, held-later, held-lt}
 use borrow.Author.Needs.{needs}

@@ -1,7 +1,7 @@
 -- `by_fourteen`: a turn is fourteen columns, at most thirteen turns.
 use native.Mathlib.Omega.{arith}
-use mathlib.Core.Path.{_≡_, refl, sym, _∙_, ap}
-use Prim.Native.Nat.{_+_, _-_, _*_, _/_, _%_, _≤_}
+use mathlib.Core.Path.{_≡_, ap}
+use Prim.Native.Nat.{_+_, _-_, _/_, _%_, _≤_}
 use Rattle.compare.specs.declared.masks.Lanes.{Lanes}
 use Rattle.compare.specs.Masks.{Held}
 use Rattle.compare.proofs.Differing.{held-none, held-more, held-later, held-lt}

@@ -4,7 +4,6 @@ use Prim.Native.Nat.{ℕ, _/_, _%_}
 use Rattle.compare.specs.Masks.{columnsOf}
 use Rattle.compare.proofs.Differing.{column-digits}
 use Rattle.compare.proofs.SumsByKind.{four-of}
-use borrow.Author.Needs.{needs}
 use Rattle.compare.proofs.masks.count_column.Statement.{statement}
 use Rattle.compare.proofs.masks.count_column.Tie as tie
 

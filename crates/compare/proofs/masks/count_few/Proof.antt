@@ -1,6 +1,5 @@
 -- `count_few`: one column, or any number.
 use native.Mathlib.Omega.{arith}
-use borrow.Author.Needs.{needs}
 use Rattle.compare.proofs.masks.count_few.Statement.{statement}
 use Rattle.compare.proofs.masks.count_few.Tie as tie
 

@@ -1,5 +1,4 @@
 -- `many`: 56 of the 64 digits that are loaded.
-use mathlib.Core.Path.{refl}
 use Rattle.compare.proofs.Differing.{differing-part}
 use borrow.Author.Needs.{needs}
 use Rattle.compare.proofs.masks.many.Statement.{statement}

@@ -1,15 +1,8 @@
 -- `made_of`: the stages of the one pattern, or of the other.
-use mathlib.Core.Path.{_≡_, refl, sym, _∙_}
-use Prim.Native.Nat.{ℕ, suc, _+_, _-_, _*_, _/_, _%_, _^_, _≤_, _<_}
-use lib.ListN.{length, getD}
 use Rattle.verdict.specs.Patterns.{madeOf}
-use native.Mathlib.Omega.{arith}
 use borrow.Author.Needs.{needs}
 use Rattle.verdict.proofs.patterns.made_of.Statement.{statement}
 use Rattle.verdict.proofs.patterns.made_of.Tie as tie
-use Rattle.verdict.proofs.patterns.made_of.Reads as reads
-use Rattle.verdict.proofs.patterns.made_of.Lts as lts
-use Rattle.verdict.proofs.patterns.one_if_same.Reads as one-if-same-reads
 
 -- src/patterns.rt:26:9
 one-if-same-requires : tie.Need-one-if-same-requires

@@ -1,14 +1,8 @@
 -- `one_if_same`: they are, or not.
-use mathlib.Core.Path.{_≡_, refl, sym, _∙_}
-use Prim.Native.Nat.{ℕ, suc, _+_, _-_, _*_, _/_, _%_, _^_, _≤_, _<_}
-use lib.ListN.{length, getD}
 use borrow.Author.Tests.{eq-eqb, ne-eqb}
 use native.Mathlib.Omega.{arith}
-use borrow.Author.Needs.{needs}
 use Rattle.verdict.proofs.patterns.one_if_same.Statement.{statement}
 use Rattle.verdict.proofs.patterns.one_if_same.Tie as tie
-use Rattle.verdict.proofs.patterns.one_if_same.Reads as reads
-use Rattle.verdict.proofs.patterns.one_if_same.Lts as lts
 
 -- src/patterns.rt:15:9
 returns : tie.Need-returns

@@ -1,14 +1,10 @@
 -- `push`: the oldest digit falls out.
-use mathlib.Core.Path.{_≡_, refl, sym, _∙_}
-use Prim.Native.Nat.{ℕ, suc, _+_, _-_, _*_, _/_, _%_, _^_, _≤_, _<_}
-use lib.ListN.{length, getD}
+use mathlib.Core.Path.{refl}
 use Rattle.verdict.specs.Patterns.{pushed}
 use native.Mathlib.Omega.{arith}
 use borrow.Author.Needs.{needs}
 use Rattle.verdict.proofs.patterns.push.Statement.{statement}
 use Rattle.verdict.proofs.patterns.push.Tie as tie
-use Rattle.verdict.proofs.patterns.push.Reads as reads
-use Rattle.verdict.proofs.patterns.push.Lts as lts
 
 -- src/patterns.rt:36:6
 mul-result : tie.Need-mul-result

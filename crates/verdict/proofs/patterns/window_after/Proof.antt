@@ -1,17 +1,11 @@
 -- `window_after`: digit after digit.
-use mathlib.Core.Path.{_≡_, refl, sym, _∙_}
-use Prim.Native.Nat.{ℕ, suc, _+_, _-_, _*_, _/_, _%_, _^_, _≤_, _<_}
-use lib.ListN.{length, getD}
+use mathlib.Core.Path.{_≡_, refl}
+use Prim.Native.Nat.{_-_, _^_, _≤_, _<_}
 use Rattle.verdict.specs.Patterns.{windowAfter}
 use Rattle.verdict.proofs.Windows.{window-next}
 use native.Mathlib.Omega.{arith}
-use borrow.Author.Needs.{needs}
 use Rattle.verdict.proofs.patterns.window_after.Statement.{statement}
 use Rattle.verdict.proofs.patterns.window_after.Tie as tie
-use Rattle.verdict.proofs.patterns.window_after.Reads as reads
-use Rattle.verdict.proofs.patterns.window_after.Lts as lts
-use Rattle.verdict.proofs.patterns.made_of.Reads as made-of-reads
-use Rattle.verdict.proofs.patterns.push.Reads as push-reads
 
 abbrev Inv-loop : tie.InvT-loop
 Inv-loop pattern window n w₀ i₀ w i = (i ≤ n) × (w ≡ windowAfter pattern window i) × (w < 2 ^ 23)

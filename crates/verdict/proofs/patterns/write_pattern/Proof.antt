@@ -1,20 +1,14 @@
 -- `write_pattern`: digit after digit.
-use mathlib.Core.Path.{_≡_, refl, sym, _∙_}
-use Prim.Native.Nat.{ℕ, suc, _+_, _-_, _*_, _/_, _%_, _^_, _≤_, _<_}
-use lib.ListN.{length, getD}
+use mathlib.Core.Path.{_≡_, refl}
+use Prim.Native.Nat.{_-_, _/_, _%_, _^_, _≤_, _<_}
+use lib.ListN.{length}
 use Rattle.digits.specs.Digits.{digitsOf}
 use Rattle.digits.proofs.Laws.{digits-length}
-use Rattle.verdict.specs.Patterns.{windowAfter, patternDigits}
+use Rattle.verdict.specs.Patterns.{windowAfter}
 use Rattle.verdict.proofs.Windows.{Written, written-none, written-more, written-all, window-next}
 use native.Mathlib.Omega.{arith}
-use borrow.Author.Needs.{needs}
 use Rattle.verdict.proofs.patterns.write_pattern.Statement.{statement}
 use Rattle.verdict.proofs.patterns.write_pattern.Tie as tie
-use Rattle.verdict.proofs.patterns.write_pattern.Reads as reads
-use Rattle.verdict.proofs.patterns.write_pattern.Lts as lts
-use Rattle.digits.proofs.put_digit.Reads as put-digit-reads
-use Rattle.verdict.proofs.patterns.made_of.Reads as made-of-reads
-use Rattle.verdict.proofs.patterns.push.Reads as push-reads
 
 abbrev Inv-loop : tie.InvT-loop
 Inv-loop dst₀ pattern window w₀ i₀ dst w i = (i ≤ 1024) × (length dst ≡ 128) × (w ≡ windowAfter pattern window i) × (w < 2 ^ 23) × Written pattern window i (digitsOf dst)

@@ -1,7 +1,7 @@
 -- `feed_at` lends the block of a state.
-use mathlib.Core.Path.{_≡_, refl, sym, _∙_, ap}
-use Prim.Native.Nat.{ℕ, suc, _+_, _-_, _*_, _/_, _%_, _^_, _≤_, _<_}
-use lib.ListN.{length, getD}
+use mathlib.Core.Path.{_≡_, ap}
+use Prim.Native.Nat.{ℕ, _+_, _-_, _*_}
+use lib.ListN.{length}
 use mathlib.Core.List.{List, _++_}
 use lib.ListN.{take, drop, length-drop}
 use lib.Seq.{length-take-le}
@@ -10,9 +10,6 @@ use native.Mathlib.Omega.{arith}
 use borrow.Author.Needs.{needs}
 use Rattle.verdict.proofs.ways.feed_at.Statement.{statement}
 use Rattle.verdict.proofs.ways.feed_at.Tie as tie
-use Rattle.verdict.proofs.ways.feed_at.Reads as reads
-use Rattle.verdict.proofs.ways.feed_at.Lts as lts
-use Rattle.verdict.proofs.keeping.feed_quarter.Reads as feed-quarter-reads
 
 -- src/ways.rt:54:18
 mul-a : tie.Need-mul-a
