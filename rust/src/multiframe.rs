@@ -44,7 +44,10 @@ impl Multiframe {
     /// ```
     pub fn build(&self) -> Result<[u8; MULTIFRAME_BYTES], Refusal> {
         let (mut bytes, mut answer) = ([0; MULTIFRAME_BYTES], [0; 1]);
-        let channels = self.channels.concat();
+        let mut channels = [0; 480];
+        for (bytes, channel) in channels.chunks_mut(16).zip(&self.channels) {
+            bytes.copy_from_slice(channel);
+        }
         // Sound: each pointer comes with the length of its own slice, and what may be written is
         // this function's own.
         let number = unsafe {

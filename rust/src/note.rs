@@ -9,8 +9,8 @@ use crate::Level;
 ///
 /// let note = Note(0b0011_0101);
 /// assert_eq!([1, 2, 3, 4].map(|tributary| note.decision(tributary)), [true, false, true, false]);
-/// assert_eq!(note.service(Level::Two), [true, true]);
-/// assert_eq!(note.service(Level::Twelve), []);
+/// assert!(note.service(Level::Two).eq([true, true]));
+/// assert_eq!(note.service(Level::Twelve).count(), 0);
 /// assert_eq!(Note(0b0000_0001).with_national(Level::Two), Note(0b0010_0001));
 /// ```
 #[derive(Clone, Copy, Debug, Default, PartialEq, Eq, Hash)]
@@ -23,8 +23,9 @@ impl Note {
     }
 
     /// The service digits that a note of this level has: the remote alarm digit, then the national digits.
-    pub fn service(self, level: Level) -> Vec<bool> {
-        (4..8).filter(|bit| Note(level.note_bits()).has(*bit)).map(|bit| self.has(bit)).collect()
+    pub fn service(self, level: Level) -> impl Iterator<Item = bool> {
+        let has = move |bit: &usize| Note(level.note_bits()).has(*bit);
+        (4..8).filter(has).map(move |bit| self.has(bit))
     }
 
     /// The same note with the national digits of this level all 1, as notes that are sent must have them.

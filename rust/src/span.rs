@@ -1,6 +1,6 @@
 //! In which bytes digits stand.
 
-use std::ops::Range;
+use core::ops::Range;
 
 /// Where digits stand that are packed eight to a byte.
 #[derive(Clone, Debug, PartialEq, Eq)]

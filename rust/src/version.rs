@@ -1,6 +1,6 @@
 //! The version of the library.
 
-use std::fmt;
+use core::fmt;
 
 use crate::raw;
 

@@ -289,7 +289,7 @@ impl Compared {
             add(&mut sum.justification, more.justification);
             add(&mut sum.ordinary, more.ordinary);
         }
-        for at in &found.first {
+        for at in found.first.iter() {
             if self.first.len() < MOST_LISTED {
                 let (kind, tributary) = differing(level, at.place)?;
                 let frame = first.saturating_add(at.frame as u64);

@@ -105,7 +105,7 @@ fn say(
         frame,
         note: byte,
         decided: (1..=4).filter(|tributary| note.decision(*tributary)).collect(),
-        service: note.service(level).into_iter().map(u8::from).collect(),
+        service: note.service(level).map(u8::from).collect(),
         acts: level.looks_at_earlier().then(|| acts.iter().map(sign).collect()),
         dissent: noted.dissent,
         alignment_wrong: noted.alignment,
