@@ -29,6 +29,9 @@ mod rack;
 mod receiver;
 mod repairing;
 mod swapping;
+// The library's two calls on a worn line are still to come: with them the feature goes, and their part stands with the others.
+#[cfg(feature = "verdict")]
+mod verdict;
 
 use call::{Call, Outcome, NAMES};
 use reference::random::Random;
@@ -182,6 +185,8 @@ fn main() {
             }
         }
     }
+    #[cfg(feature = "verdict")]
+    verdict::part(&mut run);
     if run.part.is_none() {
         lengths::part(&mut run);
     }
