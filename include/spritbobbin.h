@@ -305,7 +305,13 @@ enum {
 #define SPRITBOBBIN_CAPTURE_READ_ANSWER 7
 #define SPRITBOBBIN_COMPARE_ANSWER 19
 #define SPRITBOBBIN_COMPARE_PLACES 128
+#define SPRITBOBBIN_COMPARE_LINES_ANSWER 17
+#define SPRITBOBBIN_COMPARE_STRETCH_ANSWER 16
 #define SPRITBOBBIN_MULTIFRAME_BUILD_ANSWER 1
+#define SPRITBOBBIN_MULTIFRAME_START_ANSWER 1
+#define SPRITBOBBIN_PLACE_ANSWER 2
+#define SPRITBOBBIN_MULTIFRAME_PLACE_ANSWER 2
+#define SPRITBOBBIN_BEGINS_ANSWER 2
 /* And how many the states of a receiver and of a finder have. */
 #define SPRITBOBBIN_RECEIVER_STATE 9
 #define SPRITBOBBIN_FINDER_STATE 4
@@ -573,7 +579,7 @@ uint64_t spritbobbin_plain_extract(uint64_t level, uint64_t earlier, const uint8
  */
 uint64_t spritbobbin_late_multiplex(uint64_t level, uint64_t earlier, uint8_t *line, size_t line_bytes,
                                     const uint8_t *notes, size_t notes_bytes,
-                                    const uint8_t *buffer, size_t buffer_bytes, uint64_t answer[5]);
+                                    const uint8_t *buffer, size_t buffer_bytes, uint64_t answer[SPRITBOBBIN_MULTIPLEX_ANSWER]);
 
 /*
  * Makes a fresh receiver: hunting, nothing seen, the frame in hand all zero.
@@ -723,14 +729,14 @@ uint64_t spritbobbin_copy_digits(uint8_t *to, size_t to_bytes, uint64_t at,
  */
 uint64_t spritbobbin_begins(const uint8_t *read, size_t read_bytes, uint64_t digits,
                             const uint8_t *sent, size_t sent_bytes, uint64_t first, uint64_t count,
-                            uint64_t answer[2]);
+                            uint64_t answer[SPRITBOBBIN_BEGINS_ANSWER]);
 
 /*
  * What a place of a frame is, places counted from 0, by the layout of the level alone. answer: one of
  * SPRITBOBBIN_PLACE_..; the tributary, 1 to 4, that owns the place, or 0. Returns 0, or 1, or 7 where
  * the place is N or more.
  */
-uint64_t spritbobbin_place(uint64_t level, uint64_t place, uint64_t answer[2]);
+uint64_t spritbobbin_place(uint64_t level, uint64_t place, uint64_t answer[SPRITBOBBIN_PLACE_ANSWER]);
 
 /*
  * Writes a capture of a line at the beginning of file; bytes after it stay as they were.
@@ -784,8 +790,8 @@ uint64_t spritbobbin_compare(const uint8_t *one, size_t one_bytes, const uint8_t
  * of frames or over 64, then 2 if the second line's length is not the first's.
  */
 uint64_t spritbobbin_compare_lines(uint64_t level, const uint8_t *one, size_t one_bytes,
-                                   const uint8_t *other, size_t other_bytes, uint64_t answer[17],
-                                   uint64_t places[128]);
+                                   const uint8_t *other, size_t other_bytes, uint64_t answer[SPRITBOBBIN_COMPARE_LINES_ANSWER],
+                                   uint64_t places[SPRITBOBBIN_COMPARE_PLACES]);
 
 /*
  * What differs in a stretch of two lines: among count places from place first on, counted over the
@@ -798,7 +804,7 @@ uint64_t spritbobbin_compare_lines(uint64_t level, const uint8_t *one, size_t on
  */
 uint64_t spritbobbin_compare_stretch(uint64_t level, const uint8_t *one, size_t one_bytes,
                                      const uint8_t *other, size_t other_bytes, uint64_t first,
-                                     uint64_t count, uint64_t answer[16]);
+                                     uint64_t count, uint64_t answer[SPRITBOBBIN_COMPARE_STRETCH_ANSWER]);
 
 /*
  * Builds a multiframe of 2048 kbit/s: sixteen frames of 32 bytes.
@@ -831,14 +837,14 @@ uint64_t spritbobbin_multiframe_apart(const uint8_t *multiframe, size_t multifra
  * second digit, start) the digit, of signalling and of a channel its channel, 1 to 30, else 0.
  * Returns 0, or 7 where the place is 4096 or more.
  */
-uint64_t spritbobbin_multiframe_place(uint64_t place, uint64_t answer[2]);
+uint64_t spritbobbin_multiframe_place(uint64_t place, uint64_t answer[SPRITBOBBIN_MULTIFRAME_PLACE_ANSWER]);
 
 /*
  * Which of sixteen frames of 2048 kbit/s in a row, 512 bytes, begins the multiframe: the first whose
  * byte 0 ends in the word 0011011 and whose byte 16 begins with 0000. answer: that frame, counted
  * from 0, or 16 where there is none. Returns 0 or 2.
  */
-uint64_t spritbobbin_multiframe_start(const uint8_t *frames, size_t frames_bytes, uint64_t answer[1]);
+uint64_t spritbobbin_multiframe_start(const uint8_t *frames, size_t frames_bytes, uint64_t answer[SPRITBOBBIN_MULTIFRAME_START_ANSWER]);
 
 /*
  * The version of the library: MAJOR * 1000000 + MINOR * 1000 + PATCH. It is not that of this header,
