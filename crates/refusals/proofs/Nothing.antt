@@ -6,7 +6,7 @@ use Prim.Native.Nat.{ℕ}
 use lib.Dec.{eqb, ltb}
 use lib.ListN.{length}
 use lib.Seq.{set-getD}
-use borrow.Author.Tests.{eqb-true, ne-eqb}
+use borrow.Author.Tests.{eqb-true, eqb-false, ne-eqb}
 use Rattle.digits.proofs.Tests.{cond-told}
 use Rattle.table.specs.declared.Row.{Row}
 use Rattle.table.specs.declared.Level.{Level}
@@ -28,6 +28,12 @@ use Rattle.repair.specs.Repair as repair
 use Rattle.captures.specs.declared.Written.{Written}
 use Rattle.captures.specs.declared.Reading.{Reading}
 use Rattle.captures.specs.Captures.{writeRefusal, writtenOf, leftOf, WriteMet, endAt, fieldAt, unread, afterLine, fieldsOf, readOf, ReadMet}
+use Rattle.compare.specs.declared.Fault as compared
+use Rattle.compare.specs.declared.Compared.{Compared}
+use Rattle.compare.specs.Compare as comparing
+use Rattle.compare.specs.Lines as two-lines
+use Rattle.copying.specs.Copying.{copies, CopyMet}
+use Rattle.late.specs.Late.{lateAnswer, lateLeft, LateMet}
 use Rattle.multiframe.specs.declared.Built.{Built}
 use Rattle.multiframe.specs.Calls.{lengthsRight, firstSilent, builtOf, BuildMet}
 use Rattle.finder.specs.declared.State as finder
@@ -40,7 +46,7 @@ use Rattle.receiver.proofs.Turns.{refused-nothing}
 use Rattle.rack.specs.declared.record.Record.{Record}
 use Rattle.rack.specs.Record.{stateFrom, recordOf, fedBy, fedRecord}
 use Rattle.rack.specs.Rack as rack
-use Rattle.refusals.specs.Nothing.{CountedNothing, NotedNothing, SwappedNothing, RepairedNothing, WrittenNothing, ReadNothing, BuiltNothing, FoundNothing, RackNothing}
+use Rattle.refusals.specs.Nothing.{CountedNothing, NotedNothing, SwappedNothing, RepairedNothing, ComparedNothing, WrittenNothing, ReadNothing, BuiltNothing, FoundNothing, RackNothing}
 
 -- ---- lines
 
@@ -191,6 +197,86 @@ read-nothing file answer met h = rw met (go (eqb (fieldsOf file .refusal) 0) ref
         by : (t : Bool) → badLine row (fieldsOf file .line .bytes) ≡ t → Unread (readOf file)
         by true z = rw (x, y, z) (unread-so 2 0 (λ _. refl))
         by false z = rw (x, y, z) (λ refused. absurd (refused (eqb-true (fieldsOf file .refusal) 0 x)))
+
+-- ---- comparing
+
+-- the byte that a comparison names is the reader's, of the file that is at fault
+abbrev ByteUnderNine : compared.Fault → Type 0
+ByteUnderNine f = (f .refusal ≡ 9 → ⊥) → f .byte ≡ 0
+
+-- refused by such a fault
+refused-by : (f : compared.Fault) (lent : List ℕ) → ByteUnderNine f → ComparedNothing (comparing.refusedBy f) lent lent
+refused-by f lent named = record { sums = refl; all = refl; listed = refl; named = named; kept = refl }
+
+fault-byte : (one other : List ℕ) → ByteUnderNine (comparing.faultOf (readOf one) (readOf other))
+unfolding comparing.faultOf
+fault-byte one other =
+    cond-told ByteUnderNine (eqb (readOf one .refusal) 0)
+    (λ _. cond-told ByteUnderNine (eqb (readOf other .refusal) 0)
+    (λ _. cond-by ByteUnderNine (eqb (readOf one .level) (readOf other .level))
+    (cond-by ByteUnderNine (eqb (readOf one .line .bytes) (readOf other .line .bytes)) {a = comparing.faultIn 0 0 0} {b = comparing.faultIn 2 0 0} (λ _. refl) (λ _. refl))
+    (λ _. refl))
+    (λ refused. read-nothing other (readOf other) refl (eqb-false (readOf other .refusal) 0 refused) .byte))
+    (λ refused. read-nothing one (readOf one) refl (eqb-false (readOf one .refusal) 0 refused) .byte)
+
+pub compare-nothing : (one other lent : List ℕ) (answer : Compared) (left : List ℕ) → comparing.CompareMet one other lent answer left
+    → (answer .refusal ≡ 0 → ⊥) → ComparedNothing answer lent left
+unfolding comparing.comparedOf comparing.listedOf comparing.countedOn
+compare-nothing one other lent answer left met h =
+    rw (met .0, met .1) (go (eqb (f .refusal) 0) refl (levelOf (readOf one .level)) refl (λ e. h (ap (λ (a : Compared). a .refusal) (met .0) ∙ e)))
+  where
+    f : compared.Fault
+    f = comparing.faultOf (readOf one) (readOf other)
+
+    go : (t : Bool) → eqb (f .refusal) 0 ≡ t → (l : Level) → levelOf (readOf one .level) ≡ l → (comparing.comparedOf one other .refusal ≡ 0 → ⊥)
+        → ComparedNothing (comparing.comparedOf one other) lent (comparing.listedOf one other lent)
+    go false t l e refused = rw t (refused-by f lent (fault-byte one other))
+    go true t NoSuchLevel e refused = rw (t, e) (refused-by (comparing.faultIn 1 0 0) lent (λ _. refl))
+    go true t (Of row) e refused = absurd (refused (rw (t, e)))
+
+pub lines-nothing : (level : ℕ) (one other lent : List ℕ) (answer : Compared) (left : List ℕ) → two-lines.LinesMet level one other lent answer left
+    → (answer .refusal ≡ 0 → ⊥) → ComparedNothing answer lent left
+unfolding two-lines.linesOf two-lines.linesListed comparing.countedOn
+lines-nothing level one other lent answer left met h = rw (met .0, met .1) (go (levelOf level) refl (λ e. h (ap (λ (a : Compared). a .refusal) (met .0) ∙ e)))
+  where
+    go : (l : Level) → levelOf level ≡ l → (two-lines.linesOf level one other .refusal ≡ 0 → ⊥)
+        → ComparedNothing (two-lines.linesOf level one other) lent (two-lines.linesListed level one other lent)
+    go NoSuchLevel e refused = rw e (refused-by (comparing.faultIn 1 0 0) lent (λ _. refl))
+    go (Of row) e refused = by (eqb (two-lines.linesRefusal row (length one) (length other)) 0) refl
+      where
+        by : (t : Bool) → eqb (two-lines.linesRefusal row (length one) (length other)) 0 ≡ t
+            → ComparedNothing (two-lines.linesOf level one other) lent (two-lines.linesListed level one other lent)
+        by true t = absurd (refused (rw (e, t)))
+        by false t = rw (e, t) (refused-by (comparing.faultIn 2 0 0) lent (λ _. refl))
+
+-- ---- digits carried
+
+pub copy-nothing : (to : List ℕ) (at : ℕ) (from : List ℕ) (first count answer : ℕ) (left : List ℕ) → CopyMet to at from first count answer left
+    → (answer ≡ 0 → ⊥) → left ≡ to
+copy-nothing to at from first count answer left met h = by (copies to at from first count) refl
+  where
+    by : (t : Bool) → copies to at from first count ≡ t → left ≡ to
+    by true t = absurd (h (met .refusal ∙ rw t))
+    by false t = met .copied ∙ rw t
+
+-- ---- the late line
+
+pub late-nothing : (level earlier : ℕ) (line notes buffer : List ℕ) (answer : Counted) (left : List ℕ) → LateMet level earlier line notes buffer answer left
+    → (answer .refusal ≡ 0 → ⊥) → CountedNothing answer line left
+late-nothing level earlier line notes buffer answer left met h = rw (met .0, met .1) (go (levelOf level) refl (λ e. h (ap (λ (a : Counted). a .refusal) (met .0) ∙ e)))
+  where
+    go : (l : Level) → levelOf level ≡ l → (lateAnswer level earlier (length line) notes (length buffer) .refusal ≡ 0 → ⊥)
+        → CountedNothing (lateAnswer level earlier (length line) notes (length buffer)) line (lateLeft level earlier line notes buffer)
+    go NoSuchLevel e refused = rw e (record { counts = refl; frame = λ five ten. refl; kept = refl })
+    go (Of row) e refused = by (eqb (f .refusal) 0) refl
+      where
+        f : Fault
+        f = sendFaultOf row earlier (length line) notes (length buffer)
+
+        by : (t : Bool) → eqb (f .refusal) 0 ≡ t
+            → CountedNothing (lateAnswer level earlier (length line) notes (length buffer)) line (lateLeft level earlier line notes buffer)
+        by true t = absurd (refused (rw (e, t)))
+        by false t = rw (e, t) (record { counts = refl; frame = send-names row earlier (length line) notes (length buffer); kept = refl })
 
 -- ---- 2048 kbit/s
 

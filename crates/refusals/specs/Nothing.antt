@@ -5,10 +5,12 @@ use mathlib.Core.Path.{_≡_}
 use mathlib.Core.Bool.{false}
 use mathlib.Core.List.{List, [], _∷_}
 use Prim.Native.Nat.{ℕ}
+use lib.ListN.{replicate}
 use Rattle.levels.specs.declared.judging.Counted.{Counted}
 use Rattle.reading.specs.declared.Noted.{Noted}
 use Rattle.swap.specs.declared.Swapped.{Swapped}
 use Rattle.repair.specs.declared.Repaired.{Repaired}
+use Rattle.compare.specs.declared.Compared.{Compared}
 use Rattle.captures.specs.declared.Written.{Written}
 use Rattle.captures.specs.declared.Reading.{Reading}
 use Rattle.captures.specs.Captures.{nowhere}
@@ -20,7 +22,7 @@ use Rattle.rack.specs.declared.record.Record.{Record}
 abbrev pub fourZeros : List ℕ
 fourZeros = 0 ∷ 0 ∷ 0 ∷ 0 ∷ []
 
--- multiplexing its line, extraction its buffer
+-- multiplexing its line, late or not; extraction its buffer
 pub record CountedNothing (answer : Counted) (lent left : List ℕ) : Type 0 where
   pub counts : answer .counts ≡ fourZeros
   pub frame : (answer .refusal ≡ 5 → ⊥) → (answer .refusal ≡ 10 → ⊥) → answer .frame ≡ 0
@@ -42,6 +44,14 @@ pub record RepairedNothing (answer : Repaired) (lent left : List ℕ) : Type 0 w
   pub control : answer .control ≡ fourZeros
   pub stuffing : answer .stuffing ≡ fourZeros
   pub national : answer .national ≡ 0
+  pub kept : left ≡ lent
+
+-- comparing its list of places: a byte is named under 9 alone
+pub record ComparedNothing (answer : Compared) (lent left : List ℕ) : Type 0 where
+  pub sums : answer .sums ≡ replicate 15 0
+  pub all : answer .all ≡ 0
+  pub listed : answer .listed ≡ 0
+  pub named : (answer .refusal ≡ 9 → ⊥) → answer .byte ≡ 0
   pub kept : left ≡ lent
 
 -- the writer its file; the reader, which writes nothing, names a byte under 9 alone
