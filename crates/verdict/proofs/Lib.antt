@@ -4,3 +4,4 @@ pub mod Carried
 pub mod Sizes
 pub mod Kept
 pub mod Waying
+pub mod Good

@@ -5,4 +5,5 @@ pub mod keeping;
 pub mod patterns;
 pub mod rights;
 pub mod standing;
+pub mod validity;
 pub mod ways;
