@@ -5,3 +5,4 @@ pub mod Sizes
 pub mod Kept
 pub mod Waying
 pub mod Several
+pub mod Good

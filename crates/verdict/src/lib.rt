@@ -5,5 +5,6 @@ pub mod keeping;
 pub mod patterns;
 pub mod rights;
 pub mod standing;
+pub mod validity;
 pub mod votes;
 pub mod ways;
