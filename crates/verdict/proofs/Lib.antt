@@ -6,3 +6,4 @@ pub mod Kept
 pub mod Waying
 pub mod Several
 pub mod Good
+pub mod Parts
