@@ -4,3 +4,6 @@ pub mod Carried
 pub mod Sizes
 pub mod Kept
 pub mod Waying
+pub mod Several
+pub mod Good
+pub mod Parts
