@@ -5,3 +5,6 @@ pub mod Sizes
 pub mod Kept
 pub mod Waying
 pub mod Good
+pub mod Parts
+pub mod Made
+pub mod Telling

@@ -1,0 +1,19 @@
+-- `fresh_standing`: with digits or with a pattern.
+use mathlib.Core.Path.{_≡_, refl, sym, _∙_, ap}
+use mathlib.Core.Bool.{Bool, true, false}
+use mathlib.Core.List.{List, [], _∷_, _++_, append-nil}
+use Prim.Native.Nat.{ℕ, suc, _+_, _-_, _*_, _/_, _%_, _≤_, _<_}
+use native.Mathlib.Omega.{arith}
+use lib.ListN.{length, getD, take, drop, length-set}
+use borrow.Author.Tests.{eq-eqb, ne-eqb}
+use Rattle.verdict.proofs.fresh.fresh_standing.Statement.{statement}
+use Rattle.verdict.proofs.fresh.fresh_standing.Tie as tie
+
+returns : tie.Need-returns
+returns c = rw (eq-eqb _ _ (c .if1 .taken))
+
+returns-2 : tie.Need-returns-2
+returns-2 c = rw (ne-eqb _ _ (c .if1 .left))
+
+pub fresh-standing-spec : {M : Type 1} → statement M
+fresh-standing-spec = tie.close (tie.spec returns returns-2)
