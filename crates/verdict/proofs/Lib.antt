@@ -8,3 +8,5 @@ pub mod Good
 pub mod Parts
 pub mod Made
 pub mod Telling
+pub mod Numbers
+pub mod Answers

@@ -1,15 +1,10 @@
 -- `tell_all`: tributary after tributary.
-use mathlib.Core.Path.{_≡_, refl, sym, _∙_, ap}
-use mathlib.Core.Bool.{Bool, true, false}
-use mathlib.Core.List.{List, [], _∷_, _++_, append-nil, append-assoc}
-use Prim.Native.Nat.{ℕ, suc, _+_, _-_, _*_, _/_, _%_, _≤_, _<_}
+use mathlib.Core.Path.{_≡_, sym, _∙_}
+use Prim.Native.Nat.{_+_, _-_, _*_, _≤_}
 use native.Mathlib.Omega.{arith}
-use lib.ListN.{length, getD, take, drop, set, length-set, length-drop}
-use lib.Seq.{length-sets, sets-eq, length-take-le, getD-take, getD-drop}
-use borrow.Author.Tests.{eq-eqb, ne-eqb, lt-ltb}
-use Rattle.verdict.specs.Feed.{stateFrom, answerOf}
+use lib.ListN.{length, take, drop, length-drop}
+use lib.Seq.{length-take-le}
 use Rattle.verdict.proofs.Kept.{take-all}
-use Rattle.verdict.proofs.Parts.{part-more}
 use Rattle.verdict.proofs.Telling.{toldTo, told-none, told-next, told-all}
 use Rattle.verdict.proofs.answer.tell_all.Statement.{statement}
 use Rattle.verdict.proofs.answer.tell_all.Tie as tie
@@ -23,20 +18,8 @@ abbrev μ-loop : tie.MeasureT-loop
 loop-holds : tie.Need-loop-holds Inv-loop μ-loop
 loop-holds c = (omega arith, c .before .before .pre .2, told-none (c .before .before .args .state .now) (c .before .before .args .out .now))
 
-mul-a : tie.Need-mul-a Inv-loop μ-loop
-mul-a c = omega arith
-
-add-e : tie.Need-add-e Inv-loop μ-loop
-add-e c = omega arith
-
 mul-tell-tributary : tie.Need-mul-tell-tributary Inv-loop μ-loop
 mul-tell-tributary c = omega (arith, c .before .loop .inv .1)
-
-sub-tell-tributary : tie.Need-sub-tell-tributary Inv-loop μ-loop
-sub-tell-tributary c = omega arith
-
-part-tell-tributary-start : tie.Need-part-tell-tributary-start Inv-loop μ-loop
-part-tell-tributary-start c = omega arith
 
 part-tell-tributary-end : tie.Need-part-tell-tributary-end Inv-loop μ-loop
 part-tell-tributary-end c = omega (arith, c .before .loop .inv .1)
@@ -48,12 +31,6 @@ tell-tributary-requires c κs =
     let at = 22 * l .j in
     let e : at + 22 - at ≡ 22 = omega arith in
     rw e (p .0, omega arith, p .1, length-take-le 22 (drop at (l .out)) (omega (arith, l .inv .1, length-drop at (l .out))))
-
-add-j : tie.Need-add-j Inv-loop μ-loop
-add-j c = omega arith
-
-loop-less : tie.Need-loop-less Inv-loop μ-loop
-loop-less c = omega arith
 
 loop-again : tie.Need-loop-again Inv-loop μ-loop
 loop-again c =
@@ -80,15 +57,15 @@ tell-all-spec =
     Inv-loop
     μ-loop
     loop-holds
-    mul-a
-    add-e
+    (λ c. omega arith)
+    (λ c. omega arith)
     mul-tell-tributary
-    sub-tell-tributary
-    part-tell-tributary-start
+    (λ c. omega arith)
+    (λ c. omega arith)
     part-tell-tributary-end
     tell-tributary-requires
-    add-j
-    loop-less
+    (λ c. omega arith)
+    (λ c. omega arith)
     loop-again
     same-length
     returns)

@@ -1,46 +1,23 @@
 -- `tell_tributary`: the changes, then block after block.
-use mathlib.Core.Path.{_≡_, refl, sym, _∙_, ap}
-use mathlib.Core.Bool.{Bool, true, false}
-use mathlib.Core.List.{List, [], _∷_, _++_, append-nil, append-assoc}
-use Prim.Native.Nat.{ℕ, suc, _+_, _-_, _*_, _/_, _%_, _≤_, _<_}
+use mathlib.Core.Path.{_∙_}
+use Prim.Native.Nat.{_+_, _-_}
 use native.Mathlib.Omega.{arith}
-use lib.ListN.{length, getD, take, drop, set, length-set, length-drop}
-use lib.Seq.{length-sets, sets-eq, length-take-le, getD-take, getD-drop}
-use borrow.Author.Tests.{eq-eqb, ne-eqb, lt-ltb}
-use Rattle.verdict.specs.Feed.{stateFrom}
-use Rattle.verdict.proofs.Telling.{told-length, tributary-parts}
+use lib.ListN.{length-set}
+use Rattle.verdict.proofs.Telling.{tributary-parts}
 use borrow.Author.Needs.{needs}
 use Rattle.verdict.proofs.answer.tell_tributary.Statement.{statement}
 use Rattle.verdict.proofs.answer.tell_tributary.Tie as tie
-
-add-out : tie.Need-add-out
-add-out c = search needs
-
-mul-out : tie.Need-mul-out
-mul-out c = search needs
-
-shared-slice-read-out : tie.Need-shared-slice-read-out
-shared-slice-read-out c = search needs
-
-slice-write-out : tie.Need-slice-write-out
-slice-write-out c = search needs
 
 tell-at-requires : tie.Need-tell-at-requires
 tell-at-requires c κs =
     let p = c .before .before .before .before .pre in
     (p .0, omega (arith, p .1), p .2 (c .before .before .before .before .args .j) (omega (arith, p .1)), simp length-set (p .3), omega arith)
 
-better-at-requires : tie.Need-better-at-requires
-better-at-requires c κs = search needs
-
 tell-at-requires-2 : tie.Need-tell-at-requires-2
 tell-at-requires-2 c κs =
     let p = c .before .before .before .before .before .before .before .before .before .pre in
     let b = c .before .better-at in
     (p .0, b .ensures .0, p .2 _ (b .ensures .0), c .before .before .before .before .tell-at .kept .1 .1 .0 ∙ (simp length-set (p .3)), omega arith)
-
-add-tell-at : tie.Need-add-tell-at
-add-tell-at c = search needs
 
 tell-at-requires-3 : tie.Need-tell-at-requires-3
 tell-at-requires-3 c κs =
@@ -59,14 +36,14 @@ pub tell-tributary-spec : {M : Type 1} → statement M
 tell-tributary-spec =
     tie.close
     (tie.spec
-    add-out
-    mul-out
-    shared-slice-read-out
-    slice-write-out
+    (λ c. search needs)
+    (λ c. search needs)
+    (λ c. search needs)
+    (λ c. search needs)
     tell-at-requires
-    better-at-requires
+    (λ c κs. search needs)
     tell-at-requires-2
-    add-tell-at
+    (λ c. search needs)
     tell-at-requires-3
     same-length
     returns)

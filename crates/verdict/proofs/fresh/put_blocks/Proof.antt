@@ -1,11 +1,9 @@
 -- `put_blocks`: block after block.
-use mathlib.Core.Path.{_≡_, refl, sym, _∙_, ap}
-use mathlib.Core.Bool.{Bool, true, false}
-use mathlib.Core.List.{List, [], _∷_, _++_, append-nil}
-use Prim.Native.Nat.{ℕ, suc, _+_, _-_, _*_, _/_, _%_, _≤_, _<_}
+use mathlib.Core.Path.{_≡_, sym, _∙_, ap}
+use mathlib.Core.List.{_++_, append-nil}
+use Prim.Native.Nat.{ℕ, _+_, _-_, _*_, _≤_}
 use native.Mathlib.Omega.{arith}
-use lib.ListN.{length, getD, take, drop, length-set}
-use borrow.Author.Tests.{eq-eqb, ne-eqb}
+use lib.ListN.{length, take}
 use Rattle.verdict.specs.Blocks.{freshBlock}
 use Rattle.verdict.specs.Feed.{blocksNumbers}
 use Rattle.verdict.proofs.Kept.{take-all}
@@ -26,12 +24,6 @@ loop-holds c = (omega arith, c .before .pre, sym (append-nil (take 11 (c .before
 
 put-fresh-at-requires : tie.Need-put-fresh-at-requires Inv-loop μ-loop
 put-fresh-at-requires c κs = (c .before .before .loop .inv .1, omega arith)
-
-add-b : tie.Need-add-b Inv-loop μ-loop
-add-b c = omega arith
-
-loop-less : tie.Need-loop-less Inv-loop μ-loop
-loop-less c = omega arith
 
 loop-again : tie.Need-loop-again Inv-loop μ-loop
 loop-again c =
@@ -62,8 +54,8 @@ put-blocks-spec =
     μ-loop
     loop-holds
     put-fresh-at-requires
-    add-b
-    loop-less
+    (λ c. omega arith)
+    (λ c. omega arith)
     loop-again
     same-length
     returns)
