@@ -5,6 +5,7 @@ pub mod blocks;
 pub mod fresh;
 pub mod keeping;
 pub mod patterns;
+pub mod refusals;
 pub mod rights;
 pub mod standing;
 pub mod validity;
