@@ -1,25 +1,25 @@
 -- What the tests of a state's validity say, and the room that a valid state leaves.
 use mathlib.Core.Path.{_≡_, refl, sym, _∙_}
 use mathlib.Core.Logic.{_≢_}
-use mathlib.Core.Bool.{Bool, cond, true, false, _&&_, _||_, not, true≢false}
-use mathlib.Core.List.{List, [], _∷_}
+use mathlib.Core.Bool.{Bool, true, false, _&&_, _||_, not, true≢false}
+use mathlib.Core.List.{List}
 use Prim.Native.Nat.{ℕ, zero, suc, _+_, _-_, _*_, _^_, _≤_, _<_}
 use native.Mathlib.Omega.{arith}
-use native.Mathlib.Decide.{decLt, decLe, ℕ-discrete}
+use native.Mathlib.Decide.{decLt, ℕ-discrete}
 use native.Mathlib.Nat.{add-suc, add-zero}
 use native.Mathlib.Numerals.{add-one}
 use lib.Dec.{eqb, leb, ltb}
 use lib.ListN.{length, getD, take, drop, length-drop, List·getD-eq-default}
 use lib.Seq.{length-take-le}
-use borrow.Author.Tests.{leb-true, ltb-true, eqb-true, eqb-false, le-leb, lt-leb, eq-eqb, ne-eqb}
-use Rattle.digits.proofs.Tests.{and-both, not-true, or-neither}
-use Rattle.slips.specs.Slips.{stepPrice, apart, Room, Closed}
+use borrow.Author.Tests.{leb-true, ltb-true, le-leb, lt-leb, eq-eqb, ne-eqb}
+use Rattle.digits.proofs.Tests.{and-both}
+use Rattle.slips.specs.Slips.{stepPrice, Room, Closed}
 use Rattle.verdict.specs.declared.standing.Standing.{Standing}
 use Rattle.verdict.specs.Patterns.{OneOfTwo}
 use Rattle.verdict.specs.Blocks.{Block}
 use Rattle.verdict.specs.Going.{Sound}
 use Rattle.verdict.specs.Keeping.{blockFrom, blockAt}
-use Rattle.verdict.specs.Feed.{State, stateFrom, badPattern, goodLanes, goodStanding, goodBlock, goodBlocks, fewChanges, goodHead, isValid}
+use Rattle.verdict.specs.Feed.{stateFrom, badPattern, goodLanes, goodStanding, goodBlock, goodBlocks, fewChanges, goodHead, isValid}
 use Rattle.verdict.proofs.Kept.{loaded-length}
 
 -- ---- lanes

@@ -7,3 +7,8 @@ pub mod Waying
 pub mod Several
 pub mod Good
 pub mod Parts
+pub mod Cutting
+pub mod Made
+pub mod Telling
+pub mod Numbers
+pub mod Answers

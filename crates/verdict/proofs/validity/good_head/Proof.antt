@@ -1,16 +1,13 @@
 -- `good_head`: the pattern, whether a frame came, the votes, the changes.
-use mathlib.Core.Path.{_≡_, refl, sym, _∙_}
-use mathlib.Core.Bool.{true, false, _&&_}
-use Prim.Native.Nat.{ℕ, suc, _+_, _-_, _*_, _^_, _≤_, _<_}
-use native.Mathlib.Omega.{arith}
-use lib.ListN.{length, getD}
-use lib.Dec.{eqb, leb, ltb}
-use borrow.Author.Tests.{le-leb, lt-leb, lt-ltb, le-ltb, eq-eqb, ne-eqb, not-true, not-false}
+use mathlib.Core.Path.{_≡_, sym, _∙_}
+use mathlib.Core.Bool.{true, false}
+use lib.ListN.{getD}
+use borrow.Author.Tests.{le-leb, lt-leb, not-true, not-false}
 use borrow.Author.Needs.{needs}
 use Rattle.verdict.proofs.validity.good_head.Statement.{statement}
 use Rattle.verdict.proofs.validity.good_head.Tie as tie
-use Rattle.verdict.specs.Feed.{stateFrom, goodHead, badPattern}
-use Rattle.verdict.proofs.Good.{votesWell, changesWell, head-parts}
+use Rattle.verdict.specs.Feed.{badPattern}
+use Rattle.verdict.proofs.Good.{votesWell, head-parts}
 
 returns : tie.Need-returns
 returns c =

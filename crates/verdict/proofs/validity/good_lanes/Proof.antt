@@ -1,12 +1,10 @@
 -- `good_lanes`: lane after lane.
-use mathlib.Core.Path.{_≡_, refl, sym, _∙_}
-use mathlib.Core.Bool.{true, false, _&&_}
-use Prim.Native.Nat.{ℕ, suc, _+_, _-_, _*_, _^_, _≤_, _<_}
+use mathlib.Core.Path.{_≡_, sym, _∙_}
+use mathlib.Core.Bool.{true}
+use Prim.Native.Nat.{_+_, _-_, _≤_}
 use native.Mathlib.Omega.{arith}
-use lib.ListN.{length, getD}
-use lib.Dec.{eqb, leb, ltb}
-use borrow.Author.Tests.{le-leb, lt-leb, lt-ltb, le-ltb, eq-eqb, ne-eqb, not-true, not-false}
-use borrow.Author.Needs.{needs}
+use lib.ListN.{getD}
+use borrow.Author.Tests.{le-leb, lt-leb, not-true, not-false}
 use Rattle.verdict.proofs.validity.good_lanes.Statement.{statement}
 use Rattle.verdict.proofs.validity.good_lanes.Tie as tie
 use Rattle.verdict.specs.Feed.{goodLanes}
@@ -17,9 +15,6 @@ Inv-loop v k₀ k = (k ≤ 16) × (goodLanes v k ≡ true)
 
 abbrev μ-loop : tie.MeasureT-loop
 μ-loop v k₀ k = 16 - k
-
-element-copy-out-if1 : tie.Need-element-copy-out-if1 Inv-loop μ-loop
-element-copy-out-if1 c = omega arith
 
 returns : tie.Need-returns Inv-loop μ-loop
 returns c =
@@ -62,7 +57,7 @@ good-lanes-spec =
     (tie.spec
     Inv-loop
     μ-loop
-    element-copy-out-if1
+    (λ c. omega arith)
     returns
     loop-holds
     (λ c. omega arith)

@@ -1,15 +1,10 @@
 -- `good_standing`: its four parts.
-use mathlib.Core.Path.{_≡_, refl, sym, _∙_}
-use mathlib.Core.Bool.{true, false, _&&_}
-use Prim.Native.Nat.{ℕ, suc, _+_, _-_, _*_, _^_, _≤_, _<_}
-use native.Mathlib.Omega.{arith}
-use lib.ListN.{length, getD}
-use lib.Dec.{eqb, leb, ltb}
-use borrow.Author.Tests.{le-leb, lt-leb, lt-ltb, le-ltb, eq-eqb, ne-eqb, not-true, not-false}
+use mathlib.Core.Path.{_≡_, sym, _∙_}
+use mathlib.Core.Bool.{true, false}
+use borrow.Author.Tests.{not-true, not-false}
 use borrow.Author.Needs.{needs}
 use Rattle.verdict.proofs.validity.good_standing.Statement.{statement}
 use Rattle.verdict.proofs.validity.good_standing.Tie as tie
-use Rattle.verdict.specs.Feed.{goodStanding}
 use Rattle.verdict.proofs.Good.{standing-parts, countsWell, takenWell, placesWell}
 
 returns : tie.Need-returns

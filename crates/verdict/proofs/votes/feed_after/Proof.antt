@@ -1,21 +1,17 @@
 -- `feed_after`: the votes moved towards the beginning, the vote behind them last.
-use mathlib.Core.Path.{_≡_, refl, sym, _∙_, ap}
-use mathlib.Core.List.{List}
-use Prim.Native.Nat.{ℕ, suc, _+_, _-_, _*_, _/_, _≤_, _<_}
-use lib.ListN.{length, getD, set, take, drop}
+use mathlib.Core.Path.{_≡_, _∙_}
+use Prim.Native.Nat.{ℕ, _+_, _-_, _/_}
+use lib.ListN.{length, set, take, drop}
 use native.Mathlib.Omega.{arith}
 use borrow.Author.Needs.{needs}
 use Rattle.digits.specs.Digits.{digitsOf}
 use Rattle.levels.specs.Sizes.{quarterOf}
 use Rattle.slips.specs.Slips.{lentFrom}
 use Rattle.judge.proofs.Quartered.{lent-length, moved-fit, early-first, early-votes}
-use Rattle.verdict.specs.Readings.{majorities, ownVotes, beforeVotes, afterVotes}
+use Rattle.verdict.specs.Readings.{majorities, afterVotes}
 use Rattle.verdict.proofs.Several.{by-votes}
 use Rattle.verdict.proofs.votes.feed_after.Statement.{statement}
 use Rattle.verdict.proofs.votes.feed_after.Tie as tie
-use Rattle.verdict.proofs.votes.feed_after.Reads as reads
-use Rattle.verdict.proofs.votes.feed_after.Lts as lts
-use Rattle.verdict.proofs.ways.feed_way.Reads as feed-way-reads
 
 cast-moved : tie.Need-cast-moved
 cast-moved c = omega (arith, (c .before .before .before .before .before .before .pre) .4)

@@ -1,21 +1,17 @@
 -- `feed_before`: the votes moved towards the end, the vote before them first.
-use mathlib.Core.Path.{_≡_, refl, sym, _∙_, ap}
-use mathlib.Core.List.{List}
-use Prim.Native.Nat.{ℕ, suc, _+_, _-_, _*_, _/_, _≤_, _<_}
-use lib.ListN.{length, getD, set, take, drop}
+use mathlib.Core.Path.{_≡_, refl, _∙_}
+use Prim.Native.Nat.{ℕ, _-_, _/_}
+use lib.ListN.{length, set, take, drop}
 use native.Mathlib.Omega.{arith}
 use borrow.Author.Needs.{needs}
 use Rattle.digits.specs.Digits.{digitsOf}
 use Rattle.levels.specs.Sizes.{quarterOf}
 use Rattle.slips.specs.Slips.{lentFrom}
 use Rattle.judge.proofs.Quartered.{lent-length, moved-fit, late-votes}
-use Rattle.verdict.specs.Readings.{majorities, ownVotes, beforeVotes, afterVotes}
+use Rattle.verdict.specs.Readings.{majorities, beforeVotes}
 use Rattle.verdict.proofs.Several.{by-votes}
 use Rattle.verdict.proofs.votes.feed_before.Statement.{statement}
 use Rattle.verdict.proofs.votes.feed_before.Tie as tie
-use Rattle.verdict.proofs.votes.feed_before.Reads as reads
-use Rattle.verdict.proofs.votes.feed_before.Lts as lts
-use Rattle.verdict.proofs.ways.feed_way.Reads as feed-way-reads
 
 cast-moved : tie.Need-cast-moved
 cast-moved c = omega (arith, (c .before .before .before .before .before .before .pre) .5)

@@ -1,20 +1,16 @@
 -- `feed_own`: the votes as they stand.
-use mathlib.Core.Path.{_≡_, refl, sym, _∙_, ap}
-use mathlib.Core.List.{List}
-use Prim.Native.Nat.{ℕ, suc, _+_, _-_, _*_, _/_, _≤_, _<_}
-use lib.ListN.{length, getD, set, take, drop}
+use mathlib.Core.Path.{_≡_, refl, _∙_}
+use Prim.Native.Nat.{ℕ, _+_, _-_, _/_}
+use lib.ListN.{length}
 use native.Mathlib.Omega.{arith}
 use borrow.Author.Needs.{needs}
 use Rattle.digits.specs.Digits.{digitsOf}
 use Rattle.levels.specs.Sizes.{quarterOf}
 use Rattle.slips.specs.Slips.{lentFrom}
-use Rattle.verdict.specs.Readings.{majorities, ownVotes, beforeVotes, afterVotes}
+use Rattle.verdict.specs.Readings.{majorities, ownVotes}
 use Rattle.verdict.proofs.Several.{by-votes, own-size}
 use Rattle.verdict.proofs.votes.feed_own.Statement.{statement}
 use Rattle.verdict.proofs.votes.feed_own.Tie as tie
-use Rattle.verdict.proofs.votes.feed_own.Reads as reads
-use Rattle.verdict.proofs.votes.feed_own.Lts as lts
-use Rattle.verdict.proofs.ways.feed_way.Reads as feed-way-reads
 
 part-feed-way-end : tie.Need-part-feed-way-end
 part-feed-way-end c = omega (arith, (c .before .before .before .before .before .before .before .before .pre) .1 .accepted .framed .few, (c .before .before .before .before .before .before .before .before .pre) .2 .size)

@@ -1,10 +1,9 @@
 -- `feed_four`: tributary after tributary.
-use mathlib.Core.Path.{_≡_, refl, sym, _∙_, ap}
+use mathlib.Core.Path.{_≡_, refl, sym}
 use mathlib.Core.List.{List}
-use Prim.Native.Nat.{ℕ, suc, _+_, _-_, _*_, _/_, _≤_, _<_}
-use lib.ListN.{length, getD}
+use Prim.Native.Nat.{ℕ, _+_, _-_, _*_, _≤_}
+use lib.ListN.{length}
 use native.Mathlib.Omega.{arith}
-use borrow.Author.Needs.{needs}
 use Rattle.digits.specs.Digits.{digitsOf}
 use Rattle.table.specs.declared.Row.{Row}
 use Rattle.levels.specs.Sizes.{quarterOf}
@@ -12,13 +11,10 @@ use Rattle.levels.specs.Order.{actions}
 use Rattle.slips.specs.Slips.{lentFrom}
 use Rattle.verdict.specs.Blocks.{Block, framesTo}
 use Rattle.verdict.specs.Readings.{carriedIn}
-use Rattle.verdict.specs.Keeping.{blockFrom, blockAt, withBlock, withBlocks}
+use Rattle.verdict.specs.Keeping.{blockAt, withBlock, withBlocks}
 use Rattle.verdict.proofs.Several.{several-none, several-next, several-ahead, run-whole}
 use Rattle.verdict.proofs.ways.feed_four.Statement.{statement}
 use Rattle.verdict.proofs.ways.feed_four.Tie as tie
-use Rattle.verdict.proofs.ways.feed_four.Reads as reads
-use Rattle.verdict.proofs.ways.feed_four.Lts as lts
-use Rattle.verdict.proofs.ways.feed_at.Reads as feed-at-reads
 
 -- tributary j's block after the frames
 abbrev ranIn : List ℕ → ℕ → Row → ℕ → List ℕ → ℕ → List ℕ → List ℕ → ℕ → ℕ → Block

@@ -1,10 +1,8 @@
 -- `feed_way`: the extraction's quarters are the tributaries' readings.
-use mathlib.Core.Path.{_≡_, refl, sym, _∙_, ap}
-use mathlib.Core.List.{List}
-use Prim.Native.Nat.{ℕ, suc, _+_, _-_, _*_, _/_, _≤_, _<_}
+use mathlib.Core.Path.{_≡_, _∙_, ap}
+use Prim.Native.Nat.{ℕ, _+_, _*_, _/_, _≤_, _<_}
 use lib.ListN.{length, getD}
 use native.Mathlib.Omega.{arith}
-use borrow.Author.Needs.{needs}
 use Rattle.digits.specs.Digits.{digitsOf}
 use Rattle.levels.specs.Sizes.{quarterOf}
 use Rattle.levels.specs.Order.{actions}
@@ -13,15 +11,12 @@ use Rattle.extraction.specs.Quarters.{takenTo}
 use Rattle.extraction.proofs.Handed.{quarters-length}
 use Rattle.verdict.specs.Blocks.{Block, framesTo}
 use Rattle.verdict.specs.Readings.{carriedIn, ranOn}
-use Rattle.verdict.specs.Keeping.{blockFrom, blockAt, withBlocks}
+use Rattle.verdict.specs.Keeping.{blockAt}
 use Rattle.verdict.proofs.Waying.{quarter-reads, frames-same}
 use Rattle.verdict.proofs.Several.{several-same}
 use Rattle.verdict.proofs.ways.feed_way.Statement.{statement}
 use Rattle.verdict.proofs.ways.feed_way.Tie as tie
 use Rattle.verdict.proofs.ways.feed_way.Reads as reads
-use Rattle.verdict.proofs.ways.feed_way.Lts as lts
-use Rattle.extraction.proofs.extract_all.Reads as extract-all-reads
-use Rattle.verdict.proofs.ways.feed_four.Reads as feed-four-reads
 
 extract-all-requires : tie.Need-extract-all-requires
 extract-all-requires c κs = ((c .before .before .before .before .before .before .before .pre) .2 .shared, (c .before .before .before .before .before .before .before .pre) .2 .accepted)
