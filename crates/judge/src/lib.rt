@@ -110,7 +110,7 @@ fn no_votes() -> [u8; 66]
 }
 
 // The votes of a line, from place 1 on.
-fn read_votes(row: Row, line: &[u8]) -> [u8; 66]
+pub fn read_votes(row: Row, line: &[u8]) -> [u8; 66]
     requires { ⌜ Shared row × Framed row (length (now line)) (framesOf row (length (now line))) ⌝ }
     ensures { λ r. ⌜ Voted row (now (line .entry)) r ⌝ }
 {
@@ -121,7 +121,7 @@ fn read_votes(row: Row, line: &[u8]) -> [u8; 66]
 }
 
 // How many bytes a reading of so many frames needs: four quarters with the level's room.
-fn room_of(row: Row, frames: usize) -> usize
+pub fn room_of(row: Row, frames: usize) -> usize
     requires { ⌜ Shared row × (frames ≤ 64) ⌝ }
     ensures { λ r. ⌜ (r ≤ 23680) × (r ≡ 4 * (r / 4)) × (frames * row .room ≤ 8 * (r / 4)) ⌝ }
 {
@@ -129,7 +129,7 @@ fn room_of(row: Row, frames: usize) -> usize
 }
 
 // Room for a reading of 64 frames at any level.
-fn empty_room() -> [u8; 23680]
+pub fn empty_room() -> [u8; 23680]
     ensures { λ r. ⌜ 23680 ≡ length r ⌝ }
 {
     [0; 23680]

@@ -4,3 +4,11 @@ pub mod Carried
 pub mod Sizes
 pub mod Kept
 pub mod Waying
+pub mod Several
+pub mod Good
+pub mod Parts
+pub mod Cutting
+pub mod Made
+pub mod Telling
+pub mod Numbers
+pub mod Answers

@@ -10,6 +10,7 @@ use lib.Seq.{length-take-le, getD-take, getD-drop, getD-append-add, ext-getD}
 use borrow.Rule.Slice.PartMut.{same-len-mid}
 use Rattle.digits.specs.Digits.{digitsOf}
 use Rattle.digits.proofs.Laws.{zeros-at}
+use Rattle.digits.proofs.Lists.{part-at}
 use Rattle.table.specs.declared.Row.{Row}
 use Rattle.levels.specs.Table.{Shared}
 use Rattle.levels.specs.Sizes.{quarterOf}
@@ -99,8 +100,15 @@ module _ (ns : List ℕ) (b : ℕ) (blk : Block) (size : length ns ≡ 683) (hb 
   part-long : (c : ℕ) → c < 16 → (xs : List ℕ) → length xs ≡ 683 → length (take 42 (drop (11 + 42 * c) xs)) ≡ 42
   part-long c hc xs h = length-take-le 42 (drop (11 + 42 * c) xs) (omega (arith, h, length-drop (11 + 42 * c) xs))
 
-  pub with-others : (c : ℕ) → c < 16 → c ≢ b → blockAt (withBlock ns b blk) c ≡ blockAt ns c
-  with-others c hc far = ap blockFrom part
+  pub with-part : (c : ℕ) → c < 16 → c ≢ b → take 42 (drop (11 + 42 * c) (withBlock ns b blk)) ≡ take 42 (drop (11 + 42 * c) ns)
+  with-part c hc far =
+      ext-getD 0 _ _ (part-long c hc (withBlock ns b blk) with-length ∙ sym (part-long c hc ns size))
+      (λ i hi.
+      let h : i < 42 = omega (arith, part-long c hc (withBlock ns b blk) with-length) in
+      getD-take 42 (drop (11 + 42 * c) (withBlock ns b blk)) i 0 h
+      ∙ getD-drop (11 + 42 * c) (withBlock ns b blk) i 0
+      ∙ each i h
+      ∙ sym (getD-take 42 (drop (11 + 42 * c) ns) i 0 h ∙ getD-drop (11 + 42 * c) ns i 0))
     where
       each : (i : ℕ) → i < 42 → getD (withBlock ns b blk) (11 + 42 * c + i) 0 ≡ getD ns (11 + 42 * c + i) 0
       each i hi =
@@ -109,12 +117,18 @@ module _ (ns : List ℕ) (b : ℕ) (blk : Block) (size : length ns ≡ 683) (hb 
             | no l ↦ with-high (11 + 42 * c + i) (omega (arith, far))
           ]
 
-      part : take 42 (drop (11 + 42 * c) (withBlock ns b blk)) ≡ take 42 (drop (11 + 42 * c) ns)
-      part =
-          ext-getD 0 _ _ (part-long c hc (withBlock ns b blk) with-length ∙ sym (part-long c hc ns size))
-          (λ i hi.
-          let h : i < 42 = omega (arith, part-long c hc (withBlock ns b blk) with-length) in
-          getD-take 42 (drop (11 + 42 * c) (withBlock ns b blk)) i 0 h
-          ∙ getD-drop (11 + 42 * c) (withBlock ns b blk) i 0
-          ∙ each i h
-          ∙ sym (getD-take 42 (drop (11 + 42 * c) ns) i 0 h ∙ getD-drop (11 + 42 * c) ns i 0))
+  pub with-others : (c : ℕ) → c < 16 → c ≢ b → blockAt (withBlock ns b blk) c ≡ blockAt ns c
+  with-others c hc far = ap blockFrom (with-part c hc far)
+
+  pub with-there : take 42 (drop (11 + 42 * b) (withBlock ns b blk)) ≡ blockNumbers blk
+  unfolding withBlock
+  with-there =
+      part-at (take (11 + 42 * b) ns) (blockNumbers blk) (drop 42 (drop (11 + 42 * b) ns)) (11 + 42 * b) 42 (length-take-le (11 + 42 * b) ns (omega arith)) whole
+
+  pub with-head : take 11 (withBlock ns b blk) ≡ take 11 ns
+  with-head =
+      let long = length-take-le 11 (withBlock ns b blk) (omega (arith, with-length)) in
+      ext-getD 0 _ _ (long ∙ sym (length-take-le 11 ns (omega arith)))
+      (λ i hi.
+      let h : i < 11 = omega (arith, long) in
+      getD-take 11 (withBlock ns b blk) i 0 h ∙ with-low i (omega arith) ∙ sym (getD-take 11 ns i 0 h))
