@@ -12,3 +12,5 @@ pub mod Made
 pub mod Telling
 pub mod Numbers
 pub mod Answers
+pub mod Betters
+pub mod Heading

@@ -4,6 +4,7 @@ pub mod answer;
 pub mod better;
 pub mod blocks;
 pub mod fresh;
+pub mod head;
 pub mod keeping;
 pub mod patterns;
 pub mod refusals;

@@ -1,5 +1,6 @@
 // The ways of reading a line, by its votes: they stand in an array from place 1 on, with a place before them and one behind for the votes that the line does
 // not hold. Moved by a frame or not, the votes that a reading acts on are a part of it.
+use crate::better;
 use crate::ways;
 use table::Row;
 ghost use mathlib.Core.Path.{_≡_};
@@ -10,7 +11,8 @@ ghost use Rattle.levels.specs.Sizes.{framesOf, quarterOf};
 ghost use Rattle.slips.specs.Slips.{lentFrom};
 ghost use Rattle.judge.specs.Counting.{Voted};
 ghost use Rattle.verdict.specs.Keeping.{blockAt, withFour};
-ghost use Rattle.verdict.specs.Readings.{majorities, ownVotes, beforeVotes, afterVotes, ranBy};
+ghost use Rattle.verdict.specs.Readings.{majorities, ownVotes, beforeVotes, afterVotes, ranBy, ranAfter};
+ghost use Rattle.verdict.specs.Blocks.{betterOf};
 ghost use Rattle.verdict.specs.Going.{Ready, Running};
 
 // By the decision of its own frame: way 0.
@@ -151,6 +153,109 @@ pub fn feed_after(
         row,
         first,
         &moved[2..end],
+        line,
+        pattern,
+        room,
+        sent,
+        base,
+        scratch,
+    );
+}
+
+// The same where the vote behind the line's is not known: no tributary stuffed and all four, and the better way is kept.
+fn feed_both(
+    state: &mut [u64],
+    row: Row,
+    votes: [u8; 66],
+    line: &[u8],
+    pattern: u64,
+    room: &mut [u8],
+    sent: &[u8],
+    base: usize,
+    scratch: &mut [u8],
+)
+    requires { ⌜
+        (length (now state) ≡ 683)
+        × Running row pattern (length (now line)) (framesOf row (length (now line))) (length (now room)) base (length (now scratch))
+        × Voted row (now line) votes
+        × ((j : ℕ) → j < 4 → Ready pattern (framesOf row (length (now line))) (blockAt (now state) (4 * 3 + j)))
+        ⌝ }
+    ensures { λ _. ⌜
+        now (state .exit)
+        ≡ withFour (now (state .entry)) 3
+        (λ (j : ℕ).
+        betterOf
+        (ranBy row pattern (lentFrom base (digitsOf (quarterOf (now (sent .entry)) j))) (now (line .entry))
+        (afterVotes (majorities row (now (line .entry))) 0) j (blockAt (now (state .entry)) (4 * 3 + j)))
+        (ranBy row pattern (lentFrom base (digitsOf (quarterOf (now (sent .entry)) j))) (now (line .entry))
+        (afterVotes (majorities row (now (line .entry))) 15) j (blockAt (now (state .entry)) (4 * 3 + j))))
+        ⌝ }
+{
+    let mut other = better::copy_of(state);
+    feed_after(
+        state,
+        row,
+        0,
+        votes,
+        line,
+        pattern,
+        room,
+        sent,
+        base,
+        scratch,
+    );
+    feed_after(
+        &mut other[0..683],
+        row,
+        15,
+        votes,
+        line,
+        pattern,
+        room,
+        sent,
+        base,
+        scratch,
+    );
+    better::keep_last(state, &other[0..683]);
+}
+
+// By that of the frame after, whether its vote is known or 16.
+pub fn feed_next(
+    state: &mut [u64],
+    row: Row,
+    next: u64,
+    votes: [u8; 66],
+    line: &[u8],
+    pattern: u64,
+    room: &mut [u8],
+    sent: &[u8],
+    base: usize,
+    scratch: &mut [u8],
+)
+    requires { ⌜
+        (length (now state) ≡ 683)
+        × Running row pattern (length (now line)) (framesOf row (length (now line))) (length (now room)) base (length (now scratch))
+        × Voted row (now line) votes
+        × ((j : ℕ) → j < 4 → Ready pattern (framesOf row (length (now line))) (blockAt (now state) (4 * 3 + j)))
+        × (next ≤ 16)
+        ⌝ }
+    ensures { λ _. ⌜
+        now (state .exit)
+        ≡ withFour (now (state .entry)) 3
+        (λ (j : ℕ).
+        ranAfter row pattern (lentFrom base (digitsOf (quarterOf (now (sent .entry)) j))) (now (line .entry)) (majorities row (now (line .entry))) next j
+        (blockAt (now (state .entry)) (4 * 3 + j)))
+        ⌝ }
+{
+    if next == 16 {
+        feed_both(state, row, votes, line, pattern, room, sent, base, scratch);
+        return;
+    }
+    feed_after(
+        state,
+        row,
+        next,
+        votes,
         line,
         pattern,
         room,
