@@ -310,12 +310,14 @@ static double now(void)
 
 static double best[LEVELS][TASKS][ENGINES];
 
-/* The engines take turns, so that what else the machine does hits all alike. */
-static void time_once(void)
+/* The engines take turns, so that what else the machine does hits all alike. Each is first in its turn: the first finds the input that all read where the
+   task before left it, and those after it find it in the cache. */
+static void time_once(unsigned first)
 {
     for (unsigned level = 0; level < LEVELS; level++)
         for (unsigned task = 0; task < TASKS; task++)
-            for (unsigned e = 0; e < ENGINES; e++) {
+            for (unsigned turn = 0; turn < ENGINES; turn++) {
+                unsigned e = (first + turn) % ENGINES;
                 double begin = now(), took;
 
                 run(task, &engines[e], &inputs[level], &outputs[level][e]);
@@ -343,7 +345,7 @@ static void print_table(void)
                     printf(" %19s | %14s |", "-", "-");
                     continue;
                 }
-                printf(" %19.3f | %14.1f |", each, 1e6 / row->kilobits / each);
+                printf(" %19.4f | %14.1f |", each, 1e6 / row->kilobits / each);
             }
             printf("\n");
         }
@@ -364,7 +366,7 @@ int main(int count, char **words)
     compare_multiframes();
     fprintf(stderr, "bench: all give the same bytes\n");
     while (repeats--) {
-        time_once();
+        time_once((unsigned)repeats % ENGINES);
         time_multiframes();
     }
     print_table();

@@ -25,22 +25,27 @@ read_notes_call plain_read_notes, quick_read_notes;
 extract_call plain_extract, quick_extract;
 feed_call plain_receiver_feed, quick_receiver_feed;
 
-/* The swap of one tributary, in the plain engine only. */
+/* The swap of one tributary. */
 typedef uint64_t swap_call(uint64_t level, uint64_t earlier, uint64_t tributary, uint8_t *line, size_t line_bytes,
                            const uint8_t *notes, size_t notes_bytes, const uint8_t *buffer, size_t buffer_bytes, uint64_t answer[1]);
 
-swap_call plain_swap;
+swap_call plain_swap, quick_swap;
 
-/* The repair of a line, in the plain engine only. */
+/* The repair of a line. */
 typedef uint64_t repair_call(uint64_t level, uint64_t earlier, uint64_t national, uint8_t *line, size_t line_bytes, uint64_t answer[10]);
 
-repair_call plain_repair;
+repair_call plain_repair, quick_repair;
 
 /* The verdict on a line, in the plain engine only. */
 typedef uint64_t judge_call(uint64_t level, uint64_t earlier, const uint8_t *line, size_t line_bytes, uint64_t pattern, const uint8_t *buffer,
                             size_t buffer_bytes, uint64_t answer[20]);
 
 judge_call plain_judge;
+
+/* How many digits of two slices differ: what the verdict in the receiver's manner is held against (quick_count.c). */
+typedef uint64_t count_call(const uint8_t *one, const uint8_t *other, size_t bytes);
+
+count_call plain_count, quick_count;
 
 /* The multiframe of 2048 kbit/s, in the plain engine only: its channels are whole bytes anyway. */
 typedef uint64_t build_call(uint8_t *multiframe, size_t multiframe_bytes, const uint8_t *channels, size_t channels_bytes,

@@ -1,5 +1,6 @@
 #!/usr/bin/env python3
-"""The benchmark's first table, ten lines: what each call takes at 139264 kbit/s, how many such lines one processor could serve, and beside quick C where there is one.
+"""The benchmark's first tables. Ten lines: what each call takes at 139264 kbit/s, how many such lines one processor could serve, and beside quick C where there is one.
+Four more: the verdict in the receiver's manner beside the limits asked of it, which are of a digit of one reading with extraction apart.
 
     bench/summary.py FOLDER     the folder in which bench/run keeps its tables
 """
@@ -41,6 +42,18 @@ def main():
     for said, name, first in (('swap a tributary', 'swap-table', 'one tributary'), ('repair a worn line', 'repair-table', 'a digit in 100'), ('judge a line, five readings', 'judge-table', 'digits sent')):
         print(line(said, rows(folder, name), first, '4', RATE))
     print(line('find frames of 2048 kbit/s, hunting', finder, 'finder, hunting', None, RATE_2048))
+    limits(rows(folder, 'verdict-table'))
+
+
+def limits(found):
+    """The dearest level of each kind of line, in nanoseconds and beside the XOR, and what was asked."""
+    library, quick = heads(found)
+    plain = next(k for k, cell in enumerate(found[0]) if cell.startswith('plain C'))
+    print('\n| a verdict, a digit of one reading | ns, the dearest level | times XOR and count, plain C | quick C | asked |\n|---|---:|---:|---:|---|')
+    for kind, asked in (('clean', '2 times'), ('1 in 1000 wrong', '1 ns'), ('slips', '15 ns'), ('clean, pattern 15', '2 times')):
+        dearest = max((row for row in found if row[0] == kind), key=lambda row: float(row[library]))
+        took = float(dearest[library])
+        print(f'| {kind} | {took:.3f} | {took / float(dearest[plain]):.1f} | {took / float(dearest[quick]):.1f} | {asked} |')
 
 
 main()

@@ -1,7 +1,7 @@
 /*
- * Times the swap of one tributary beside a plain one in C, digit by digit as one would write it first, which judges nothing, and beside
- * the other way to the same line: all four multiplexed anew, by the library's whole-byte engine. Before timing, all three are seen to
- * give the same line, for every tributary.
+ * Times the swap of one tributary beside a plain one in C, digit by digit as one would write it first, and a quick one, both of which
+ * judge nothing, and beside the other way to the same line: all four multiplexed anew, by the library's whole-byte engine. Before timing,
+ * all are seen to give the same line, for every tributary.
  *
  * usage: swap REPEATS
  */
@@ -15,7 +15,7 @@
 #include "rows.h"
 #include "spritbobbin.h"
 
-enum { FRAMES = 64, WAYS = 3 };
+enum { FRAMES = 64, WAYS = 4, ANEW = 3 };
 enum { LINE_BYTES = FRAMES * 366, QUARTER_BYTES = (FRAMES * 723 + 7) / 8 };
 
 /* Of one level: a line, and what tributary 2 becomes of it. */
@@ -43,21 +43,19 @@ static double now(void)
     return 1e9 * (double)time.tv_sec + (double)time.tv_nsec;
 }
 
+static swap_call *const swaps[ANEW] = {spritbobbin_swap, plain_swap, quick_swap};
+static const char *const names[ANEW] = {"the library", "plain C", "quick C"};
+
 /* Tributary j of a line by one of the ways, which leaves the line of the buffer's four. */
 static uint64_t run(const struct row *row, unsigned way, uint64_t j)
 {
     const uint8_t *digits = of.buffer + (j - 1) * of.quarter;
     uint64_t answer[5], refused;
 
-    switch (way) {
-    case 0:
-        refused = spritbobbin_swap(row->level, of.earlier, j, of.line[0], of.line_bytes, of.notes, FRAMES, digits, of.quarter, answer);
-        break;
-    case 1:
-        refused = plain_swap(row->level, of.earlier, j, of.line[1], of.line_bytes, of.notes, FRAMES, digits, of.quarter, answer);
-        break;
-    default:
-        refused = spritbobbin_multiplex(row->level, of.earlier, of.line[2], of.line_bytes, of.notes, FRAMES,
+    if (way < ANEW) {
+        refused = swaps[way](row->level, of.earlier, j, of.line[way], of.line_bytes, of.notes, FRAMES, digits, of.quarter, answer);
+    } else {
+        refused = spritbobbin_multiplex(row->level, of.earlier, of.line[ANEW], of.line_bytes, of.notes, FRAMES,
                                         of.buffer, 4 * of.quarter, answer);
         answer[0] = answer[j - 1];
     }
@@ -86,18 +84,17 @@ static void make(const struct row *row)
         of.notes[f] = sendable(row, random_number());
     for (size_t i = 0; i < 4 * of.quarter; i++)
         of.buffer[i] = (uint8_t)random_number();
-    run(row, 2, 1);
-    for (unsigned way = 0; way < 2; way++)
-        memcpy(of.line[way], of.line[2], of.line_bytes);
+    run(row, ANEW, 1);
+    for (unsigned way = 0; way < ANEW; way++)
+        memcpy(of.line[way], of.line[ANEW], of.line_bytes);
     for (uint64_t j = 1; j <= 4; j++) {
         uint64_t taken;
 
         change(j);
-        taken = run(row, 2, j);
-        for (unsigned way = 0; way < 2; way++)
-            if (run(row, way, j) != taken || memcmp(of.line[way], of.line[2], of.line_bytes) != 0) {
-                fprintf(stderr, "bench: level %u: tributary %u: %s swaps otherwise\n", (unsigned)row->level, (unsigned)j,
-                        way ? "plain C" : "the library");
+        taken = run(row, ANEW, j);
+        for (unsigned way = 0; way < ANEW; way++)
+            if (run(row, way, j) != taken || memcmp(of.line[way], of.line[ANEW], of.line_bytes) != 0) {
+                fprintf(stderr, "bench: level %u: tributary %u: %s swaps otherwise\n", (unsigned)row->level, (unsigned)j, names[way]);
                 exit(1);
             }
     }
@@ -111,8 +108,8 @@ int main(int count, char **words)
         fprintf(stderr, "usage: swap REPEATS\n");
         return 2;
     }
-    puts("| swap              | level | library, ns a digit | plain C, ns a digit | library, all four multiplexed anew, ns a digit |");
-    puts("|---|---|---:|---:|---:|");
+    puts("| swap              | level | library, ns a digit | plain C, ns a digit | quick C, ns a digit | library / quick C | library, all four multiplexed anew, ns a digit |");
+    puts("|---|---|---:|---:|---:|---:|---:|");
     for (unsigned level = 0; level < LEVELS; level++) {
         double best[WAYS] = {0};
 
@@ -127,9 +124,9 @@ int main(int count, char **words)
                     best[way] = took;
             }
         printf("| %-17s | %5u |", "one tributary", (unsigned)ROWS[level].level);
-        for (unsigned way = 0; way < WAYS; way++)
+        for (unsigned way = 0; way < ANEW; way++)
             printf(" %19.3f |", best[way] / (FRAMES * ROWS[level].frame_digits));
-        printf("\n");
+        printf(" %17.2f | %19.3f |\n", best[0] / best[2], best[ANEW] / (FRAMES * ROWS[level].frame_digits));
     }
     fprintf(stderr, "bench: the ways to swap give the same lines\n");
     return 0;

@@ -89,20 +89,19 @@
  *      rack: it has over 64 records
  *   3  the notes are not exactly F bytes
  *   4  the buffer's length is not a multiple of 4, or a quarter has fewer digits than F times the
- *      level's room (asked even where frames are stuffed and fewer are needed)
+ *      level's room (asked even where frames are stuffed and fewer are needed); for a verdict only
+ *      the first of the two
  *   5  multiplexing and extraction: earlier is over 15, at level 12 or 14, and the answer names
  *      frame 0; or a note has a bit set that notes of its level have not, which is bit 6 or 7 at
  *      level 2 or 3, and bits 4 to 7 at level 12 or 14, and the answer names the first such frame,
- *      counted from 0; for a swap, a repair or a judgement only the first of the two, and no frame is
- *      named
+ *      counted from 0; for a swap, a repair, a judgement or a fresh verdict only the first of the two, and no
+ *      frame is named; for a feed of a verdict: next is over 16
  *   6  the receiver state is not valid: a level as under 1, a window of 2 to the L
  *      or more, over L digits seen, a mode over 6, a place of N or more, hunting at a place
  *      other than 0, not hunting with fewer than L digits seen, N or more digits in the
  *      stretch, more zeros than digits there, or a number for yes or no that is over 1; for the
- *      finder of 2048 kbit/s frames: see spritbobbin_finder_feed
- *   7  first + count is more than the digits of the slice; for a copy, of either slice; for where a
- *      recording begins: see spritbobbin_begins; for what a place is: there is no such place
- *   7  first + count is more than the digits of the slice, or of the lines that are compared
+ *      finder of 2048 kbit/s frames: see spritbobbin_finder_feed; for a verdict: the state is none
+ *      that spritbobbin_verdict_fresh and feeds make, as far as that can be told
  *   7  first + count is more than the digits of the slice, for a copy of either slice, or of the
  *      lines that are compared; for where a recording begins: see spritbobbin_begins; for what a
  *      place is: there is no such place
@@ -115,16 +114,17 @@
  *  11  building a multiframe: the signalling of one of channels 1 to 15 is 0000; the answer names
  *      the first such channel
  *  12  a swap: the tributary is not 1, 2, 3 or 4
- *  13  a judgement: the pattern is not 0, 15 or 23
+ *  13  a judgement or a fresh verdict: the pattern is not 0, 15 or 23
  *
  * For a capture 4 means that the file's buffer is shorter than the file; for a swap, that the
  * buffer has fewer digits than F times the level's room.
  *
  * Where several apply, the first in this order is returned: 1, 2, 3, 4, 5, 10 for multiplexing (5
  * in any note before 10 in any); 1, 2, 3, 4, 5 for extraction; 1, 12, 2, 3, 4, 5 for a swap; 1, 2, 5
- * for a repair; 1, 13, 2, 4, 5 for a judgement; 6, 2, 7 for a piece; 1, 2, 9, 4 for writing a capture,
- * 9, 1, 2 for reading one; 2, 11 for building a multiframe; for comparisons see spritbobbin_compare
- * and the two behind it; for a rack 8, 2 and then as a piece, or 1 for a reset.
+ * for a repair; 1, 13, 2, 4, 5 for a judgement; 1, 13, 5 for a fresh verdict and 6, 2, 4, 5 for its
+ * feeds; 6, 2, 7 for a piece; 1, 2, 9, 4 for writing a capture, 9, 1, 2 for reading one; 2, 11 for
+ * building a multiframe; for comparisons see spritbobbin_compare and the two behind it; for a rack
+ * 8, 2 and then as a piece, or 1 for a reset.
  *
  * A refused call writes nothing that it was lent, but the answer: all its numbers are 0, except the
  * named frame under 5 and 10, the named byte under 9, the named channel under 11 and the file at
@@ -298,6 +298,7 @@ enum {
 #define SPRITBOBBIN_SWAP_ANSWER 1
 #define SPRITBOBBIN_REPAIR_ANSWER 10
 #define SPRITBOBBIN_JUDGE_ANSWER 20
+#define SPRITBOBBIN_VERDICT_ANSWER 88
 #define SPRITBOBBIN_RECEIVER_ANSWER 4
 #define SPRITBOBBIN_RACK_ALIGNED_ANSWER 1
 #define SPRITBOBBIN_FINDER_ANSWER 2
@@ -312,9 +313,10 @@ enum {
 #define SPRITBOBBIN_PLACE_ANSWER 2
 #define SPRITBOBBIN_MULTIFRAME_PLACE_ANSWER 2
 #define SPRITBOBBIN_BEGINS_ANSWER 2
-/* And how many the states of a receiver and of a finder have. */
+/* And how many the states of a receiver, of a finder and of a verdict have. */
 #define SPRITBOBBIN_RECEIVER_STATE 9
 #define SPRITBOBBIN_FINDER_STATE 4
+#define SPRITBOBBIN_VERDICT_STATE 683
 
 /* What stands where in the answers, by the call; tributary is 1 to 4. */
 #define SPRITBOBBIN_MULTIPLEX_DIGITS(tributary) ((tributary) - 1)
@@ -416,6 +418,29 @@ enum {
     SPRITBOBBIN_FITS_BY_BEFORE = 2, /* the frame index is late */
     SPRITBOBBIN_FITS_BY_AFTER = 4   /* it is early */
 };
+
+/* What stands where in the answer of a verdict, tributary being 1 to 4 and reading one of the three. */
+enum {
+    SPRITBOBBIN_VERDICT_OWN = 0,    /* read by the decision of its own frame */
+    SPRITBOBBIN_VERDICT_BEFORE = 1, /* of the frame before: the frame index is late */
+    SPRITBOBBIN_VERDICT_AFTER = 2,  /* of the frame after: it is early */
+    SPRITBOBBIN_VERDICT_SLIP = 16,  /* what a slip costs, in wrong digits */
+    SPRITBOBBIN_VERDICT_NEXT_UNKNOWN = 16 /* next, where the vote of the next frame is not known */
+};
+#define SPRITBOBBIN_VERDICT_CHANGES(tributary) (22 * (tributary) - 22)
+#define SPRITBOBBIN_VERDICT_DIGITS(tributary, reading) (22 * (tributary) - 21 + 7 * (reading)) /* read */
+#define SPRITBOBBIN_VERDICT_UNJUDGED(tributary, reading) (22 * (tributary) - 20 + 7 * (reading)) /* before the pattern */
+#define SPRITBOBBIN_VERDICT_RIGHT(tributary, reading) (22 * (tributary) - 19 + 7 * (reading)) /* before the first that differs */
+#define SPRITBOBBIN_VERDICT_WRONG(tributary, reading) (22 * (tributary) - 18 + 7 * (reading))
+#define SPRITBOBBIN_VERDICT_SLIPS(tributary, reading) (22 * (tributary) - 17 + 7 * (reading))
+#define SPRITBOBBIN_VERDICT_SHIFT(tributary, reading) (22 * (tributary) - 16 + 7 * (reading)) /* as int64_t */
+#define SPRITBOBBIN_VERDICT_ENTERED(tributary, reading) (22 * (tributary) - 15 + 7 * (reading))
+
+#if defined(__cplusplus) && __cplusplus >= 201103L
+static_assert(SPRITBOBBIN_VERDICT_ENTERED(4, SPRITBOBBIN_VERDICT_AFTER) + 1 == SPRITBOBBIN_VERDICT_ANSWER, "an answer ends with its last number");
+#elif defined(__STDC_VERSION__) && __STDC_VERSION__ >= 201112L
+_Static_assert(SPRITBOBBIN_VERDICT_ENTERED(4, SPRITBOBBIN_VERDICT_AFTER) + 1 == SPRITBOBBIN_VERDICT_ANSWER, "an answer ends with its last number");
+#endif
 
 /* What stands where in a receiver's state, and the mode numbers. */
 enum {
@@ -549,6 +574,50 @@ uint64_t spritbobbin_repair(uint64_t level, uint64_t earlier, uint64_t national,
  */
 uint64_t spritbobbin_judge(uint64_t level, uint64_t earlier, const uint8_t *line, size_t line_bytes, uint64_t pattern,
                            const uint8_t *buffer, size_t buffer_bytes, uint64_t answer[SPRITBOBBIN_JUDGE_ANSWER]);
+
+/*
+ * Makes a fresh verdict on a recording of any length, before its first frame.
+ *
+ * earlier: at levels 12 and 14 the vote of the frame before the first; at levels 2 to 4 it is not
+ * looked at. pattern: what was sent, as for spritbobbin_judge: 0 for the digits that each feed is
+ * lent, 15 or 23 for a test set's pattern.
+ *
+ * Writes all of state, whose layout is the library's own. It may be copied and put back. Returns 0,
+ * or 1, 13 or 5; the state is then all zero and a feed refuses it with 6.
+ */
+uint64_t spritbobbin_verdict_fresh(uint64_t level, uint64_t earlier, uint64_t pattern, uint64_t state[SPRITBOBBIN_VERDICT_STATE]);
+
+/*
+ * Gives a verdict the next frames of the recording, 0 to 64 whole ones, and says what the recording so
+ * far comes to: did the clock move, or the frame index?
+ *
+ * Each tributary is read in three ways as by spritbobbin_judge, and each reading is explained as
+ * cheaply as possible by wrong digits and by slips, where the tributary lost a digit or doubled one. A
+ * path gives each digit read a shift, from 0 on: digit i is held against the digit sent of number
+ * i + shift. It costs 1 for each digit that differs and 16 for each step of the shift by one, and keeps
+ * within 8 of the middle of its frame; the middle of the next frame is then the cheapest shift at the
+ * end of this one. Of the paths that cost least the one with the fewest slips is told. So wrong digits
+ * and slips say which multiplexer made the line: a slip of the clock is in every reading, and a reading
+ * by the wrong frame slips at every change of decision.
+ *
+ * next: the vote of the frame after these (0 to 15), or 16 where it is not known, as at the end of the
+ * recording; the last frame's reading by the frame after is then tried both ways. sent: four equal
+ * quarters of any length, each beginning with digit number first of its tributary; a sent digit that is
+ * not lent differs. With a pattern sent is not looked at, and a reading is judged from the first digit p
+ * on such that the 64 digits after the 15 (23) from p on all meet the recurrence.
+ *
+ * Calls in turn are one call on all their frames: feeds may be cut anywhere between two frames.
+ *
+ * answer: 22 numbers for each tributary. In how many frames of all fed the decision differs from the
+ * frame before; then seven for each reading (own, before, after): digits read; digits before the
+ * pattern was taken up (all of them while it is not, and then the rest is 0); digits right from the first
+ * judged one on, each beside the sent digit of its own number, before the first that differs; wrong
+ * digits; slips; the shift (an int64_t, in two's complement); the number of the digit at which this shift
+ * was last entered, 0 if it never was. Returns 0, or 6, 2, 4 (pattern 0 only: sent_bytes is not a multiple
+ * of 4) or 5 (next is over 16); the state is then as it was.
+ */
+uint64_t spritbobbin_verdict_feed(uint64_t state[SPRITBOBBIN_VERDICT_STATE], const uint8_t *line, size_t line_bytes, uint64_t next,
+                                  const uint8_t *sent, size_t sent_bytes, uint64_t first, uint64_t answer[SPRITBOBBIN_VERDICT_ANSWER]);
 
 /*
  * The plain engine: a second engine that goes digit by digit and shares only the level table with

@@ -1,4 +1,4 @@
-"""The text of a command, made of its JSON object; for tests/program.
+"""The text of a command, made of its JSON object; for tests/commands.
 
 What a command says as JSON and what it says as text are two forms of the same; here the one is made of the other, by what docs/JSON.md says of each field.
 """

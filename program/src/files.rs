@@ -260,10 +260,13 @@ pub struct Output {
     behind: Option<Behind>,
 }
 
+/// Bytes to be written: where, the vector, and how many of its first.
+type Writing = (u64, Vec<u8>, usize);
+
 /// A thread that writes while the next frames are made.
 #[derive(Debug)]
 struct Behind {
-    to: SyncSender<(u64, Vec<u8>)>,
+    to: SyncSender<Writing>,
     /// What was written comes back, to be filled again.
     back: Receiver<Vec<u8>>,
     thread: JoinHandle<io::Result<()>>,
@@ -272,11 +275,11 @@ struct Behind {
 impl Behind {
     fn new(file: &File) -> io::Result<Behind> {
         let file = file.try_clone()?;
-        let (to, from) = sync_channel::<(u64, Vec<u8>)>(4);
+        let (to, from) = sync_channel::<Writing>(4);
         let (done, back) = channel();
         let thread = thread::spawn(move || {
-            for (at, bytes) in from {
-                file.write_all_at(&bytes, at)?;
+            for (at, bytes, count) in from {
+                file.write_all_at(bytes.get(..count).unwrap_or_default(), at)?;
                 // Nobody wants it back at the end.
                 let _ = done.send(bytes);
             }
@@ -348,10 +351,10 @@ impl Output {
             return Ok(());
         }
         let waiting = std::mem::take(&mut self.waiting);
-        let bytes = waiting.len() as u64;
-        self.waiting = self.write_behind(self.at, waiting)?;
+        let bytes = waiting.len();
+        self.waiting = self.write_behind(self.at, waiting, bytes)?;
         self.waiting.clear();
-        self.at = self.at.saturating_add(bytes);
+        self.at = self.at.saturating_add(bytes as u64);
         Ok(())
     }
 
@@ -366,14 +369,20 @@ impl Output {
         }
     }
 
-    /// Has the bytes written at this place while the command goes on, and answers a vector to be filled anew, with whatever is in it.
-    pub fn write_behind(&mut self, at: u64, bytes: Vec<u8>) -> Result<Vec<u8>, Failure> {
+    /// Has the first so many bytes written at this place while the command goes on, and answers a vector to be filled anew, with
+    /// whatever is in it.
+    pub fn write_behind(
+        &mut self,
+        at: u64,
+        bytes: Vec<u8>,
+        count: usize,
+    ) -> Result<Vec<u8>, Failure> {
         let not_whole = |name: &Path, why: &io::Error| Failure::not_whole(name, why);
         let behind = match self.behind.take() {
             Some(behind) => behind,
             None => Behind::new(&self.file).map_err(|why| not_whole(&self.name, &why))?,
         };
-        if behind.to.send((at, bytes)).is_err() {
+        if behind.to.send((at, bytes, count)).is_err() {
             // The thread has ended, which it does only where it could not write.
             let why = behind.end().err().unwrap_or_else(|| ErrorKind::Other.into());
             return Err(not_whole(&self.name, &why));

@@ -21,7 +21,6 @@ mod files;
 mod level;
 mod listening;
 mod made;
-#[cfg(feature = "verdict")]
 mod page;
 mod pictures;
 mod places;
@@ -31,7 +30,6 @@ mod report;
 mod runs;
 mod stretches;
 mod totals;
-#[cfg(feature = "verdict")]
 mod verdict;
 
 use std::io::Write;

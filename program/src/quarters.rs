@@ -134,13 +134,12 @@ impl Part {
         let last: Vec<u8> = self.waiting.get(whole).copied().into_iter().collect();
         let left = self.digits.saturating_sub(digits_in(bytes));
         if self.aside.is_some() {
-            self.write(output, start, whole)?;
+            self.write(output, start, self.waiting.get(..whole).unwrap_or_default())?;
         } else {
-            let mut full = std::mem::take(&mut self.waiting);
-            full.truncate(whole);
-            self.waiting = output.write_behind(start.saturating_add(self.written), full)?;
+            let full = std::mem::take(&mut self.waiting);
+            self.waiting = output.write_behind(start.saturating_add(self.written), full, whole)?;
         }
-        self.waiting.clear();
+        // Whatever stands in it is written over, or stands behind the digits.
         self.waiting.resize(usize::try_from(WINDOW).unwrap_or(0), 0);
         copy_digits(&mut self.waiting, 0, &last, 0, usize::try_from(left).unwrap_or(0))?;
         self.digits = left;
@@ -148,13 +147,15 @@ impl Part {
         Ok(())
     }
 
-    /// Writes the byte that is not full.
+    /// Writes the byte that is not full, with zeros behind its digits.
     fn rest(&mut self, output: &Output, start: u64) -> Result<(), Failure> {
-        self.write(output, start, usize::from(self.digits > 0))
+        let mut last = [0];
+        let digits = usize::try_from(self.digits).unwrap_or(0);
+        copy_digits(&mut last, 0, &self.waiting, 0, digits)?;
+        self.write(output, start, if digits > 0 { &last } else { &[] })
     }
 
-    fn write(&self, output: &Output, start: u64, count: usize) -> Result<(), Failure> {
-        let slice = self.waiting.get(..count).unwrap_or_default();
+    fn write(&self, output: &Output, start: u64, slice: &[u8]) -> Result<(), Failure> {
         match &self.aside {
             Some(file) => file
                 .write_all_at(slice, self.written)

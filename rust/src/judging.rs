@@ -13,7 +13,7 @@ pub enum Pattern {
 }
 
 impl Pattern {
-    fn number(self) -> u64 {
+    pub(crate) fn number(self) -> u64 {
         match self {
             Pattern::Fifteen => 15,
             Pattern::TwentyThree => 23,

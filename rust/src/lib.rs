@@ -17,6 +17,8 @@
 //! - [`begins`] finds where a recording begins in what was sent.
 //! - [`judge`] reads a line by the decision of its own frame, of the frame before and of the frame
 //!   after, and says by which it is what was sent.
+//! - A [`VerdictState`] does so over a recording of any length, worn and slipped as recordings are: it
+//!   explains each reading as cheaply as possible by wrong digits and slips.
 //! - A [`Receiver`] finds frames in a stream that comes in pieces of any size; a [`FrameStream`]
 //!   reads the stream too.
 //! - A [`Rack`] keeps the receivers of up to 64 lines.
@@ -115,6 +117,7 @@ mod span;
 #[cfg(feature = "std")]
 mod stream;
 mod swapping;
+mod verdict;
 mod version;
 
 pub use beginning::{begins, Beginning};
@@ -142,4 +145,5 @@ pub use span::{digits_in, span, whole_bytes, Span};
 #[cfg(feature = "std")]
 pub use stream::FrameStream;
 pub use swapping::swap;
+pub use verdict::{Explanation, TributaryVerdict, VerdictState};
 pub use version::{version, Version};

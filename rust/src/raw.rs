@@ -8,6 +8,9 @@
 /// The bytes of the longest frame: a receiver's store has as many at every level.
 pub const STORE: usize = 366;
 
+/// The numbers of a verdict's state.
+pub const VERDICT_STATE: usize = 683;
+
 /// A record of a rack, laid out as the library lays it out: a receiver's state and its frame in hand.
 #[repr(C)]
 #[derive(Clone, Debug, PartialEq, Eq)]
@@ -176,6 +179,27 @@ extern "C" {
         answer: &mut [u64; 20],
     ) -> u64;
 
+    pub fn spritbobbin_verdict_fresh(
+        level: u64,
+        earlier: u64,
+        pattern: u64,
+        state: &mut [u64; VERDICT_STATE],
+    ) -> u64;
+
+    /// Answer: of tributaries 1 to 4 each the changes of its decision, and then of its readings by its own
+    /// frame, by the frame before and by the frame after each the digits read, those before the pattern was
+    /// taken up, those right at first, wrong digits, slips, the shift and where it was entered.
+    pub fn spritbobbin_verdict_feed(
+        state: &mut [u64; VERDICT_STATE],
+        line: *const u8,
+        line_bytes: usize,
+        next: u64,
+        sent: *const u8,
+        sent_bytes: usize,
+        first: u64,
+        answer: &mut [u64; 88],
+    ) -> u64;
+
     /// State: level, window, digits seen, mode, place, the stretch's digits and zeros, 1 if the
     /// stretch before had few zeros, 1 if the alarm stands.
     pub fn spritbobbin_receiver_fresh(
@@ -301,6 +325,7 @@ extern "C" {
         count: u64,
         answer: &mut [u64; 16],
     ) -> u64;
+
     /// Answer: the number, and how many digits differ there.
     pub fn spritbobbin_begins(
         read: *const u8,

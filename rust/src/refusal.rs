@@ -67,12 +67,22 @@ pub enum Refusal {
         /// The frames of the line.
         frames: usize,
     },
+    /// What was sent is not four equal quarters.
+    Quarters {
+        /// Its bytes.
+        bytes: usize,
+    },
     /// The earlier vote is over 15.
     Earlier {
         /// The level asked for.
         level: Level,
         /// The vote given.
         earlier: u8,
+    },
+    /// The vote of the frame that comes next is over 15.
+    Next {
+        /// The vote given.
+        next: u8,
     },
     /// A note has a bit that notes of its level have not.
     NoteBits {
@@ -159,8 +169,9 @@ impl Refusal {
             Refusal::Level { .. } => 1,
             Refusal::Line { .. } | Refusal::Slice { .. } | Refusal::Rack { .. } => 2,
             Refusal::Notes { .. } => 3,
-            Refusal::Buffer { .. } | Refusal::OneBuffer { .. } | Refusal::File { .. } => 4,
-            Refusal::Earlier { .. } | Refusal::NoteBits { .. } => 5,
+            Refusal::Buffer { .. } | Refusal::OneBuffer { .. } => 4,
+            Refusal::Quarters { .. } | Refusal::File { .. } => 4,
+            Refusal::Earlier { .. } | Refusal::Next { .. } | Refusal::NoteBits { .. } => 5,
             Refusal::State => 6,
             Refusal::Digits { .. } | Refusal::Place { .. } => 7,
             Refusal::RackLine { .. } => 8,
@@ -198,6 +209,16 @@ impl fmt::Display for Refusal {
                  {} or more",
                 counted(frames, "frame"),
                 level.quarter_bytes(frames)
+            ),
+            Refusal::Quarters { bytes } => write!(
+                out,
+                "what was sent has {}, which are not four equal quarters: give a multiple of 4",
+                counted(bytes, "byte")
+            ),
+            Refusal::Next { next } => write!(
+                out,
+                "the vote of the next frame is {next}: give 0 to 15, a bit to each tributary, or none \
+                 where it is not known"
             ),
             Refusal::Earlier { level, earlier } => write!(
                 out,

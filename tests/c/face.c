@@ -1,6 +1,6 @@
 /*
  * Calls every function of the library through its header, from C: worked cases 1, 9, 10 and 11
- * of the specification, frames of levels 12 and 14 worked by hand, swaps, repairs, judgements, each refusal, the digits of a line, captures,
+ * of the specification, frames of levels 12 and 14 worked by hand, swaps, repairs, judgements, verdicts, each refusal, the digits of a line, captures,
  * copies of digits, what a place is, late lines, beginnings, comparisons, multiframes, frames of 2048 kbit/s and a rack of lines. Prints "face: ok", or what failed.
  *
  * All bytes that are lent come from malloc in their exact number, so that valgrind sees a read or
@@ -398,6 +398,80 @@ static void judgements(void)
     free(notes);
     free(buffer);
     free(ones);
+}
+
+/* A fresh verdict, or a feed of one, that is refused with this number: a fresh one is zeros, and a feed leaves its state and answers zeros. */
+static void refused_verdict(uint64_t level, uint64_t earlier, uint64_t pattern, uint64_t refusal)
+{
+    uint64_t state[SPRITBOBBIN_VERDICT_STATE], answer[SPRITBOBBIN_VERDICT_ANSWER];
+
+    memset(state, 0xA5, sizeof state);
+    memset(answer, 0xA5, sizeof answer);
+    check(spritbobbin_verdict_fresh(level, earlier, pattern, state) == refusal, "the refusal of a fresh verdict");
+    check(all_zero(state, SPRITBOBBIN_VERDICT_STATE), "its state is zeros");
+    check(spritbobbin_verdict_feed(state, NULL, 0, SPRITBOBBIN_VERDICT_NEXT_UNKNOWN, NULL, 0, 0, answer) == SPRITBOBBIN_REFUSED_STATE, "which no feed takes");
+    check(all_zero(answer, SPRITBOBBIN_VERDICT_ANSWER), "and answers nothing");
+}
+
+static void refused_feed(uint64_t level, uint64_t pattern, size_t line_bytes, uint64_t next, size_t sent_bytes, uint64_t refusal)
+{
+    uint8_t *line = lend(line_bytes, 0xA5), *sent = lend(sent_bytes, 0x5A);
+    uint64_t state[SPRITBOBBIN_VERDICT_STATE], before[SPRITBOBBIN_VERDICT_STATE], answer[SPRITBOBBIN_VERDICT_ANSWER];
+
+    check(spritbobbin_verdict_fresh(level, 0, pattern, state) == 0, "a fresh verdict");
+    memcpy(before, state, sizeof state);
+    memset(answer, 0xA5, sizeof answer);
+    check(spritbobbin_verdict_feed(state, line, line_bytes, next, sent, sent_bytes, 0, answer) == refusal, "the refusal of a feed");
+    check(memcmp(before, state, sizeof state) == 0 && all_zero(answer, SPRITBOBBIN_VERDICT_ANSWER), "a refused feed leaves the state and answers nothing");
+    check(all(line, line_bytes, 0xA5) && all(sent, sent_bytes, 0x5A), "and writes nothing");
+    free(line);
+    free(sent);
+}
+
+/* Eight frames of a multiplexer that acts a frame late at level 2, one digit of tributary 1 spoilt, fed whole and in two parts. Tributary 1 is stuffed now and then, the
+   others never. Read by the frame before, one digit is wrong; by its own frame it slips. */
+static void verdicts(void)
+{
+    static const uint8_t decisions[8] = {0x21, 0x20, 0x20, 0x21, 0x21, 0x20, 0x21, 0x20};
+    enum { own = SPRITBOBBIN_VERDICT_OWN, before = SPRITBOBBIN_VERDICT_BEFORE, after = SPRITBOBBIN_VERDICT_AFTER };
+    uint8_t *line = lend(848, 0), *notes = lend(8, 0), *sent = lend(824, 0);
+    uint64_t state[SPRITBOBBIN_VERDICT_STATE], answer[SPRITBOBBIN_VERDICT_ANSWER], whole[SPRITBOBBIN_VERDICT_ANSWER], counts[5];
+    size_t k;
+
+    memcpy(notes, decisions, 8);
+    for (k = 0; k < 824; k++)
+        sent[k] = (uint8_t)(k * k / 7);
+    check(spritbobbin_late_multiplex(2, 0, line, 848, notes, 8, sent, 824, counts) == 0, "a late line");
+    line[1] ^= 0x08; /* place 12, the first digit of tributary 1 */
+
+    check(spritbobbin_verdict_fresh(2, UINT64_MAX, SPRITBOBBIN_DIGITS_SENT, state) == 0, "a fresh verdict, whose earlier vote level 2 does not look at");
+    check(spritbobbin_verdict_feed(state, line, 848, SPRITBOBBIN_VERDICT_NEXT_UNKNOWN, sent, 824, 0, whole) == 0, "is fed");
+    check(whole[SPRITBOBBIN_VERDICT_DIGITS(1, before)] == counts[0] && whole[SPRITBOBBIN_VERDICT_UNJUDGED(1, before)] == 0, "every digit sent is judged");
+    check(whole[SPRITBOBBIN_VERDICT_WRONG(1, before)] == 1 && whole[SPRITBOBBIN_VERDICT_SLIPS(1, before)] == 0, "late: one wrong digit, no slip");
+    check(whole[SPRITBOBBIN_VERDICT_RIGHT(1, before)] == 0 && whole[SPRITBOBBIN_VERDICT_SHIFT(1, before)] == 0, "which is the first");
+    check(whole[SPRITBOBBIN_VERDICT_SLIPS(1, own)] > 0 && whole[SPRITBOBBIN_VERDICT_SLIPS(1, after)] > 0, "the others slip");
+    check(whole[SPRITBOBBIN_VERDICT_CHANGES(1)] == 5 && whole[SPRITBOBBIN_VERDICT_CHANGES(2)] == 0, "the decision of one changes, those of the others never");
+    check(whole[SPRITBOBBIN_VERDICT_RIGHT(4, own)] == counts[3] && whole[SPRITBOBBIN_VERDICT_WRONG(4, own)] == 0, "whose digits are all right");
+
+    check(spritbobbin_verdict_fresh(2, 0, 0, state) == 0, "the same");
+    check(spritbobbin_verdict_feed(state, line, 318, 1, sent, 824, 0, answer) == 0, "three frames, before one that is stuffed");
+    check(spritbobbin_verdict_feed(state, line + 318, 530, 16, sent, 824, 0, answer) == 0, "and the other five");
+    check(memcmp(answer, whole, sizeof answer) == 0, "come to the same");
+    check(spritbobbin_verdict_feed(state, NULL, 0, 16, NULL, 0, UINT64_MAX, answer) == 0 && memcmp(answer, whole, sizeof answer) == 0, "as does no frame more");
+
+    refused_verdict(5, 16, 1, SPRITBOBBIN_REFUSED_LEVEL);
+    refused_verdict(12, 16, 1, SPRITBOBBIN_REFUSED_PATTERN);
+    refused_verdict(12, 16, UINT64_C(1) << 32 | 15, SPRITBOBBIN_REFUSED_PATTERN);
+    refused_verdict(12, 16, 15, SPRITBOBBIN_REFUSED_NOTE_BITS);
+    refused_verdict(14, UINT64_MAX, 0, SPRITBOBBIN_REFUSED_NOTE_BITS);
+    refused_feed(12, 0, 131, 17, 3, SPRITBOBBIN_REFUSED_LINE);
+    refused_feed(12, 0, 65 * 132, 17, 3, SPRITBOBBIN_REFUSED_LINE);
+    refused_feed(12, 0, 132, 17, 3, SPRITBOBBIN_REFUSED_BUFFER);
+    refused_feed(12, 0, 132, 17, 4, SPRITBOBBIN_REFUSED_NOTE_BITS);
+    refused_feed(12, 23, 132, UINT64_MAX, 3, SPRITBOBBIN_REFUSED_NOTE_BITS);
+    free(line);
+    free(notes);
+    free(sent);
 }
 
 /* Two frames with notes of their own and a buffer of 0x5A and 0xC3, sent, read and extracted by both engines, and
@@ -916,6 +990,7 @@ int main(void)
     swaps();
     repairs();
     judgements();
+    verdicts();
     two_engines(4, 0xE5, 0xFA, 732, 724);
     two_engines(4, 0xE5, 0xFA, 732, 720);  /* refusal 4 */
     two_engines(7, 0xE5, 0xFA, 732, 724);  /* refusal 1 */

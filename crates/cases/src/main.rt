@@ -1,14 +1,15 @@
 // Runs worked cases 9, 10 and 11 of document 01, the example of request 1, a multiframe and frames of 2048 kbit/s that are found and lost,
-// stretches of the alarm, and more of the kind: each refusal at its border, and each pair of faults that tells the order. What it must write
-// was worked out by the separate program of reference/, which shares nothing with the crates.
+// stretches of the alarm, a line read digit by digit to its end, and more of the kind: each refusal at its border, and each pair of faults that
+// tells the order. What it must write was worked out by the separate program of reference/, which shares nothing with the crates.
 mod votes;
 
 use capture_cases::capture;
-use levels::judging::Counted;
+use levels::faults::Counted;
 use multiframe_cases::hunt;
 use multiframe_cases::whole;
 use reading::Noted;
 use stream_cases::alarm;
+use stream_cases::reader;
 use stream_cases::stream;
 use telling::inputs;
 use telling::say;
@@ -465,6 +466,7 @@ fn main() {
     stream::case_11(1);
     stream::case_11(7);
     stream::case_11(1000);
+    reader::read_all();
     capture::example();
     capture::write_all();
     capture::read_all();

@@ -1,6 +1,6 @@
 // Two frames each of levels 12 and 14 after a vote, in which each tributary does something else, sent and extracted again; and the refusals of
 // the earlier vote and of a note.
-use levels::judging::Counted;
+use levels::faults::Counted;
 use telling::inputs;
 use telling::say;
 

@@ -6,7 +6,7 @@ use contract.Lifetimes.{Lfts}
 use denote.Ref.{now}
 use denote.Triple.Clauses.{AtExit}
 use borrow.Fn.World.{ArgsD, ResD}
-use Rattle.levels.specs.declared.judging.Counted.{Counted}
+use Rattle.levels.specs.declared.faults.Counted.{Counted}
 use Rattle.extraction.specs.Extract.{ExtractMet}
 use Rattle.extraction.proofs.extract.{signature, ended}
 use Rattle.extraction.proofs.extract.Reads.{Asked, Learnt}

@@ -6,10 +6,10 @@ use mathlib.Core.List.{List}
 use Prim.Native.Nat.{ℕ, _/_}
 use lib.ListN.{length}
 use Rattle.table.specs.declared.Row.{Row}
-use Rattle.levels.specs.declared.judging.Counted.{Counted}
+use Rattle.levels.specs.declared.faults.Counted.{Counted}
 use Rattle.table.specs.Table.{levelOf}
 use Rattle.levels.specs.Sizes.{onLevel}
-use Rattle.levels.specs.Judging.{faultOf, answered, leftBy}
+use Rattle.levels.specs.Faults.{faultOf, answered, leftBy}
 use Rattle.extraction.specs.Quarters.{quartersFrom}
 
 -- the buffer at the end: the quarters extracted by the notes and the vote before them, or as it was

@@ -3,9 +3,9 @@
 // specs/Extract.antt says what the call answers and leaves.
 pub mod frames;
 
-use levels::judging;
-use levels::judging::Counted;
-use levels::judging::Fault;
+use levels::faults;
+use levels::faults::Counted;
+use levels::faults::Fault;
 use table::Level;
 use table::Row;
 use unweave::sorting;
@@ -15,7 +15,7 @@ ghost use lib.ListN.{length};
 ghost use Rattle.levels.specs.Table.{Shared};
 ghost use Rattle.levels.specs.Sizes.{Accepted};
 ghost use Rattle.levels.specs.Order.{countsOf};
-ghost use Rattle.levels.specs.Judging.{answerOn};
+ghost use Rattle.levels.specs.Faults.{answerOn};
 ghost use Rattle.extraction.specs.Quarters.{quartersFrom};
 ghost use Rattle.extraction.specs.Extract.{bufferOn, ExtractMet};
 
@@ -55,9 +55,9 @@ fn extract_on(row: Row, earlier: u64, line: &[u8], notes: &[u8], buffer: &mut [u
         × (now (buffer .exit) ≡ bufferOn row earlier (now (line .entry)) (now (notes .entry)) (now (buffer .entry)))
         ⌝ }
 {
-    let found = judging::fault_of(row, earlier, line.len(), notes, buffer.len());
+    let found = faults::fault_of(row, earlier, line.len(), notes, buffer.len());
     if found.refusal != 0 {
-        return judging::refused(found);
+        return faults::refused(found);
     }
     let counts = extract_all(row, earlier, line, notes, buffer);
     Counted {
@@ -75,7 +75,7 @@ pub fn extract(level: u64, earlier: u64, line: &[u8], notes: &[u8], buffer: &mut
     let found = table::level_of(level);
     match found {
         Level::Of(row) => extract_on(row, earlier, line, notes, buffer),
-        Level::NoSuchLevel => judging::refused(Fault {
+        Level::NoSuchLevel => faults::refused(Fault {
             refusal: 1,
             frame: 0,
         }),

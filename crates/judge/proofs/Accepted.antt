@@ -14,7 +14,7 @@ use Rattle.digits.proofs.Tests.{or-neither, and-asked}
 use Rattle.table.specs.declared.Row.{Row}
 use Rattle.levels.specs.Table.{Shared}
 use Rattle.levels.specs.Sizes.{framesOf, badLine, badBuffer, Framed}
-use Rattle.levels.specs.Judging.{badEarlier}
+use Rattle.levels.specs.Faults.{badEarlier}
 use Rattle.levels.proofs.Judged.{line-frames, unrefused}
 use Rattle.judge.specs.Verdict.{badPattern, numberOf}
 use Rattle.judge.specs.Counting.{Known, Judgeable, Accepting}

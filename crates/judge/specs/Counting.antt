@@ -9,7 +9,7 @@ use Rattle.digits.specs.Sums.{sumTo}
 use Rattle.table.specs.declared.Row.{Row}
 use Rattle.levels.specs.Table.{Shared}
 use Rattle.levels.specs.Sizes.{framesOf, Framed, Accepted}
-use Rattle.levels.specs.Judging.{badEarlier}
+use Rattle.levels.specs.Faults.{badEarlier}
 use Rattle.judge.specs.Readings.{majorities}
 use Rattle.judge.specs.Wrong.{stageOf, wrongAt}
 

@@ -11,7 +11,7 @@ use Rattle.digits.specs.Sums.{sumTo}
 use Rattle.table.specs.declared.Row.{Row}
 use Rattle.table.specs.Table.{levelOf}
 use Rattle.levels.specs.Sizes.{onLevel, badLine, badBuffer, quarterOf}
-use Rattle.levels.specs.Judging.{badEarlier}
+use Rattle.levels.specs.Faults.{badEarlier}
 use Rattle.judge.specs.declared.Judged.{Judged}
 use Rattle.judge.specs.Readings.{majorities, readBy, noneStuffed, allStuffed, ownVotes, beforeVotes, afterVotes}
 use Rattle.judge.specs.Wrong.{wrongIn}

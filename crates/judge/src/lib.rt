@@ -4,7 +4,7 @@ pub mod changes;
 pub mod readings;
 pub mod wrong;
 
-use levels::judging;
+use levels::faults;
 use levels::sizes;
 use table::Level;
 use table::Row;
@@ -15,7 +15,7 @@ ghost use lib.Dec.{eqb};
 ghost use lib.ListN.{length, getD};
 ghost use Rattle.levels.specs.Table.{Shared};
 ghost use Rattle.levels.specs.Sizes.{framesOf, badBuffer, Framed};
-ghost use Rattle.levels.specs.Judging.{badEarlier};
+ghost use Rattle.levels.specs.Faults.{badEarlier};
 ghost use Rattle.judge.specs.Counting.{Judgeable, Accepting, Voted};
 ghost use Rattle.judge.specs.Verdict.{four, fitting, badPattern, numberOf, judgement, refusedWith, judgedOn, JudgeMet};
 
@@ -191,7 +191,7 @@ fn number_of(row: Row, earlier: u64, line: usize, pattern: u64, buffer: usize) -
     if bad_sent(row, line, pattern, buffer) {
         return 4;
     }
-    if judging::bad_earlier(row, earlier) {
+    if faults::bad_earlier(row, earlier) {
         return 5;
     }
     0

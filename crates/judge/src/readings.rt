@@ -12,7 +12,7 @@ ghost use Rattle.digits.specs.Digits.{digitsOf};
 ghost use Rattle.levels.specs.Table.{Shared};
 ghost use Rattle.levels.specs.Sizes.{framesOf, Framed, quarterOf};
 ghost use Rattle.levels.specs.Order.{hasNegative};
-ghost use Rattle.levels.specs.Judging.{badEarlier};
+ghost use Rattle.levels.specs.Faults.{badEarlier};
 ghost use Rattle.extraction.specs.Quarters.{takenTo};
 ghost use Rattle.judge.specs.Readings.{majorities, beforeVotes, afterVotes};
 ghost use Rattle.judge.specs.Wrong.{wrongIn};

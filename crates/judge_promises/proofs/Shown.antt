@@ -21,7 +21,7 @@ use Rattle.table.specs.declared.Level.the-variants.{Of}
 use Rattle.table.specs.Table.{levelOf}
 use Rattle.levels.specs.Table.{Shared}
 use Rattle.levels.specs.Sizes.{framesOf}
-use Rattle.levels.specs.Judging.{badEarlier}
+use Rattle.levels.specs.Faults.{badEarlier}
 use Rattle.levels.proofs.Positions.{in-frame}
 use Rattle.levels.specs.Places.{kindAt}
 use Rattle.multiplex.specs.Line.{lineDigit}

@@ -6,7 +6,7 @@ use contract.Lifetimes.{Lfts}
 use denote.Ref.{now}
 use denote.Triple.Clauses.{AtExit}
 use borrow.Fn.World.{ArgsD, ResD}
-use Rattle.levels.specs.declared.judging.Counted.{Counted}
+use Rattle.levels.specs.declared.faults.Counted.{Counted}
 use Rattle.late.specs.Late.{LateMet}
 use Rattle.late.proofs.late_multiplex.{signature, ended}
 use Rattle.late.proofs.late_multiplex.Reads.{Asked, Learnt}

@@ -21,7 +21,7 @@ use Rattle.table.specs.declared.Level.the-variants.{Of, NoSuchLevel}
 use Rattle.levels.specs.Table.{Shared}
 use Rattle.levels.specs.Places.{notedOf}
 use Rattle.levels.specs.Sizes.{onLevel}
-use Rattle.levels.specs.Judging.{firstWith, overfull, unset, fault, faultOf, sendFaultOf, refusedWith, answerBy, leftBy}
+use Rattle.levels.specs.Faults.{firstWith, overfull, unset, fault, faultOf, sendFaultOf, refusedWith, answerBy, leftBy}
 use Rattle.levels.proofs.Refusals.{faultless, send-faultless}
 use Rattle.multiplex.specs.Multiplex.{lineOn}
 use Rattle.workbench.specs.Bench.{decidedBy, delayed, mixedLine}

@@ -9,8 +9,8 @@ use Rattle.digits.specs.Digits.{digitsOf}
 use Rattle.table.specs.declared.Row.{Row}
 use Rattle.table.specs.Table.{levelOf}
 use Rattle.levels.specs.Sizes.{onLevel, quarterOf}
-use Rattle.levels.specs.declared.judging.Counted.{Counted}
-use Rattle.levels.specs.Judging.{fault, sendFaultOf, answerBy, refusedWith, leftBy}
+use Rattle.levels.specs.declared.faults.Counted.{Counted}
+use Rattle.levels.specs.Faults.{fault, sendFaultOf, answerBy, refusedWith, leftBy}
 use Rattle.multiplex.specs.Line.{lineOf}
 use Rattle.workbench.specs.Bench.{decidedBy, mixedLine}
 

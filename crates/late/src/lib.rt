@@ -1,6 +1,6 @@
 // A multiplexer that acts on its decisions a frame late: its control digits say each frame's own, and its justification places go by those of the frame
 // before. For demonstrations and tests, which need the faulty line. specs/Late.antt says exactly which line that is.
-use levels::judging::Counted;
+use levels::faults::Counted;
 ghost use mathlib.Core.Path.{_≡_};
 ghost use Prim.Native.Nat.{_≤_};
 ghost use lib.ListN.{length};

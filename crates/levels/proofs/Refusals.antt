@@ -11,11 +11,11 @@ use lib.Dec.{eqb, ltb, leb}
 use lib.ListN.{length, getD}
 use borrow.Author.Tests.{lt-ltb, le-ltb, eq-eqb, ne-eqb, lt-leb, leb-false, ltb-false}
 use Rattle.table.specs.declared.Row.{Row}
-use Rattle.levels.specs.declared.judging.Fault.{Fault}
+use Rattle.levels.specs.declared.faults.Fault.{Fault}
 use Rattle.levels.specs.Sizes.{sizeRefusal, Accepted}
 use Rattle.levels.specs.Places.{notedOf}
 use Rattle.levels.specs.Order.{countsOf}
-use Rattle.levels.specs.Judging.{firstWith, overfull, unset, fault, naming, noteFault, badEarlier, faultOf, sendFaultOf, refusedWith, answerBy, leftBy}
+use Rattle.levels.specs.Faults.{firstWith, overfull, unset, fault, naming, noteFault, badEarlier, faultOf, sendFaultOf, refusedWith, answerBy, leftBy}
 use Rattle.levels.proofs.Judged.{accepted, no-size-refused}
 
 -- no note meets a test that none was found to meet

@@ -12,7 +12,7 @@ use lib.Pow.{pow-mono, pow-pos}
 use Rattle.table.specs.declared.Row.{Row}
 use Rattle.levels.specs.Table.{Shared}
 use Rattle.levels.specs.Places.{notedOf}
-use Rattle.levels.specs.Judging.{firstWith}
+use Rattle.levels.specs.Faults.{firstWith}
 
 module _ (test : ℕ → Bool) (notes : List ℕ) (f : ℕ) where
   pub found-here : f < length notes → test (getD notes f 0) ≡ true → f + firstWith test (drop f notes) ≡ firstWith test notes → f ≡ firstWith test notes

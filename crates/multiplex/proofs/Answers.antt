@@ -6,7 +6,7 @@ use contract.Lifetimes.{Lfts}
 use denote.Ref.{now}
 use denote.Triple.Clauses.{AtExit}
 use borrow.Fn.World.{ArgsD, ResD}
-use Rattle.levels.specs.declared.judging.Counted.{Counted}
+use Rattle.levels.specs.declared.faults.Counted.{Counted}
 use Rattle.multiplex.specs.Multiplex.{Met}
 use Rattle.multiplex.proofs.multiplex.{signature, ended}
 use Rattle.multiplex.proofs.multiplex.Reads.{Asked, Learnt}

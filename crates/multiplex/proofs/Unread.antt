@@ -27,7 +27,7 @@ use Rattle.levels.proofs.Counts.{count-of}
 use Rattle.levels.proofs.Inverse.{before-rises}
 use Rattle.levels.proofs.Refusals.{faultless, send-faultless}
 use Rattle.multiplex.specs.Line.{digitBy, lineDigit, lineOf}
-use Rattle.levels.specs.Judging.{fault, faultOf, sendFaultOf, refusedWith, sendAnswerOn, sendAnswered}
+use Rattle.levels.specs.Faults.{fault, faultOf, sendFaultOf, refusedWith, sendAnswerOn, sendAnswered}
 use Rattle.multiplex.specs.Multiplex.{lineOn, lineAfter}
 
 -- a place that carries no digit does not look at one

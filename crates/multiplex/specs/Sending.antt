@@ -53,6 +53,10 @@ pub record ColumnAsked (row : Row) (preceding note set r : ℕ) (buffer next : L
   pub column : r % 4 ≡ 0
   pub rely : Rely row (actsBy row preceding note) set r (length buffer / 4) next
 
+-- and all that it leaves: its four places as a number, and each index after them
+abbrev pub ColumnMet : Row → ℕ → ℕ → ℕ → ℕ → List ℕ → List ℕ → ℕ → List ℕ → Type 0
+ColumnMet row preceding note set r buffer next word next′ = PlacedTo row note (actsBy row preceding note) set r buffer next 4 word next′
+
 -- the four indices, each by itself
 abbrev pub nextOf : List ℕ → Next
 nextOf next = record { a = getD next 0 0; b = getD next 1 0; c = getD next 2 0; d = getD next 3 0 }

@@ -1,8 +1,8 @@
 // Multiplexing from a known start: four tributaries and the notes of the frames become a line. specs/Multiplex.antt says what the call
 // answers and leaves, specs/Line.antt what each digit of the line is.
-use levels::judging;
-use levels::judging::Counted;
-use levels::judging::Fault;
+use levels::faults;
+use levels::faults::Counted;
+use levels::faults::Fault;
 use levels::lent;
 use levels::order;
 use levels::places;
@@ -31,8 +31,8 @@ ghost use Rattle.levels.specs.Word.{wordDigit};
 ghost use Rattle.levels.specs.declared.order.Action.{Action};
 ghost use Rattle.levels.specs.declared.places.Kind.the-variants.{Word};
 ghost use Rattle.multiplex.specs.Line.{serviceBy, digitBy};
-ghost use Rattle.multiplex.specs.Sending.{Placed, PlacedTo, ColumnAsked, nextOf, Ran, Sending, AllSent};
-ghost use Rattle.levels.specs.Judging.{sendAnswerOn};
+ghost use Rattle.multiplex.specs.Sending.{Placed, PlacedTo, ColumnAsked, ColumnMet, nextOf, Ran, Sending, AllSent};
+ghost use Rattle.levels.specs.Faults.{sendAnswerOn};
 ghost use Rattle.multiplex.specs.Multiplex.{lineOn, Met};
 
 // Digit r of the alignment word.
@@ -130,6 +130,25 @@ fn first_column(row: Row, note: u8, r: usize) -> u64
     word
 }
 
+// A column of the alignment word, from place r on: four of its digits at once.
+fn word_column(row: Row, r: usize) -> u64
+    requires { ⌜ Shared row × (r + 4 ≤ row .len) ⌝ }
+    ensures { λ w. ⌜ ((note : ℕ) (acts : ℕ → Action) (buffer next : List ℕ) → PlacedTo row note acts 0 r buffer next 4 w next) ⌝ }
+{
+    (row.word as u64 >> (row.len - (r + 4))) & 15
+}
+
+// The column of the first set's head from place r on: one of the word, or place by place.
+fn start_column(row: Row, note: u8, r: usize) -> u64
+    requires { ⌜ Shared row × (r + 4 ≤ row .first) ⌝ }
+    ensures { λ w. ⌜ ((acts : ℕ → Action) (buffer next : List ℕ) → PlacedTo row note acts 0 r buffer next 4 w next) ⌝ }
+{
+    if r + 4 <= row.len {
+        return word_column(row, r);
+    }
+    first_column(row, note, r)
+}
+
 // The column of a later set's head from place r on: what its first place is, the others are.
 fn later_column(
     row: Row,
@@ -143,10 +162,7 @@ fn later_column(
     requires { ⌜
         (0 < set) × (r < 65536) × ColumnAsked row preceding note set r (now buffer) (now next)
         ⌝ }
-    ensures { λ w. ⌜
-        PlacedTo row note (actsBy row preceding note) set r (now (buffer .entry)) (now (next .entry)) 4 w
-        (now (next .exit))
-        ⌝ }
+    ensures { λ w. ⌜ ColumnMet row preceding note set r (now (buffer .entry)) (now (next .entry)) w (now (next .exit)) ⌝ }
 {
     let kind = places::kind_of(
         row,
@@ -178,13 +194,10 @@ fn head_column(
     requires { ⌜
         (r < headEnd row set) × ColumnAsked row preceding note set r (now buffer) (now next)
         ⌝ }
-    ensures { λ w. ⌜
-        PlacedTo row note (actsBy row preceding note) set r (now (buffer .entry)) (now (next .entry)) 4 w
-        (now (next .exit))
-        ⌝ }
+    ensures { λ w. ⌜ ColumnMet row preceding note set r (now (buffer .entry)) (now (next .entry)) w (now (next .exit)) ⌝ }
 {
     if set == 0 {
-        return first_column(row, note, r);
+        return start_column(row, note, r);
     }
     later_column(row, buffer, next, preceding, note, set, r)
 }
@@ -353,9 +366,9 @@ fn multiplex_on(row: Row, earlier: u64, line: &mut [u8], notes: &[u8], buffer: &
         × (now (line .exit) ≡ lineOn row earlier (now (line .entry)) (now (notes .entry)) (now (buffer .entry)))
         ⌝ }
 {
-    let found = judging::send_fault_of(row, earlier, line.len(), notes, buffer.len());
+    let found = faults::send_fault_of(row, earlier, line.len(), notes, buffer.len());
     if found.refusal != 0 {
-        return judging::refused(found);
+        return faults::refused(found);
     }
     let counts = send_frames(row, earlier, line, notes, buffer);
     Counted {
@@ -372,7 +385,7 @@ pub fn multiplex(level: u64, earlier: u64, line: &mut [u8], notes: &[u8], buffer
     let found = table::level_of(level);
     match found {
         Level::Of(row) => multiplex_on(row, earlier, line, notes, buffer),
-        Level::NoSuchLevel => judging::refused(Fault {
+        Level::NoSuchLevel => faults::refused(Fault {
             refusal: 1,
             frame: 0,
         }),

@@ -10,8 +10,8 @@ use lib.Dec.{eqb, ltb}
 use lib.ListN.{length}
 use borrow.Author.Tests.{eqb-true, ltb-false, not-false}
 use Rattle.table.specs.declared.Row.{Row}
-use Rattle.plain.specs.declared.refusals.Verdict.{Verdict}
-use Rattle.plain.specs.Engine.{badLine, badNotes, badBuffer, firstFaulty, firstLacking, badEarlier, verdict, verdictOn, sendingOn, readingOn}
+use Rattle.plain.specs.declared.refusals.Refusal.{Refusal}
+use Rattle.plain.specs.Engine.{badLine, badNotes, badBuffer, firstFaulty, firstLacking, badEarlier, refusalWith, refusalOn, sendingOn, readingOn}
 use Rattle.plain.specs.Walk.{Regular, Fits}
 
 -- where neither of two faults is there
@@ -29,8 +29,8 @@ unrefused : (t : Bool) (a b : ℕ) → (a ≡ 0 → ⊥) → cond t a b ≡ 0 �
 unrefused true a b n e = absurd (n e)
 unrefused false a b n e = (refl, e)
 
--- the number of a verdict that a test gives
-number : (t : Bool) (v w : Verdict) → cond t v w .refusal ≡ cond t (v .refusal) (w .refusal)
+-- the number of a refusal that a test gives
+number : (t : Bool) (v w : Refusal) → cond t v w .refusal ≡ cond t (v .refusal) (w .refusal)
 number true v w = refl
 number false v w = refl
 
@@ -47,31 +47,31 @@ fits-by row re line notes two three = record { whole = rw (noted, re .packed) ei
     eights : 8 * line ≡ line / row .bytes * (8 * row .bytes)
     eights = omega (arith, div-add-mod' line (row .bytes), whole .0, mul-left-comm (line / row .bytes) 8 (row .bytes))
 
-pub accepted : (row : Row) → Regular row → (earlier line : ℕ) (notes : List ℕ) (buffer : ℕ) → verdictOn row earlier line notes buffer .refusal ≡ 0
+pub accepted : (row : Row) → Regular row → (earlier line : ℕ) (notes : List ℕ) (buffer : ℕ) → refusalOn row earlier line notes buffer .refusal ≡ 0
     → Fits row line (length notes) × (buffer ≡ 4 * (buffer / 4))
-unfolding verdictOn
+unfolding refusalOn
 accepted row re earlier line notes buffer e =
-    let noted = cond (ltb (firstFaulty row notes) (length notes)) (verdict 5 (firstFaulty row notes)) (verdict 0 0) in
-    let voted = cond (badEarlier row earlier) (verdict 5 0) noted in
-    let roomy = cond (badBuffer row line buffer) (verdict 4 0) voted in
-    let right = cond (badNotes row line (length notes)) (verdict 3 0) roomy in
-    let two = unrefused (badLine row line) 2 (right .refusal) (λ z. omega arith) (sym (number (badLine row line) (verdict 2 0) right) ∙ e) in
-    let three = unrefused (badNotes row line (length notes)) 3 (roomy .refusal) (λ z. omega arith) (sym (number (badNotes row line (length notes)) (verdict 3 0) roomy) ∙ two .1) in
-    let four = unrefused (badBuffer row line buffer) 4 (voted .refusal) (λ z. omega arith) (sym (number (badBuffer row line buffer) (verdict 4 0) voted) ∙ three .1) in
+    let noted = cond (ltb (firstFaulty row notes) (length notes)) (refusalWith 5 (firstFaulty row notes)) (refusalWith 0 0) in
+    let voted = cond (badEarlier row earlier) (refusalWith 5 0) noted in
+    let roomy = cond (badBuffer row line buffer) (refusalWith 4 0) voted in
+    let right = cond (badNotes row line (length notes)) (refusalWith 3 0) roomy in
+    let two = unrefused (badLine row line) 2 (right .refusal) (λ z. omega arith) (sym (number (badLine row line) (refusalWith 2 0) right) ∙ e) in
+    let three = unrefused (badNotes row line (length notes)) 3 (roomy .refusal) (λ z. omega arith) (sym (number (badNotes row line (length notes)) (refusalWith 3 0) roomy) ∙ two .1) in
+    let four = unrefused (badBuffer row line buffer) 4 (voted .refusal) (λ z. omega arith) (sym (number (badBuffer row line buffer) (refusalWith 4 0) voted) ∙ three .1) in
     let fours = eqb-true (buffer % 4) 0 (neither (eqb (buffer % 4) 0) (ltb (8 * (buffer / 4)) (line / row .bytes * row .room)) (four .0) .0) in
     (fits-by row re line (length notes) (two .0) (three .0), omega arith)
 
 -- what multiplexing accepts, extraction does
 pub sent-accepted : (row : Row) (earlier line : ℕ) (notes : List ℕ) (buffer : ℕ) → sendingOn row earlier line notes buffer .refusal ≡ 0
-    → verdictOn row earlier line notes buffer .refusal ≡ 0
+    → refusalOn row earlier line notes buffer .refusal ≡ 0
 unfolding sendingOn
 sent-accepted row earlier line notes buffer e = go (eqb (v .refusal) 0) refl e
   where
-    v : Verdict
-    v = verdictOn row earlier line notes buffer
+    v : Refusal
+    v = refusalOn row earlier line notes buffer
 
     go : (t : Bool) → eqb (v .refusal) 0 ≡ t
-        → cond t (cond (ltb (firstLacking row notes) (length notes)) (verdict 10 (firstLacking row notes)) (verdict 0 0)) v .refusal ≡ 0 → v .refusal ≡ 0
+        → cond t (cond (ltb (firstLacking row notes) (length notes)) (refusalWith 10 (firstLacking row notes)) (refusalWith 0 0)) v .refusal ≡ 0 → v .refusal ≡ 0
     go true z _ = eqb-true (v .refusal) 0 z
     go false _ z = z
 

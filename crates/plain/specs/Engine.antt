@@ -15,7 +15,7 @@ use Rattle.table.specs.declared.Level.the-variants.{Of, NoSuchLevel}
 use Rattle.table.specs.Table.{levelOf}
 use Rattle.plain.specs.declared.frame.Place.{Place}
 use Rattle.plain.specs.declared.frame.Place.the-variants.{Alignment, Service, Fixed, Control, Negative, Positive, Tributary}
-use Rattle.plain.specs.declared.refusals.Verdict.{Verdict}
+use Rattle.plain.specs.declared.refusals.Refusal.{Refusal}
 use Rattle.plain.specs.declared.Answered.{Answered}
 use Rattle.plain.specs.declared.NotesRead.{NotesRead}
 
@@ -282,25 +282,25 @@ tooFew row note = ltb (nationalOnes row note) (row .nationals)
 abbrev pub firstLacking : Row → List ℕ → ℕ
 firstLacking row notes = firstWith (tooFew row) notes
 
-abbrev pub verdict : ℕ → ℕ → Verdict
-verdict refusal frame = record { refusal = refusal; frame = frame }
+abbrev pub refusalWith : ℕ → ℕ → Refusal
+refusalWith refusal frame = record { refusal = refusal; frame = frame }
 
 -- 2, 3, 4 and 5 in this order, the earlier vote "naming frame 0, before the notes": the first that applies, and the frame that 5 names; 0 where
 -- none does. Line and buffer in bytes
-unfoldable pub verdictOn : Row → ℕ → ℕ → List ℕ → ℕ → Verdict
-verdictOn row earlier line notes buffer =
-    cond (badLine row line) (verdict 2 0)
-    (cond (badNotes row line (length notes)) (verdict 3 0)
-    (cond (badBuffer row line buffer) (verdict 4 0)
-    (cond (badEarlier row earlier) (verdict 5 0)
-    (cond (ltb (firstFaulty row notes) (length notes)) (verdict 5 (firstFaulty row notes)) (verdict 0 0)))))
+unfoldable pub refusalOn : Row → ℕ → ℕ → List ℕ → ℕ → Refusal
+refusalOn row earlier line notes buffer =
+    cond (badLine row line) (refusalWith 2 0)
+    (cond (badNotes row line (length notes)) (refusalWith 3 0)
+    (cond (badBuffer row line buffer) (refusalWith 4 0)
+    (cond (badEarlier row earlier) (refusalWith 5 0)
+    (cond (ltb (firstFaulty row notes) (length notes)) (refusalWith 5 (firstFaulty row notes)) (refusalWith 0 0)))))
 
 -- multiplexing, after these: 10, and the frame that it names
-unfoldable pub sendingOn : Row → ℕ → ℕ → List ℕ → ℕ → Verdict
+unfoldable pub sendingOn : Row → ℕ → ℕ → List ℕ → ℕ → Refusal
 sendingOn row earlier line notes buffer =
-    cond (eqb (verdictOn row earlier line notes buffer .refusal) 0)
-    (cond (ltb (firstLacking row notes) (length notes)) (verdict 10 (firstLacking row notes)) (verdict 0 0))
-    (verdictOn row earlier line notes buffer)
+    cond (eqb (refusalOn row earlier line notes buffer .refusal) 0)
+    (cond (ltb (firstLacking row notes) (length notes)) (refusalWith 10 (firstLacking row notes)) (refusalWith 0 0))
+    (refusalOn row earlier line notes buffer)
 
 -- reading the notes: 2 and 3
 unfoldable pub readingOn : Row → ℕ → ℕ → ℕ
@@ -316,14 +316,14 @@ refusedWith refusal = record { refusal = refusal; frame = 0; counts = none }
 
 -- multiplexing and extraction answer alike: how many digits of each tributary the line carries, by the notes and the earlier vote: n for each
 -- frame, less the stuffed, plus the negative. A line of so many bytes
-abbrev pub answerBy : Row → ℕ → ℕ → List ℕ → Verdict → Answered
+abbrev pub answerBy : Row → ℕ → ℕ → List ℕ → Refusal → Answered
 answerBy row earlier line notes v =
     cond (eqb (v .refusal) 0)
     (record { refusal = 0; frame = 0; counts = countsTo row earlier notes (8 * line) })
     (record { refusal = v .refusal; frame = v .frame; counts = none })
 
 -- multiplexing: the answer, and the line that is left
-abbrev pub sentLine : Row → ℕ → List ℕ → List ℕ → List ℕ → Verdict → List ℕ
+abbrev pub sentLine : Row → ℕ → List ℕ → List ℕ → List ℕ → Refusal → List ℕ
 sentLine row earlier line notes buffer v = cond (eqb (v .refusal) 0) (packed (length line) (sentAt row earlier notes buffer)) line
 
 abbrev pub multiplexed : ℕ → ℕ → List ℕ → List ℕ → List ℕ → Answered
@@ -363,18 +363,18 @@ pub record ReadNotesMet (level : ℕ) (line notes : List ℕ) (answer : NotesRea
   pub written : left ≡ notesAfter level line notes
 
 -- extraction by given notes: the answer, and the buffer that is left. No control digit is looked at
-abbrev pub takenBuffer : Row → ℕ → List ℕ → List ℕ → List ℕ → Verdict → List ℕ
+abbrev pub takenBuffer : Row → ℕ → List ℕ → List ℕ → List ℕ → Refusal → List ℕ
 takenBuffer row earlier line notes buffer v =
     cond (eqb (v .refusal) 0) (packed (length buffer) (handedAt row earlier notes line (8 * (length buffer / 4)))) buffer
 
 abbrev pub extracted : ℕ → ℕ → List ℕ → List ℕ → List ℕ → Answered
 extracted level earlier line notes buffer =
-    onLevel (levelOf level) (λ (row : Row). answerBy row earlier (length line) notes (verdictOn row earlier (length line) notes (length buffer)))
+    onLevel (levelOf level) (λ (row : Row). answerBy row earlier (length line) notes (refusalOn row earlier (length line) notes (length buffer)))
     (refusedWith 1)
 
 abbrev pub bufferAfter : ℕ → ℕ → List ℕ → List ℕ → List ℕ → List ℕ
 bufferAfter level earlier line notes buffer =
-    onLevel (levelOf level) (λ (row : Row). takenBuffer row earlier line notes buffer (verdictOn row earlier (length line) notes (length buffer))) buffer
+    onLevel (levelOf level) (λ (row : Row). takenBuffer row earlier line notes buffer (refusalOn row earlier (length line) notes (length buffer))) buffer
 
 pub record ExtractMet (level earlier : ℕ) (line notes buffer : List ℕ) (answer : Answered) (left : List ℕ) : Type 0 where
   pub answered : answer ≡ extracted level earlier line notes buffer

@@ -12,7 +12,7 @@ use table::Level;
 use table::Row;
 ghost use mathlib.Core.Path.{_≡_};
 ghost use lib.ListN.{length};
-ghost use Rattle.plain.specs.Engine.{verdictOn, sendingOn, readingOn, MultiplexMet, ReadNotesMet, ExtractMet};
+ghost use Rattle.plain.specs.Engine.{refusalOn, sendingOn, readingOn, MultiplexMet, ReadNotesMet, ExtractMet};
 ghost use Rattle.plain.specs.Engine.{answerBy, sentLine, readAnswer, readLeft, takenBuffer};
 ghost use Rattle.plain.specs.Walk.{Regular};
 
@@ -120,13 +120,13 @@ fn extract_on(row: Row, earlier: u64, line: &[u8], notes: &[u8], buffer: &mut [u
     ensures { λ r. ⌜
         (r
         ≡ answerBy row earlier (length (now (line .entry))) (now (notes .entry))
-        (verdictOn row earlier (length (now (line .entry))) (now (notes .entry)) (length (now (buffer .entry)))))
+        (refusalOn row earlier (length (now (line .entry))) (now (notes .entry)) (length (now (buffer .entry)))))
         × (now (buffer .exit)
         ≡ takenBuffer row earlier (now (line .entry)) (now (notes .entry)) (now (buffer .entry))
-        (verdictOn row earlier (length (now (line .entry))) (now (notes .entry)) (length (now (buffer .entry)))))
+        (refusalOn row earlier (length (now (line .entry))) (now (notes .entry)) (length (now (buffer .entry)))))
         ⌝ }
 {
-    let v = refusals::verdict_on(row, earlier, line.len(), notes, buffer.len());
+    let v = refusals::refusal_on(row, earlier, line.len(), notes, buffer.len());
     if v.refusal != 0 {
         return Answered {
             refusal: v.refusal,

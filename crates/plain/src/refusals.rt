@@ -2,11 +2,11 @@
 use table::Row;
 ghost use mathlib.Core.Path.{_≡_};
 ghost use Prim.Native.Nat.{_/_, _^_, _<_, _≤_};
-ghost use Rattle.plain.specs.Engine.{badLine, badBuffer, badEarlier, firstFaulty, nationalOnes, firstLacking, verdictOn, sendingOn, readingOn};
+ghost use Rattle.plain.specs.Engine.{badLine, badBuffer, badEarlier, firstFaulty, nationalOnes, firstLacking, refusalOn, sendingOn, readingOn};
 ghost use Rattle.plain.specs.Walk.{Regular};
 
 // The refusal, or 0, and the frame that refusal 5 or 10 names, or 0.
-pub struct Verdict {
+pub struct Refusal {
     pub refusal: u64,
     pub frame: usize,
 }
@@ -59,10 +59,10 @@ fn first_faulty(row: Row, notes: &[u8]) -> usize
     f
 }
 
-fn refused(refusal: u64, frame: usize) -> Verdict
+fn refused(refusal: u64, frame: usize) -> Refusal
     ensures { λ r. ⌜ r ≡ record { refusal = refusal; frame = frame } ⌝ }
 {
-    Verdict { refusal, frame }
+    Refusal { refusal, frame }
 }
 
 // How many of a note's bits for national use are 1.
@@ -95,9 +95,9 @@ fn first_lacking(row: Row, notes: &[u8]) -> usize
 }
 
 // 2, 3, 4 and 5 in this order: for multiplexing and for extraction.
-pub fn verdict_on(row: Row, earlier: u64, line: usize, notes: &[u8], buffer: usize) -> Verdict
+pub fn refusal_on(row: Row, earlier: u64, line: usize, notes: &[u8], buffer: usize) -> Refusal
     requires { ⌜ Regular row × (buffer < 2 ^ 63) ⌝ }
-    ensures { λ r. ⌜ r ≡ verdictOn row earlier line (now (notes .entry)) buffer ⌝ }
+    ensures { λ r. ⌜ r ≡ refusalOn row earlier line (now (notes .entry)) buffer ⌝ }
 {
     if bad_line(row, line) {
         return refused(2, 0);
@@ -121,11 +121,11 @@ pub fn verdict_on(row: Row, earlier: u64, line: usize, notes: &[u8], buffer: usi
 }
 
 // Then 10: for multiplexing.
-pub fn sending_on(row: Row, earlier: u64, line: usize, notes: &[u8], buffer: usize) -> Verdict
+pub fn sending_on(row: Row, earlier: u64, line: usize, notes: &[u8], buffer: usize) -> Refusal
     requires { ⌜ Regular row × (buffer < 2 ^ 63) ⌝ }
     ensures { λ r. ⌜ r ≡ sendingOn row earlier line (now (notes .entry)) buffer ⌝ }
 {
-    let v = verdict_on(row, earlier, line, notes, buffer);
+    let v = refusal_on(row, earlier, line, notes, buffer);
     if v.refusal != 0 {
         return v;
     }

@@ -25,9 +25,9 @@ use Rattle.levels.proofs.Counts.{line-count}
 use Rattle.levels.proofs.Columns.{columns, frame-start}
 use Rattle.levels.proofs.Inverse.{places-length}
 use Rattle.levels.proofs.Judged.{accepted, fits-quarter, no-size-refused}
-use Rattle.levels.specs.declared.judging.Counted.{Counted}
-use Rattle.levels.specs.declared.judging.Fault.{Fault}
-use Rattle.levels.specs.Judging.{fault, badEarlier, faultOf, sendFaultOf, refusedWith, counted, answerOn, answered, sendAnswerOn, sendAnswered}
+use Rattle.levels.specs.declared.faults.Counted.{Counted}
+use Rattle.levels.specs.declared.faults.Fault.{Fault}
+use Rattle.levels.specs.Faults.{fault, badEarlier, faultOf, sendFaultOf, refusedWith, counted, answerOn, answered, sendAnswerOn, sendAnswered}
 use Rattle.levels.proofs.Refusals.{EarlierFits, NotesFit, NationalsSet, faultless, fit-faultless, send-faultless, set-faultless}
 use Rattle.multiplex.specs.Line.{lineDigit, lineOf}
 use Rattle.reading.specs.Notes.{noteOf, notesOf, dissentTo, dissentsOf}

@@ -33,7 +33,7 @@ use Rattle.levels.proofs.Positions.{stands, pos-of-sum}
 use Rattle.levels.proofs.Majority.{group-length}
 use Rattle.levels.proofs.Ways.{kind-control}
 use Rattle.multiplex.specs.Line.{digitBy, lineDigit}
-use Rattle.levels.specs.Judging.{firstWith, unset, nationalBits, faultOf, sendFaultOf}
+use Rattle.levels.specs.Faults.{firstWith, unset, nationalBits, faultOf, sendFaultOf}
 use Rattle.reading.specs.Notes.{voteAt, serviceAt, noteOf}
 use Rattle.extraction.specs.Quarters.{takenTo, quarterFrom, quartersFrom}
 use Rattle.promises.specs.Damage.{Liberty, at-will, counted, kept, liberty, libertyAt, groupAt, allowed, DamageUpTo, Damage, controlsChanged, lineDigits}

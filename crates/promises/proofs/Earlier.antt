@@ -14,11 +14,11 @@ use Rattle.table.specs.declared.Row.{Row}
 use Rattle.table.specs.declared.Level.{Level}
 use Rattle.table.specs.declared.Level.the-variants.{Of, NoSuchLevel}
 use Rattle.table.specs.Table.{levelOf}
-use Rattle.levels.specs.declared.judging.Counted.{Counted}
+use Rattle.levels.specs.declared.faults.Counted.{Counted}
 use Rattle.levels.specs.Sizes.{onLevel, quarterOf}
 use Rattle.levels.specs.Places.{posOf}
 use Rattle.levels.specs.Order.{hasNegative, actionOf, actions, countsOf}
-use Rattle.levels.specs.Judging.{fault, refusedWith, earlierFault, faultOf, sendFaultOf, answerOn, sendAnswerOn}
+use Rattle.levels.specs.Faults.{fault, refusedWith, earlierFault, faultOf, sendFaultOf, answerOn, sendAnswerOn}
 use Rattle.multiplex.specs.Line.{lineDigit}
 use Rattle.multiplex.specs.Multiplex as multiplex
 use Rattle.reading.specs.Reading.{notesAfter}

@@ -16,7 +16,7 @@ use Rattle.table.specs.Table.{levelOf}
 use Rattle.levels.specs.Table.{Shared}
 use Rattle.levels.specs.Sizes.{Framed, Accepted}
 use Rattle.levels.specs.Order.{actions, placesOf, countOf}
-use Rattle.levels.specs.Judging.{fault, badEarlier, faultOf, sendFaultOf}
+use Rattle.levels.specs.Faults.{fault, badEarlier, faultOf, sendFaultOf}
 use Rattle.levels.proofs.Rows.{shared-row}
 use Rattle.levels.proofs.Positions.{in-frame}
 use Rattle.levels.proofs.Judged.{no-frames-refused}

@@ -17,7 +17,7 @@ use Rattle.table.specs.declared.Level.{Level}
 use Rattle.table.specs.declared.Level.the-variants.{Of, NoSuchLevel}
 use Rattle.table.specs.Table.{levelOf}
 use Rattle.levels.specs.Sizes.{onLevel, badLine, badNotes, badBuffer, framesRefusal, sizeRefusal, Accepted}
-use Rattle.levels.specs.Judging.{fault, badEarlier, faultOf}
+use Rattle.levels.specs.Faults.{fault, badEarlier, faultOf}
 use Rattle.levels.proofs.Choice.{cond-by}
 use Rattle.levels.proofs.Rows.{shared-row}
 use Rattle.levels.proofs.Judged.{accepted}

@@ -11,7 +11,7 @@ use Rattle.digits.specs.Sums.{sumTo}
 use Rattle.table.specs.declared.Row.{Row}
 use Rattle.levels.specs.Places.{posOf}
 use Rattle.levels.specs.Order.{decisions}
-use Rattle.levels.specs.Judging.{nationalBits}
+use Rattle.levels.specs.Faults.{nationalBits}
 use Rattle.reading.specs.Notes.{dissentTo}
 use Rattle.promises.specs.Damage.{Liberty, at-will, counted, kept, libertyAt, allowed, DamageUpTo, Damage, controlsChanged, lineDigits}
 use Rattle.promises.specs.Carried.{Sound}

@@ -13,7 +13,7 @@ use Rattle.table.specs.declared.Row.{Row}
 use Rattle.table.specs.Table.{levelOf}
 use Rattle.levels.specs.Sizes.{onLevel, quarterOf}
 use Rattle.levels.specs.Order.{decisions}
-use Rattle.levels.specs.Judging.{unset, sendAnswered}
+use Rattle.levels.specs.Faults.{unset, sendAnswered}
 use Rattle.multiplex.specs.Multiplex.{lineAfter}
 use Rattle.promises.specs.Damage.{Damage, SameBut, controlsChanged}
 use Rattle.promises.specs.Together.{Outcome, inTurn}

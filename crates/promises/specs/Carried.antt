@@ -10,7 +10,7 @@ use Rattle.digits.specs.Digits.{Binary}
 use Rattle.table.specs.declared.Row.{Row}
 use Rattle.levels.specs.Places.{notedOf}
 use Rattle.levels.specs.Order.{decisions, actions, countOf}
-use Rattle.levels.specs.Judging.{unset}
+use Rattle.levels.specs.Faults.{unset}
 use Rattle.reading.specs.Notes.{voteAt, notesOf, alignmentTo, dissentTo}
 use Rattle.extraction.specs.Quarters.{takenTo}
 

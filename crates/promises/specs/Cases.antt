@@ -12,7 +12,7 @@ use Rattle.levels.specs.declared.order.Action.{Action}
 use Rattle.levels.specs.declared.order.Action.the-variants.{Stuffed, PositiveCarries, BothCarry}
 use Rattle.levels.specs.Order.{placesOf}
 use Rattle.levels.specs.Vote.{voteOf}
-use Rattle.levels.specs.Judging.{sendAnswered}
+use Rattle.levels.specs.Faults.{sendAnswered}
 use Rattle.multiplex.specs.Multiplex.{lineAfter}
 
 -- a byte of a frame and what it holds

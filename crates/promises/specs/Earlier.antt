@@ -6,7 +6,7 @@ use Prim.Native.Nat.{ℕ, _<_}
 use mathlib.Core.List.{List}
 use lib.ListN.{length, getD}
 use Rattle.digits.specs.Digits.{digitsOf}
-use Rattle.levels.specs.Judging.{answered, sendAnswered}
+use Rattle.levels.specs.Faults.{answered, sendAnswered}
 use Rattle.extraction.specs.Extract.{bufferAfter}
 use Rattle.promises.specs.Calls.{Lent, SendAccepted, sentLine, outcome, ReadAccepted, readDissent, LentFor, SendsSame, SendReturned, ReadsSame}
 use Rattle.promises.specs.Plain.{Numbers, Changed, controlsDiffering, SameOutside}

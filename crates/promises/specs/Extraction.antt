@@ -14,7 +14,7 @@ use Rattle.table.specs.Table.{levelOf}
 use Rattle.levels.specs.Sizes.{onLevel, quarterOf}
 use Rattle.levels.specs.Places.{kindAt}
 use Rattle.levels.specs.Order.{stuffed, decisions}
-use Rattle.levels.specs.Judging.{answered}
+use Rattle.levels.specs.Faults.{answered}
 use Rattle.extraction.specs.Extract.{bufferAfter}
 use Rattle.promises.specs.Damage.{ownPlace}
 use Rattle.promises.specs.Calls.{Lent, sentCounts, sentDigits}

@@ -3,8 +3,8 @@ use mathlib.Core.Path.{_≡_}
 use mathlib.Core.List.{List, []}
 use Prim.Native.Nat.{ℕ}
 use lib.ListN.{length, replicate}
-use Rattle.levels.specs.declared.judging.Counted.{Counted}
-use Rattle.levels.specs.Judging.{answered, sendAnswered}
+use Rattle.levels.specs.declared.faults.Counted.{Counted}
+use Rattle.levels.specs.Faults.{answered, sendAnswered}
 use Rattle.reading.specs.Reading.{noted}
 use Rattle.multiplex.specs.Multiplex.{lineAfter}
 use Rattle.extraction.specs.Extract.{bufferAfter}

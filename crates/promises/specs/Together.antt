@@ -8,11 +8,11 @@ use lib.Dec.{eqb}
 use lib.ListN.{length}
 use Rattle.digits.specs.Digits.{digitsOf}
 use Rattle.table.specs.declared.Row.{Row}
-use Rattle.levels.specs.declared.judging.Counted.{Counted}
+use Rattle.levels.specs.declared.faults.Counted.{Counted}
 use Rattle.table.specs.Table.{levelOf}
 use Rattle.levels.specs.Sizes.{onLevel, sizeRefusal}
 use Rattle.levels.specs.Order.{countsOf}
-use Rattle.levels.specs.Judging.{badEarlier, answered}
+use Rattle.levels.specs.Faults.{badEarlier, answered}
 use Rattle.reading.specs.declared.Noted.{Noted}
 use Rattle.reading.specs.Notes.{notesOf, alignmentTo, dissentsOf}
 use Rattle.reading.specs.Reading.{noted, notesAfter}

@@ -19,7 +19,8 @@ use Rattle.receiver.specs.declared.Mode.the-variants.{Hunting, OneFound, TwoFou
 use Rattle.receiver.specs.declared.State.{State}
 use Rattle.receiver.specs.declared.Fed.{Fed}
 use Rattle.receiver.specs.Modes.{missed}
-use Rattle.receiver.specs.Feed.{freshState, freshOf, freshAt, feedOf, feedRow, refused, refusalOf, pieceOf, coreOf}
+use Rattle.digits.specs.Runs.{pieceOf}
+use Rattle.receiver.specs.Feed.{freshState, freshOf, freshAt, feedOf, feedRow, refused, refusalOf, coreOf}
 use Rattle.receiver_promises.proofs.Pieces.{feed-valid, fresh-state, run-answer}
 use Rattle.rack.specs.declared.record.Record.{Record}
 use Rattle.rack.specs.declared.record.Kept.{Kept}

@@ -1,2 +1,3 @@
 pub mod Notes
+pub mod Lanes
 pub mod Reading

@@ -4,16 +4,16 @@ use levels::lent;
 use levels::places::FramePlace;
 use levels::sizes;
 use levels::vote;
-use levels::vote::Vote;
 use table::Level;
 use table::Row;
 ghost use mathlib.Core.Path.{_≡_};
-ghost use Prim.Native.Nat.{_+_, _*_, _<_, _≤_};
+ghost use Prim.Native.Nat.{_+_, _*_, _/_, _%_, _<_, _≤_};
 ghost use lib.ListN.{length, getD};
-ghost use Rattle.digits.specs.Digits.{digitsOf};
+ghost use Rattle.digits.specs.Digits.{digitsOf, windowAt};
 ghost use Rattle.levels.specs.Table.{Shared};
 ghost use Rattle.levels.specs.Word.{wrongDigits};
-ghost use Rattle.reading.specs.Notes.{voteAt, serviceAt, noteOf, notesOf, dissentsIn, fourSums};
+ghost use Rattle.reading.specs.Notes.{serviceAt, noteOf, notesOf, dissentsIn, fourSums};
+ghost use Rattle.reading.specs.Lanes.{apartOf, groupOnes, servicesOf, saidBy};
 ghost use Rattle.reading.specs.Reading.{refusedWith, notedFrom, answerOn, notesOn, ReadNotesMet};
 
 pub struct Noted {
@@ -40,13 +40,40 @@ fn refused(refusal: u64) -> Noted
     }
 }
 
-// The vote of tributary j (from 0) in frame f.
-fn vote_at(row: Row, line: &[u8], f: usize, j: usize) -> Vote
-    requires { ⌜ Shared row × (j < 4) × (length (now line) ≤ 65536) × ((f + 1) * row .bytes ≤ length (now line)) ⌝ }
-    ensures { λ r. ⌜ r ≡ voteAt row (digitsOf (now (line .entry))) f j ⌝ }
+// The four digits of the column at place p, which four divides, as a number: the first four of a byte, or its last four.
+fn column_at(line: &[u8], p: FramePlace) -> u64
+    requires { ⌜ (p .0 % 4 ≡ 0) × (p .0 < 8 * length (now line)) ⌝ }
+    ensures { λ r. ⌜ (r ≡ windowAt (digitsOf (now (line .entry))) (p .0) 4) × (r < 16) ⌝ }
 {
-    let first = FramePlace(f * row.digits + (row.set + j));
-    vote::group_vote(line, first, row.set, row.control)
+    let at = p.0 / 8;
+    let byte = line[at] as u64;
+    if p.0 % 8 == 0 {
+        return byte / 16;
+    }
+    byte % 16
+}
+
+// The digits of a column, eight bits to each: the column is copied to four places seven bits apart, and of each copy one digit stays.
+fn apart(column: u64) -> u64
+    requires { ⌜ column < 16 ⌝ }
+    ensures { λ r. ⌜ r ≡ apartOf column ⌝ }
+{
+    (column * 0b1000000100000010000001) & 0b1000000010000000100000001
+}
+
+// The ones of the four control groups of frame f, counted at once, a column of control digits after the other.
+fn group_ones(row: Row, line: &[u8], f: usize) -> u64
+    requires { ⌜ Shared row × (length (now line) ≤ 65536) × ((f + 1) * row .bytes ≤ length (now line)) ⌝ }
+    ensures { λ r. ⌜ r ≡ groupOnes row (digitsOf (now (line .entry))) f (row .control) ⌝ }
+{
+    let mut ones: u64 = 0;
+    let mut k: usize = 0;
+    while k < row.control {
+        let p = FramePlace(f * row.digits + (row.set + k * row.set));
+        ones += apart(column_at(line, p));
+        k += 1;
+    }
+    ones
 }
 
 // Service digit k of frame f: the remote alarm digit first, then the national digits; 0 where a note of the level has not so many.
@@ -61,23 +88,47 @@ fn service_at(row: Row, line: &[u8], f: usize, k: usize) -> u8
     0
 }
 
+// The service digits of frame f, the first worth 1.
+fn services_at(row: Row, line: &[u8], f: usize) -> u8
+    requires { ⌜ Shared row × (length (now line) ≤ 65536) × ((f + 1) * row .bytes ≤ length (now line)) ⌝ }
+    ensures { λ r. ⌜ (r ≡ servicesOf row (digitsOf (now (line .entry))) f) × (r < 16) ⌝ }
+{
+    let first = service_at(row, line, f, 0) + 2 * service_at(row, line, f, 1);
+    first + 4 * service_at(row, line, f, 2) + 8 * service_at(row, line, f, 3)
+}
+
+// What a frame says whose control groups, of so many digits each, have these ones, with these service digits.
+fn said_by(size: usize, ones: u64, services: u8) -> FrameRead
+    requires { ⌜
+        (size ≤ 5)
+        × (ones / 16777216 ≤ size)
+        × (ones / 65536 % 256 ≤ size)
+        × (ones / 256 % 256 ≤ size)
+        × (ones % 256 ≤ size)
+        × (services < 16)
+        ⌝ }
+    ensures { λ r. ⌜ r ≡ saidBy size (ones / 16777216) (ones / 65536 % 256) (ones / 256 % 256) (ones % 256) services ⌝ }
+{
+    let a = vote::decide((ones / 16777216) as usize, size);
+    let b = vote::decide((ones / 65536 % 256) as usize, size);
+    let c = vote::decide((ones / 256 % 256) as usize, size);
+    let d = vote::decide((ones % 256) as usize, size);
+    let low = digits::digit_of(a.stuffed) + 2 * digits::digit_of(b.stuffed);
+    let stuffings = low + 4 * digits::digit_of(c.stuffed) + 8 * digits::digit_of(d.stuffed);
+    FrameRead {
+        note: stuffings + 16 * services,
+        dissent: [a.dissent, b.dissent, c.dissent, d.dissent],
+    }
+}
+
 // The note of frame f, by its own control groups and service digits.
 pub fn read_note(row: Row, line: &[u8], f: usize) -> FrameRead
     requires { ⌜ Shared row × (length (now line) ≤ 65536) × ((f + 1) * row .bytes ≤ length (now line)) ⌝ }
     ensures { λ r. ⌜ (r .note ≡ noteOf row (digitsOf (now (line .entry))) f) × (r .dissent ≡ dissentsIn row (digitsOf (now (line .entry))) f) ⌝ }
 {
-    let a = vote_at(row, line, f, 0);
-    let b = vote_at(row, line, f, 1);
-    let c = vote_at(row, line, f, 2);
-    let d = vote_at(row, line, f, 3);
-    let low = digits::digit_of(a.stuffed) + 2 * digits::digit_of(b.stuffed);
-    let stuffings = low + 4 * digits::digit_of(c.stuffed) + 8 * digits::digit_of(d.stuffed);
-    let services = 16 * service_at(row, line, f, 0) + 32 * service_at(row, line, f, 1);
-    let further = 64 * service_at(row, line, f, 2) + 128 * service_at(row, line, f, 3);
-    FrameRead {
-        note: stuffings + services + further,
-        dissent: [a.dissent, b.dissent, c.dissent, d.dissent],
-    }
+    let ones = group_ones(row, line, f);
+    let services = services_at(row, line, f);
+    said_by(row.control, ones, services)
 }
 
 // How many digits of the word at place p of a line are wrong: the ones in the difference of the two numbers, read at once.
@@ -102,7 +153,8 @@ fn four_sums(a: [usize; 4], b: [usize; 4]) -> [usize; 4]
     [a[0] + b[0], a[1] + b[1], a[2] + b[2], a[3] + b[3]]
 }
 
-// Reads the notes of a line, and counts the wrong alignment digits and the dissenting digits of each tributary.
+// Reads the notes of a line, and counts the wrong alignment digits and the dissenting digits of each tributary. What `read_note` does stands
+// here once more: so small are its parts that the compiler takes each into the loop, and the row is not copied for a call.
 pub fn read_frames(row: Row, line: &[u8], notes: &mut [u8]) -> Noted
     requires { ⌜ Shared row × (length (now line) ≡ length (now notes) * row .bytes) × (length (now notes) ≤ 64) ⌝ }
     ensures { λ r. ⌜
@@ -114,7 +166,9 @@ pub fn read_frames(row: Row, line: &[u8], notes: &mut [u8]) -> Noted
     let mut dissent = [0usize; 4];
     let mut f: usize = 0;
     while f < notes.len() {
-        let read = read_note(row, line, f);
+        let ones = group_ones(row, line, f);
+        let services = services_at(row, line, f);
+        let read = said_by(row.control, ones, services);
         notes[f] = read.note;
         let here = read.dissent;
         let sums = four_sums(dissent, here);

@@ -17,7 +17,8 @@ use Rattle.receiver.specs.declared.alarm.Stretch.{Stretch}
 use Rattle.receiver.specs.Alarm.{countOf, counted}
 use Rattle.receiver.specs.Modes.{hunting, windowOf, seenOf, asks, testedAt, placeAfter, afterDigit, stepOf}
 use Rattle.receiver.specs.Frame.{put, keepOf, aligned, readyOf}
-use Rattle.receiver.specs.Feed.{stateOf, afterOf, runOf, pieceOf, Valid}
+use Rattle.digits.specs.Runs.{pieceOf}
+use Rattle.receiver.specs.Feed.{stateOf, afterOf, runOf, Valid}
 use Rattle.receiver.specs.Carry.{goneOn, Carried}
 use Rattle.receiver.proofs.Validity.{step-valid}
 use Rattle.receiver.proofs.Counts.{counted-none, counted-one}

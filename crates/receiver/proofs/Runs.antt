@@ -13,7 +13,8 @@ use Rattle.receiver.specs.declared.alarm.Stretch.{Stretch}
 use Rattle.receiver.specs.Modes.{stepOf, testedAt}
 use Rattle.receiver.specs.Frame.{keepOf, readyOf}
 use Rattle.receiver.specs.Alarm.{counted, Counting}
-use Rattle.receiver.specs.Feed.{stateOf, Valid, afterOf, accepted, runOf, pieceOf}
+use Rattle.digits.specs.Runs.{pieceOf}
+use Rattle.receiver.specs.Feed.{stateOf, Valid, afterOf, accepted, runOf}
 use Rattle.receiver.specs.Hunt.{Hunted}
 use Rattle.receiver.specs.Carry.{Carried}
 use Rattle.receiver.proofs.Counts.{counted-none, counted-one, counted-join}

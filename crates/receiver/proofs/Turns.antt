@@ -18,7 +18,8 @@ use Rattle.receiver.specs.declared.Fed.{Fed}
 use Rattle.receiver.specs.Modes.{testedAt}
 use Rattle.receiver.specs.Frame.{readyOf}
 use Rattle.receiver.specs.Alarm.{isFew, alarmAfter, ended, added}
-use Rattle.receiver.specs.Feed.{coreOf, afterOf, runOf, pieceOf, refusalOf, feedRow, feedAt, feedOf}
+use Rattle.digits.specs.Runs.{pieceOf}
+use Rattle.receiver.specs.Feed.{coreOf, afterOf, runOf, refusalOf, feedRow, feedAt, feedOf}
 use Rattle.receiver.specs.Turns.{Turns, EveryBorder, borders, Nothing}
 
 -- ---- a stretch ends

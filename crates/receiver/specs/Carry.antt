@@ -8,7 +8,8 @@ use Rattle.strides.specs.Strides.{windowFrom}
 use Rattle.receiver.specs.declared.modes.Core.{Core}
 use Rattle.receiver.specs.declared.alarm.Stretch.{Stretch}
 use Rattle.receiver.specs.Alarm.{counted}
-use Rattle.receiver.specs.Feed.{stateOf, runOf, pieceOf, Valid}
+use Rattle.digits.specs.Runs.{pieceOf}
+use Rattle.receiver.specs.Feed.{stateOf, runOf, Valid}
 
 -- a core after k digits, from place p of a slice on, at which no rule looks
 unfoldable pub goneOn : Row → List ℕ → ℕ → Core → ℕ → Core

@@ -5,8 +5,8 @@ use mathlib.Core.Bool.{Bool, cond, true, false, not, _&&_, _||_}
 use mathlib.Core.List.{List, [], _∷_}
 use Prim.Native.Nat.{ℕ, suc, _+_, _*_, _^_, _<_, _≤_}
 use lib.Dec.{eqb, ltb, leb}
-use lib.ListN.{length, take, drop, replicate}
-use Rattle.digits.specs.Digits.{digitsOf}
+use lib.ListN.{length, replicate}
+use Rattle.digits.specs.Runs.{pieceOf}
 use Rattle.table.specs.declared.Row.{Row}
 use Rattle.table.specs.declared.Level.{Level}
 use Rattle.table.specs.declared.Level.the-variants.{Of, NoSuchLevel}
@@ -90,10 +90,6 @@ runOf row [] taken words s = accepted s taken words false
 runOf row (d ∷ ds) taken words s =
     cond (readyOf row (coreOf (afterOf row s d))) (accepted (afterOf row s d) (suc taken) (words + testedAt row (coreOf s)) true)
     (runOf row ds (suc taken) (words + testedAt row (coreOf s)) (afterOf row s d))
-
--- the digits of a piece: so many of a slice, from a first one on
-abbrev pub pieceOf : List ℕ → ℕ → ℕ → List ℕ
-pieceOf slice first count = take count (drop first (digitsOf slice))
 
 unfoldable pub feedRow : Row → State → List ℕ → ℕ → ℕ → Fed
 feedRow row s slice first count =

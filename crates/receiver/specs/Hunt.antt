@@ -8,7 +8,8 @@ use Rattle.digits.specs.Digits.{between}
 use Rattle.receiver.specs.declared.modes.Core.{Core}
 use Rattle.receiver.specs.declared.alarm.Stretch.{Stretch}
 use Rattle.receiver.specs.Alarm.{counted}
-use Rattle.receiver.specs.Feed.{stateOf, runOf, pieceOf, Valid}
+use Rattle.digits.specs.Runs.{pieceOf}
+use Rattle.receiver.specs.Feed.{stateOf, runOf, Valid}
 
 unfoldable pub stillHunting : Row → ℕ → ℕ → Core
 stillHunting row w came = record { window = w; seen = min came (row .len); mode = Hunting; place = 0 }

@@ -17,7 +17,8 @@ ghost use Rattle.levels.specs.Table.{Shared};
 ghost use Rattle.receiver.specs.Modes.{hunting};
 ghost use Rattle.receiver.specs.Frame.{aligned};
 ghost use Rattle.receiver.specs.Alarm.{Counting};
-ghost use Rattle.receiver.specs.Feed.{Valid, coreOf, stateOf, pieceOf, invalid, refusalOf, refused};
+ghost use Rattle.digits.specs.Runs.{pieceOf};
+ghost use Rattle.receiver.specs.Feed.{Valid, coreOf, stateOf, invalid, refusalOf, refused};
 ghost use Rattle.receiver.specs.Feed.{accepted, runOf, feedRow, freshState, FreshMet, FeedMet};
 
 pub enum Mode {

@@ -22,7 +22,8 @@ use Rattle.receiver.specs.declared.Fed.{Fed}
 use Rattle.receiver.specs.declared.alarm.Stretch.{Stretch}
 use Rattle.receiver.specs.Alarm.{isFew, alarmAfter, ended, added, counted, freshStretch, Counting}
 use Rattle.receiver_promises.specs.Stretches.{stretchesOf, alarmOver, alarmOf, EverywhereFew}
-use Rattle.receiver.specs.Feed.{freshState, afterOf, pieceOf, feedOf}
+use Rattle.digits.specs.Runs.{pieceOf}
+use Rattle.receiver.specs.Feed.{freshState, afterOf, feedOf}
 use Rattle.receiver_promises.specs.History.{heard, since}
 use Rattle.digits.specs.Runs.{Piece, AllLent, digitsInAll, leftBy, callsForAll}
 use Rattle.receiver_promises.specs.Calls.{callOf}

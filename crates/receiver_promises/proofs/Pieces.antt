@@ -23,7 +23,8 @@ use Rattle.receiver.specs.declared.State.{State}
 use Rattle.receiver.specs.declared.Fed.{Fed}
 use Rattle.receiver.specs.Modes.{testedAt}
 use Rattle.receiver.specs.Frame.{readyOf}
-use Rattle.receiver.specs.Feed.{coreOf, freshState, freshOf, invalid, refusalOf, afterOf, accepted, refused, runOf, pieceOf, feedRow, feedOf, Valid, ValidState}
+use Rattle.digits.specs.Runs.{pieceOf}
+use Rattle.receiver.specs.Feed.{coreOf, freshState, freshOf, invalid, refusalOf, afterOf, accepted, refused, runOf, feedRow, feedOf, Valid, ValidState}
 use Rattle.receiver.specs.Alarm.{uncounted, counted, Counting}
 use Rattle.receiver_promises.specs.History.{heard, testedBy, readyAt, readyAfter, since, joined, Handed}
 use Rattle.digits.proofs.Lists.{binary-append, binary-take}

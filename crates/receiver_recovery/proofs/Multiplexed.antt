@@ -28,7 +28,7 @@ use Rattle.levels.specs.Table.{Shared}
 use Rattle.levels.specs.Places.{notedDigit, notedOf, serviceDigit, firstSet, middleSet, lastSet, kindOf, posOf, kindAt}
 use Rattle.levels.specs.Order.{stuffed, hasNegative, actionOf, isStuffed, actions, before}
 use Rattle.levels.specs.Word.{wordDigit}
-use Rattle.levels.specs.Judging.{nationalBits}
+use Rattle.levels.specs.Faults.{nationalBits}
 use Rattle.levels.proofs.Choice.{cond-by}
 use Rattle.levels.proofs.Rows.{shared-row}
 use Rattle.levels.proofs.Positions.{stands}

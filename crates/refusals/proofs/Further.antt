@@ -11,14 +11,14 @@ use Rattle.table.specs.declared.Level.{Level}
 use Rattle.table.specs.declared.Level.the-variants.{Of, NoSuchLevel}
 use Rattle.table.specs.Table.{levelOf}
 use Rattle.levels.specs.Sizes.{badLine, badBuffer}
-use Rattle.levels.specs.Judging.{badEarlier, sendFaultOf, sendAnswered, answered}
+use Rattle.levels.specs.Faults.{badEarlier, sendFaultOf, sendAnswered, answered}
 use Rattle.multiplex.specs.Multiplex as multiplex
 use Rattle.reading.specs.Reading.{noted, notesAfter}
 use Rattle.extraction.specs.Extract.{bufferAfter}
 use Rattle.plain.specs.declared.Answered.{Answered}
 use Rattle.plain.specs.declared.NotesRead.{NotesRead}
 use Rattle.plain.specs.Engine as plain
-use Rattle.engines.proofs.Engines.{same-multiplexing, same-reading, same-extraction}
+use Rattle.plain_promises.proofs.Engines.{same-multiplexing, same-reading, same-extraction}
 use Rattle.judge.specs.Verdict as judge
 use Rattle.judge.specs.Verdict.{badPattern, judged}
 use Rattle.compare.specs.Compare.{countedOn}
@@ -64,7 +64,7 @@ judge-order level earlier line pattern buffer =
         by false false false false ep ea ec ed = rw (e, ep, ea, ec, ed)
     go NoSuchLevel e = rw e
 
--- ---- the plain engine: it refuses as the other one does (crate engines)
+-- ---- the plain engine: it refuses as the other one does (crate plain_promises)
 
 pub plain-multiplex-order : (level earlier : ℕ) (line notes buffer : List ℕ) (answer : Answered) (left : List ℕ)
     → plain.MultiplexMet level earlier line notes buffer answer left

@@ -12,10 +12,10 @@ use Rattle.table.specs.declared.Row.{Row}
 use Rattle.table.specs.declared.Level.{Level}
 use Rattle.table.specs.declared.Level.the-variants.{Of, NoSuchLevel}
 use Rattle.table.specs.Table.{levelOf}
-use Rattle.levels.specs.declared.judging.Fault.{Fault}
-use Rattle.levels.specs.declared.judging.Counted.{Counted}
+use Rattle.levels.specs.declared.faults.Fault.{Fault}
+use Rattle.levels.specs.declared.faults.Counted.{Counted}
 use Rattle.levels.specs.Sizes.{badLine, framesRefusal, sizeRefusal}
-use Rattle.levels.specs.Judging.{firstWith, fault, orElse, naming, overfull, unset, badEarlier, earlierFault, noteFault, nationalFault, faultOf, sendFaultOf, answered, sendAnswered}
+use Rattle.levels.specs.Faults.{firstWith, fault, orElse, naming, overfull, unset, badEarlier, earlierFault, noteFault, nationalFault, faultOf, sendFaultOf, answered, sendAnswered}
 use Rattle.levels.proofs.Choice.{cond-by}
 use Rattle.reading.specs.declared.Noted.{Noted}
 use Rattle.reading.specs.Reading.{noted, notesAfter, ReadNotesMet}
@@ -36,9 +36,9 @@ use Rattle.copying.specs.Copying.{copies, CopyMet}
 use Rattle.late.specs.Late.{lateAnswer, lateLeft, LateMet}
 use Rattle.multiframe.specs.declared.Built.{Built}
 use Rattle.multiframe.specs.Calls.{lengthsRight, firstSilent, builtOf, BuildMet}
-use Rattle.finder.specs.declared.State as finder
-use Rattle.finder.specs.declared.Fed as found
-use Rattle.finder.specs.Feed as finding
+use Rattle.finder_2048.specs.declared.State as finder
+use Rattle.finder_2048.specs.declared.Fed as found
+use Rattle.finder_2048.specs.Feed as finding
 use Rattle.receiver.specs.declared.Fed.{Fed}
 use Rattle.receiver.specs.Feed.{freshState}
 use Rattle.receiver.specs.Turns.{Nothing}

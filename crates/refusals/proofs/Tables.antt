@@ -12,7 +12,7 @@ use Rattle.table.specs.declared.Level.{Level}
 use Rattle.table.specs.declared.Level.the-variants.{Of, NoSuchLevel}
 use Rattle.table.specs.Table.{levelOf}
 use Rattle.levels.specs.Sizes.{onLevel, badLine, badNotes, badBuffer, framesRefusal, sizeRefusal}
-use Rattle.levels.specs.Judging.{firstWith, overfull, unset, badEarlier, faultOf, sendFaultOf, answered, sendAnswered}
+use Rattle.levels.specs.Faults.{firstWith, overfull, unset, badEarlier, faultOf, sendFaultOf, answered, sendAnswered}
 use Rattle.digits.proofs.Tests.{cond-told}
 use Rattle.reading.specs.Reading.{noted}
 use Rattle.swap.specs.Swap as swap
@@ -27,14 +27,15 @@ use Rattle.receiver.specs.declared.Fed.{Fed}
 use Rattle.receiver.specs.Modes.{testedAt}
 use Rattle.receiver.specs.Frame.{readyOf}
 use Rattle.receiver.specs.Alarm.{uncounted}
-use Rattle.receiver.specs.Feed.{coreOf, freshOf, invalid, refusalOf, afterOf, runOf, pieceOf, feedRow, feedOf}
+use Rattle.digits.specs.Runs.{pieceOf}
+use Rattle.receiver.specs.Feed.{coreOf, freshOf, invalid, refusalOf, afterOf, runOf, feedRow, feedOf}
 use Rattle.rack.specs.declared.record.Record.{Record}
 use Rattle.rack.specs.declared.record.Kept.{Kept}
 use Rattle.rack.specs.Record.{stateFrom, fedBy, fedRecord, keptReset}
 use Rattle.rack.specs.Rack.{at, listRefusal, refusalBy, fedAlone, countRefusal}
 use Rattle.multiframe.specs.Calls.{lengthsRight, silentFrom, firstSilent, builtOf}
-use Rattle.finder.specs.declared.State as finder
-use Rattle.finder.specs.Feed as finding
+use Rattle.finder_2048.specs.declared.State as finder
+use Rattle.finder_2048.specs.Feed as finding
 use Rattle.refusals.specs.First.{Given, given, FirstThatApplies}
 use Rattle.refusals.specs.Tables.{anyOf, extractTable, multiplexTable, readNotesTable, swapTable, repairTable, writeTable, readTable}
 use Rattle.refusals.specs.Tables.{noLevel, compareTable, freshTable, pieceTable, feedTable, badRecord, rackFeedTable, rackResetTable, rackCountTable, apartTable, silent, buildTable, finderTable}

@@ -7,7 +7,7 @@ use Prim.Native.Nat.{ℕ, _+_, _-_, _*_, _^_}
 use lib.Dec.{eqb, ltb, leb}
 use Rattle.table.specs.declared.Row.{Row}
 use Rattle.levels.specs.Sizes.{badLine, badBuffer}
-use Rattle.levels.specs.Judging.{badEarlier}
+use Rattle.levels.specs.Faults.{badEarlier}
 use Rattle.judge.specs.Verdict.{badPattern}
 use Rattle.refusals.specs.First.{Given, given}
 use Rattle.refusals.specs.Tables.{noLevel, onRow}

@@ -6,7 +6,7 @@ use mathlib.Core.Bool.{false}
 use mathlib.Core.List.{List, [], _∷_}
 use Prim.Native.Nat.{ℕ}
 use lib.ListN.{replicate}
-use Rattle.levels.specs.declared.judging.Counted.{Counted}
+use Rattle.levels.specs.declared.faults.Counted.{Counted}
 use Rattle.reading.specs.declared.Noted.{Noted}
 use Rattle.swap.specs.declared.Swapped.{Swapped}
 use Rattle.repair.specs.declared.Repaired.{Repaired}
@@ -15,8 +15,8 @@ use Rattle.captures.specs.declared.Written.{Written}
 use Rattle.captures.specs.declared.Reading.{Reading}
 use Rattle.captures.specs.Captures.{nowhere}
 use Rattle.multiframe.specs.declared.Built.{Built}
-use Rattle.finder.specs.declared.State as finder
-use Rattle.finder.specs.declared.Fed as found
+use Rattle.finder_2048.specs.declared.State as finder
+use Rattle.finder_2048.specs.declared.Fed as found
 use Rattle.rack.specs.declared.record.Record.{Record}
 
 abbrev pub fourZeros : List ℕ

@@ -7,7 +7,7 @@ use lib.ListN.{length}
 use Rattle.table.specs.declared.Row.{Row}
 use Rattle.table.specs.Table.{levelOf}
 use Rattle.levels.specs.Sizes.{onLevel, badLine, badNotes, badBuffer}
-use Rattle.levels.specs.Judging.{overfull, unset, badEarlier}
+use Rattle.levels.specs.Faults.{overfull, unset, badEarlier}
 use Rattle.swap.specs.Swap.{badTributary, badRoom}
 use Rattle.captures.specs.Captures.{fileOf, fieldsOf, readOf}
 use Rattle.receiver.specs.declared.State.{State}
@@ -17,8 +17,8 @@ use Rattle.rack.specs.declared.record.Record.{Record}
 use Rattle.rack.specs.Record.{stateFrom}
 use Rattle.rack.specs.Rack.{at}
 use Rattle.multiframe.specs.Calls.{lengthsRight, onesOf}
-use Rattle.finder.specs.declared.State as finder
-use Rattle.finder.specs.Feed as finding
+use Rattle.finder_2048.specs.declared.State as finder
+use Rattle.finder_2048.specs.Feed as finding
 use Rattle.refusals.specs.First.{Given, given}
 
 -- 1: "level is not 2, 3 or 4", nor 12 nor 14

@@ -11,7 +11,7 @@ use borrow.Author.Tests.{ne-eqb}
 use Rattle.table.specs.declared.Row.{Row}
 use Rattle.levels.specs.Table.{Shared}
 use Rattle.levels.specs.Sizes.{badLine}
-use Rattle.levels.specs.Judging.{badEarlier}
+use Rattle.levels.specs.Faults.{badEarlier}
 use Rattle.levels.proofs.Judged.{line-frames}
 use Rattle.tally.specs.Tally.{sumOf, sumsOf}
 use Rattle.tally.proofs.Sums.{sums-at}

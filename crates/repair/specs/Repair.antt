@@ -20,7 +20,7 @@ use Rattle.levels.specs.Sizes.{onLevel, framesOf, badLine}
 use Rattle.levels.specs.Places.{kindAt, posOf}
 use Rattle.levels.specs.Order.{actions, carried}
 use Rattle.levels.specs.Word.{wordDigit}
-use Rattle.levels.specs.Judging.{badEarlier}
+use Rattle.levels.specs.Faults.{badEarlier}
 use Rattle.reading.specs.Notes.{voteAt, notesOf}
 use Rattle.tally.specs.Tally.{sumNumber, sumOf}
 use Rattle.repair.specs.declared.Repaired.{Repaired}

@@ -1,7 +1,7 @@
 // Repairing a worn line in place: alignment digits to the word, control groups to their majority, stuffing digits to 1, and if asked national digits to 1.
 // Frame after frame: the votes of a frame are read before anything of it is written, and the note of the frame before it is carried along. Only the heads
 // of sets are walked, for behind them there are tributary digits alone. specs/Repair.antt says what the call answers and leaves.
-use levels::judging;
+use levels::faults;
 use levels::lent;
 use levels::order;
 use levels::places;
@@ -209,7 +209,7 @@ fn repair_on(row: Row, earlier: u64, national: bool, line: &mut [u8]) -> Repaire
     if sizes::bad_line(row, line.len()) {
         return refused(2);
     }
-    if judging::bad_earlier(row, earlier) {
+    if faults::bad_earlier(row, earlier) {
         return refused(5);
     }
     let mut sums = [0usize; 15];

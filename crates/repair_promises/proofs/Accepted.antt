@@ -10,7 +10,7 @@ use Rattle.table.specs.declared.Row.{Row}
 use Rattle.table.specs.declared.Level.the-variants.{Of}
 use Rattle.table.specs.Table.{levelOf}
 use Rattle.levels.specs.Sizes.{badLine}
-use Rattle.levels.specs.Judging.{badEarlier}
+use Rattle.levels.specs.Faults.{badEarlier}
 use Rattle.levels.proofs.Judged.{unrefused}
 use Rattle.levels.proofs.Refusals.{EarlierFits}
 use Rattle.promises.proofs.Accepted.{some-level, zero-refusal, shared}

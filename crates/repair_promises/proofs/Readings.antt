@@ -21,7 +21,7 @@ use Rattle.levels.specs.Table.{Shared}
 use Rattle.levels.specs.Sizes.{framesOf, framesRefusal, sizeRefusal}
 use Rattle.levels.specs.Places.{kindAt, posOf}
 use Rattle.levels.specs.Order.{actions, carries, countOf}
-use Rattle.levels.specs.Judging.{faultOf}
+use Rattle.levels.specs.Faults.{faultOf}
 use Rattle.levels.specs.Word.{wrongDigits}
 use Rattle.levels.proofs.Columns.{columns, frame-start}
 use Rattle.levels.proofs.Judged.{framed, accepted}

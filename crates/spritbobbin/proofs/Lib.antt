@@ -11,3 +11,4 @@ pub mod NamingAnswers
 pub mod LateAnswers
 pub mod BeginsAnswers
 pub mod VersionAnswers
+pub mod VerdictAnswers

@@ -5,11 +5,11 @@ use mathlib.Core.List.{List, [], _∷_}
 use Prim.Native.Nat.{ℕ, _+_, _-_}
 use lib.Dec.{eqb, leb}
 use lib.ListN.{getD}
-use Rattle.finder.specs.declared.Mode.{Mode}
-use Rattle.finder.specs.declared.Mode.the-variants.{Hunting, WordFound, SecondSeen, Aligned}
-use Rattle.finder.specs.declared.State.{State}
-use Rattle.finder.specs.declared.Fed.{Fed}
-use Rattle.finder.specs.Feed.{freshState, feedOf}
+use Rattle.finder_2048.specs.declared.Mode.{Mode}
+use Rattle.finder_2048.specs.declared.Mode.the-variants.{Hunting, WordFound, SecondSeen, Aligned}
+use Rattle.finder_2048.specs.declared.State.{State}
+use Rattle.finder_2048.specs.declared.Fed.{Fed}
+use Rattle.finder_2048.specs.Feed.{freshState, feedOf}
 
 -- mode: 0 hunting, 1 word found, 2 second digit seen, 3 + m aligned with m words missed
 abbrev pub modeNumber : Mode → ℕ

@@ -1,7 +1,7 @@
 // The C face of the finder of 2048 kbit/s frames: its state passes as four numbers.
-use finder::Fed;
-use finder::Mode;
-use finder::State;
+use finder_2048::Fed;
+use finder_2048::Mode;
+use finder_2048::State;
 ghost use mathlib.Core.Path.{_≡_};
 ghost use Rattle.spritbobbin.specs.Finding.{modeNumber, modeOf, stateNumbers, fedAnswer, FinderFreshMet, FinderFeedMet};
 
@@ -57,7 +57,7 @@ fn found_numbers(f: Fed) -> [u64; 2]
 pub extern "C" fn spritbobbin_finder_fresh(state: &mut [u64; 4]) -> u64
     ensures { λ r. ⌜ FinderFreshMet r (now (state .exit)) ⌝ }
 {
-    *state = four_numbers(finder::fresh());
+    *state = four_numbers(finder_2048::fresh());
     0
 }
 
@@ -79,7 +79,7 @@ pub extern "C" fn spritbobbin_finder_feed(
         mode,
         place: state[3] as usize,
     };
-    let fed = finder::feed(s, piece, first as usize, count as usize);
+    let fed = finder_2048::feed(s, piece, first as usize, count as usize);
     *answer = found_numbers(fed);
     if fed.refusal != 0 {
         return fed.refusal;

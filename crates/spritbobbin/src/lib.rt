@@ -11,11 +11,12 @@ pub mod plain_face;
 pub mod rack_face;
 pub mod repair_face;
 pub mod swap_face;
+pub mod verdict_face;
 pub mod version_face;
 
 use captures::Reading;
 use captures::Written;
-use levels::judging::Counted;
+use levels::faults::Counted;
 use multiframe::Built;
 use reading::Noted;
 use receiver::State;

@@ -210,7 +210,7 @@ pub fn feed_all() {
 }
 
 // A byte more than a piece may have.
-fn zeros() -> [u8; 65537]
+pub fn zeros() -> [u8; 65537]
     ensures { λ r. ⌜ 65537 ≡ length r ⌝ }
 {
     [0; 65537]

@@ -14,7 +14,7 @@ use Rattle.table.specs.declared.Row.{Row}
 use Rattle.levels.specs.Table.{Shared}
 use Rattle.levels.specs.Sizes.{framesOf, framesRefusal, Fits}
 use Rattle.levels.specs.Order.{actions, countOf}
-use Rattle.levels.specs.Judging.{badEarlier}
+use Rattle.levels.specs.Faults.{badEarlier}
 use Rattle.levels.proofs.Counts.{count-of}
 use Rattle.levels.proofs.Judged.{unrefused, neither-refused, framed}
 use Rattle.swap.specs.Swap.{badTributary, badRoom, numberOf, swappedDigit, swappedLine}

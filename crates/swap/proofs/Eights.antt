@@ -226,23 +226,37 @@ module _ (ds : List ℕ) (i j : ℕ) where
   pub ran-none : (old : List ℕ) (x : ℕ) → Bytes old → Ran old x 0 ds i j old
   ran-none old x bytes = record { digits = λ p. rw (among-none x p); kept = refl; bytes = bytes }
 
-  pub ran-more : (old mid new : List ℕ) (x k y i′ n : ℕ) → Ran old x k ds i j mid → y ≡ x + k → i′ ≡ i + k → Ran mid y n ds i′ j new → Ran old x (k + n) ds i j new
-  ran-more old mid new x k y i′ n one ey ei two =
+  -- columns and more, of which some may have been among those before: they get the same digits once more
+  pub ran-more : (old mid new : List ℕ) (x k c y i′ n : ℕ) → Ran old x k ds i j mid → c ≤ k → k ≤ c + n → y ≡ x + c → i′ ≡ i + c → Ran mid y n ds i′ j new
+      → Ran old x (c + n) ds i j new
+  ran-more old mid new x k c y i′ n one low over ey ei two =
       record {
         digits = λ p. two .digits p ∙ joined p;
         kept = two .kept ∙ one .kept;
         bytes = two .bytes;
       }
     where
+      neither : (t : Bool) (a b : ℕ) → cond (t && false) a b ≡ b
+      neither true a b = refl
+      neither false a b = refl
+
       joined : (p : ℕ) → cond (among y n p && eqb (p % 4) j) (getD ds (i′ + (p / 4 - y)) 0) (getD (digitsOf mid) p 0)
-          ≡ cond (among x (k + n) p && eqb (p % 4) j) (getD ds (i + (p / 4 - x)) 0) (getD (digitsOf old) p 0)
+          ≡ cond (among x (c + n) p && eqb (p % 4) j) (getD ds (i + (p / 4 - x)) 0) (getD (digitsOf old) p 0)
       joined p =
           by-columns y n p
-          (λ h e. rw e (one .digits p ∙ by-columns x k p (λ g f. rw (f, among-before x (k + n) p g)) (λ g l f. rw (f, among-in x (k + n) p g (omega arith))) (λ g f. absurd (omega arith))))
-          (λ h l e.
-          let at : i′ + (p / 4 - y) ≡ i + (p / 4 - x) = omega arith in
-          rw (e, at, among-in x (k + n) p (omega arith) (omega arith), one .digits p, among-after x k p (omega arith)))
-          (λ h e. rw (e, one .digits p, among-after x k p (omega arith), among-after x (k + n) p (omega arith)))
+          (λ h e. rw e (one .digits p ∙ by-columns x k p (λ g f. rw (f, among-before x (c + n) p g)) (λ g l f. rw (f, among-in x (c + n) p g (omega arith))) (λ g f. absurd (omega arith))))
+          (λ h l e. inside h l e (ℕ-discrete (p % 4) j))
+          (λ h e. rw (e, one .digits p, among-after x k p (omega arith), among-after x (c + n) p (omega arith)))
+        where
+          inside : y ≤ p / 4 → p / 4 < y + n → among y n p ≡ true → Dec (p % 4 ≡ j)
+              → cond (among y n p && eqb (p % 4) j) (getD ds (i′ + (p / 4 - y)) 0) (getD (digitsOf mid) p 0)
+              ≡ cond (among x (c + n) p && eqb (p % 4) j) (getD ds (i + (p / 4 - x)) 0) (getD (digitsOf old) p 0)
+          inside h l e (yes m) =
+              let at : i′ + (p / 4 - y) ≡ i + (p / 4 - x) = omega arith in
+              rw (e, at, among-in x (c + n) p (omega arith) (omega arith), eq-eqb (p % 4) j m)
+          inside h l e (no m) =
+              rw (e, among-in x (c + n) p (omega arith) (omega arith), ne-eqb (p % 4) j m)
+              (one .digits p ∙ rw (ne-eqb (p % 4) j m) (neither (among x k p) _ _))
 
 -- eight columns
 pub ran-eight : (old ds : List ℕ) → Binary ds → (at i j : ℕ) → j < 4 → at + 4 ≤ length old → (out : ℕ)

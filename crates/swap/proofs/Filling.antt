@@ -5,7 +5,7 @@ use mathlib.Core.List.{List, _∷_}
 use Prim.Native.Nat.{ℕ, zero, suc, _+_, _*_, _-_, _/_, _%_, _≤_, _<_}
 use native.Mathlib.Omega.{arith}
 use native.Mathlib.Decide.{decLt, ℕ-discrete}
-use native.Mathlib.Nat.{add-zero, add-suc}
+use native.Mathlib.Nat.{add-zero, add-suc, add-mul}
 use lib.Dec.{eqb, ltb}
 use lib.ListN.{length, getD, set}
 use lib.Seq.{getD-set-same, getD-set-other}
@@ -90,11 +90,11 @@ module _ {row : Row} {earlier : ℕ} {notes ds old : List ℕ} {j q x i : ℕ} {
       stands = stands-at row sh (4 * x + j) at (so-far .walking .place)
 
       -- where they stand, and that they are the tributary's
-      on : (c : ℕ) → c ≤ k → posOf row (4 * (x + c) + j) ≡ record { frame = at .frame; set = at .set; place = at .place + 4 * c }
+      on : (c : ℕ) → c < k → posOf row (4 * (x + c) + j) ≡ record { frame = at .frame; set = at .set; place = at .place + 4 * c }
       on c l = pos-of-sum row sh (4 * (x + c) + j) (at .frame) (at .set) (at .place + 4 * c) (omega (arith, stands .sum)) (stands .set-in) (omega (arith, go .inside))
 
       own-kind : (c : ℕ) → c < k → kindAt row (4 * (x + c) + j) ≡ Tributary
-      own-kind c l = rw (on c (omega arith)) (past-head row sh (at .set) (at .place + 4 * c) (omega (arith, go .run (omega arith) .1)))
+      own-kind c l = rw (on c l) (past-head row sh (at .set) (at .place + 4 * c) (omega (arith, go .run (omega arith) .1)))
 
       moved : (c : ℕ) → c ≤ k → before row acts-of j (x + c) ≡ i + c
       unfolding before carries
@@ -103,19 +103,29 @@ module _ {row : Row} {earlier : ℕ} {notes ds old : List ℕ} {j q x i : ℕ} {
 
       past : x + k < 2 * length old
       past =
-          omega (arith, stands .sum, go .inside, set-in-line row (length old) (length notes) q (so-far .fits) (at .frame) (at .set) (here-is .frame-noted) (stands .set-in))
+          elim (decLt (at .set + 1) (row .sets)) [
+            | yes more ↦ omega (
+              arith,
+              stands .sum,
+              go .inside,
+              add-mul (at .set) 1 (row .set),
+              so-far .fits .shared .room,
+              set-in-line row (length old) (length notes) q (so-far .fits) (at .frame) (at .set + 1) (here-is .frame-noted) more,
+            )
+            | no none ↦ omega (arith, stands .sum, go .last (omega arith), set-in-line row (length old) (length notes) q (so-far .fits) (at .frame) (at .set) (here-is .frame-noted) (stands .set-in))
+          ]
 
       room : (i + k ≤ 8 * q) × (i + k < 65536)
       room = rw (moved k (omega arith)) at (before-room row (length old) (length notes) q (so-far .fits) earlier notes j (so-far .tributary) (x + k) (omega (arith, past)))
 
-      pub run-asks : (k % 8 ≡ 0) × (2 * (x / 2) + k ≤ 2 * length mid) × (i + k ≤ 8 * q) × (i + k < 65536) × (j < 4)
-      run-asks = (go .eights, omega (arith, past, so-far .kept), room .0, room .1, so-far .tributary)
+      pub run-asks : (k % 2 ≡ 0) × (0 < k → 8 ≤ k) × (2 * (x / 2) + k ≤ 2 * length mid) × (i + k ≤ 8 * q) × (i + k < 65536) × (j < 4)
+      run-asks = (go .pairs, go .eight, omega (arith, past, so-far .kept), room .0, room .1, so-far .tributary)
 
       pub run-past : x + k < 2 * length old
       run-past = past
 
-      pub on-asks : Shared row × (at .set < row .sets) × (at .place + 4 * k < row .set)
-      on-asks = (sh, stands .set-in, go .inside)
+      pub on-asks : Shared row × (at .frame ≤ 64) × (at .set < row .sets) × (at .place < row .set) × (at .place + 4 * k < row .set + 4)
+      on-asks = (sh, here-is .frame-few, stands .set-in, here-is .place-in, go .inside)
 
       -- what multiplexing sends there
       own-digit : (p c : ℕ) → p ≡ 4 * (x + c) + j → c < k → lineDigit row earlier notes (λ (n : ℕ). ds) p ≡ getD ds (i + c) 0

@@ -35,10 +35,13 @@ pub record Ran (old : List ℕ) (x k : ℕ) (ds : List ℕ) (i j : ℕ) (new : L
   pub kept : length new ≡ length old
   pub bytes : Bytes new
 
--- k columns ahead that go by whole bytes: eights of them, before the set's last column, behind the head, from a byte's first column on
+-- k columns ahead that go by whole bytes: pairs of them, eight at least, up to the set's end and in the frame's last set before its last column, behind the
+-- head, from a byte's first column on
 pub record Ahead (row : Row) (at : At) (x k : ℕ) : Type 0 where
-  pub eights : k % 8 ≡ 0
-  pub inside : at .place + 4 * k < row .set
+  pub pairs : k % 2 ≡ 0
+  pub eight : 0 < k → 8 ≤ k
+  pub inside : at .place + 4 * k < row .set + 4
+  pub last : row .sets ≤ at .set + 1 → at .place + 4 * k < row .set
   pub run : 0 < k → (x % 2 ≡ 0) × (headEnd row (at .set) ≤ at .place)
 
 -- every own place of tributary j has its digit; every other place stays

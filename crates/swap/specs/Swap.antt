@@ -11,7 +11,7 @@ use Rattle.table.specs.Table.{levelOf}
 use Rattle.levels.specs.Sizes.{onLevel, framesOf, framesRefusal}
 use Rattle.levels.specs.Places.{kindAt, isOwn}
 use Rattle.levels.specs.Order.{actions, countOf}
-use Rattle.levels.specs.Judging.{badEarlier}
+use Rattle.levels.specs.Faults.{badEarlier}
 use Rattle.multiplex.specs.Line.{lineDigit}
 use Rattle.swap.specs.declared.Swapped.{Swapped}
 

@@ -37,7 +37,18 @@ fn put_eight(table: &[u64; 256], line: &mut [u8], at: usize, buffer: &[u8], i: u
     words::store4(line, at, exchanged(words::load4(line, at), digits, j));
 }
 
-// Columns by eight, from byte `at` of the line on.
+// Which eight of so many columns are taken where those before k are done: those from k on, or at the end the last eight, some of them once more.
+fn eight_from(columns: usize, k: usize) -> usize
+    requires { ⌜ (8 ≤ columns) × (columns % 2 ≡ 0) × (k % 2 ≡ 0) × (k < columns) × (columns < 65536) ⌝ }
+    ensures { λ c. ⌜ (c ≤ k) × (k < c + 8) × (c + 8 ≤ columns) × (c % 2 ≡ 0) ⌝ }
+{
+    if k + 8 <= columns {
+        return k;
+    }
+    columns - 8
+}
+
+// Columns by eight, from byte `at` of the line on. The last eight may go over some a second time, with the same digits, so that no column is left.
 pub fn put_columns(
     table: &[u64; 256],
     line: &mut [u8],
@@ -49,7 +60,8 @@ pub fn put_columns(
 )
     requires { ⌜
         (now table ≡ tab 256 0 (spreadOf 8))
-        × (columns % 8 ≡ 0)
+        × (columns % 2 ≡ 0)
+        × (0 < columns → 8 ≤ columns)
         × (2 * at + columns ≤ 2 * length (now line))
         × (i + columns ≤ 8 * length (now buffer))
         × (i + columns < 65536)
@@ -59,7 +71,8 @@ pub fn put_columns(
 {
     let mut k: usize = 0;
     while k < columns {
-        put_eight(table, line, at + k / 2, buffer, i + k, j);
-        k += 8;
+        let c = eight_from(columns, k);
+        put_eight(table, line, at + c / 2, buffer, i + c, j);
+        k = c + 8;
     }
 }

@@ -2,7 +2,7 @@
 // other digit is touched. specs/Swap.antt says what the call answers and leaves.
 mod columns;
 
-use levels::judging;
+use levels::faults;
 use levels::lent;
 use levels::order;
 use levels::places;
@@ -73,10 +73,21 @@ fn put_one(
     i
 }
 
-// How many columns of tributary digits lie ahead in the set that go by whole bytes: as many eights as leave a column, none in a head, none from the
-// middle of a byte on.
+// Up to which place of set s a run may reach: over its last column, but in the frame's last set, behind which the line may end.
+fn run_end(row: Row, s: usize) -> usize
+    requires { ⌜ Shared row × (s < row .sets) ⌝ }
+    ensures { λ r. ⌜ (row .set ≤ r + 1) × (r ≤ row .set + 3) × (row .sets ≤ s + 1 → r < row .set) ⌝ }
+{
+    if s == row.sets - 1 {
+        return row.set - 1;
+    }
+    row.set + 3
+}
+
+// How many columns of tributary digits lie ahead in the set that go by whole bytes: in pairs, eight at least. None in a head, none from the middle of a
+// byte on, and in the frame's last set as many as leave a column.
 fn ahead(row: Row, at: At, x: usize) -> usize
-    requires { ⌜ Shared row × (at .place < row .set) ⌝ }
+    requires { ⌜ Shared row × (at .set < row .sets) × (at .place < row .set) ⌝ }
     ensures { λ k. ⌜ Ahead row at x k ⌝ }
 {
     if x % 2 == 1 {
@@ -85,19 +96,29 @@ fn ahead(row: Row, at: At, x: usize) -> usize
     if at.place < places::head_end(row, at.set) {
         return 0;
     }
-    (row.set - 1 - at.place) / 32 * 8
+    let k = (run_end(row, at.set) - at.place) / 8 * 2;
+    if k < 8 {
+        return 0;
+    }
+    k
 }
 
-// So many columns on in the same set.
+// So many columns on, in the same set or over its end.
 fn columns_on(row: Row, at: At, k: usize) -> At
-    requires { ⌜ Shared row × (at .set < row .sets) × (at .place + 4 * k < row .set) ⌝ }
+    requires { ⌜ Shared row × (at .frame ≤ 64) × (at .set < row .sets) × (at .place < row .set) × (at .place + 4 * k < row .set + 4) ⌝ }
     ensures { λ r. ⌜ ((p : ℕ) → at ≡ posOf row p → r ≡ posOf row (p + 4 * k)) ⌝ }
 {
-    At {
-        frame: at.frame,
-        set: at.set,
-        place: at.place + 4 * k,
+    if k == 0 {
+        return at;
     }
+    places::next_column(
+        row,
+        At {
+            frame: at.frame,
+            set: at.set,
+            place: at.place + 4 * (k - 1),
+        },
+    )
 }
 
 // The walk over a line: every own place of tributary j (from 0) gets its digit. Each turn takes the columns that go by whole bytes, and one column of
@@ -175,7 +196,7 @@ fn number_of(
     if bad_room(row, line, buffer) {
         return 4;
     }
-    if judging::bad_earlier(row, earlier) {
+    if faults::bad_earlier(row, earlier) {
         return 5;
     }
     0

@@ -10,7 +10,7 @@ use Rattle.table.specs.declared.Row.{Row}
 use Rattle.table.specs.declared.Level.{Level}
 use Rattle.table.specs.declared.Level.the-variants.{Of, NoSuchLevel}
 use Rattle.table.specs.Table.{levelOf}
-use Rattle.levels.specs.declared.judging.Counted.{Counted}
+use Rattle.levels.specs.declared.faults.Counted.{Counted}
 use Rattle.levels.specs.Sizes.{onLevel, quarterOf}
 use Rattle.levels.specs.Order.{hasNegative}
 use Rattle.promises.specs.Calls.{Lent, SendAccepted, sentLine, sentDigits}

@@ -11,15 +11,15 @@ use Rattle.table.specs.declared.Row.{Row}
 use Rattle.levels.specs.Table.{Shared}
 use Rattle.levels.specs.Sizes.{framesOf}
 use Rattle.levels.specs.Order.{actions}
-use Rattle.verdict.specs.Blocks.{Block, isBetter, betterOf}
-use Rattle.verdict.specs.Keeping.{blockNumbers, blockFrom, blockAt, withBlocks}
-use Rattle.verdict.specs.Readings.{ranBy, countsBy, readBy}
-use Rattle.verdict.specs.Going.{Sound, Ready}
-use Rattle.verdict.proofs.Carried.{sound-less, sound-frames}
-use Rattle.verdict.proofs.Sizes.{few-carried}
-use Rattle.verdict.proofs.Kept.{numbers-length}
-use Rattle.verdict.proofs.Several.{partOf, carried-most, several-length, several-others, several-there, several-head, several-same}
-use Rattle.verdict.proofs.Parts.{take-whole, block-back, state-same}
+use Rattle.verdict_blocks.specs.Blocks.{Block, isBetter, betterOf}
+use Rattle.verdict_blocks.specs.Keeping.{blockNumbers, blockFrom, blockAt, withBlocks}
+use Rattle.verdict_blocks.specs.Readings.{ranBy, countsBy, readBy}
+use Rattle.verdict_blocks.specs.Going.{Sound, Ready}
+use Rattle.verdict_blocks.proofs.Carried.{sound-less, sound-frames}
+use Rattle.verdict_blocks.proofs.Sizes.{few-carried}
+use Rattle.verdict_blocks.proofs.Kept.{take-all, numbers-length}
+use Rattle.verdict_blocks.proofs.Several.{partOf, carried-most, several-length, several-others, several-there, several-head, several-same}
+use Rattle.verdict_blocks.proofs.Parts.{block-back, state-same}
 
 pub sound-whole : (pattern : ℕ) (b : Block) → Sound pattern 0 b → length (blockNumbers b) ≡ 42
 sound-whole pattern b w = numbers-length b (w .room .lanes) (w .marked)
@@ -98,7 +98,7 @@ pub ready-at : (pattern F : ℕ) (xs ys : List ℕ) (b : ℕ) → xs ≡ ys → 
 ready-at pattern F xs ys b e w = rw e w
 
 pub lent-whole : (xs : List ℕ) → length xs ≡ 683 → take 683 (drop 0 xs) ≡ xs
-lent-whole xs h = take-whole xs 683 h
+lent-whole xs h = take-all xs 683 h
 
 pub put-whole : (xs ys : List ℕ) → length xs ≡ 683 → length ys ≡ 683 → putMid 0 683 xs ys ≡ ys
 put-whole xs ys hx hy = ap (λ (l : List ℕ). ys ++ l) (drop-of-length-le xs {i = 683} (omega (arith, hx))) ∙ append-nil ys

@@ -14,13 +14,13 @@ use lib.Seq.{length-take-le}
 use borrow.Author.Tests.{leb-true, ltb-true, le-leb, lt-leb, eq-eqb, ne-eqb}
 use Rattle.digits.proofs.Tests.{and-both}
 use Rattle.slips.specs.Slips.{stepPrice, Room, Closed}
-use Rattle.verdict.specs.declared.standing.Standing.{Standing}
-use Rattle.verdict.specs.Patterns.{OneOfTwo}
-use Rattle.verdict.specs.Blocks.{Block}
-use Rattle.verdict.specs.Going.{Sound}
-use Rattle.verdict.specs.Keeping.{blockFrom, blockAt}
-use Rattle.verdict.specs.Feed.{stateFrom, badPattern, goodLanes, goodStanding, goodBlock, goodBlocks, fewChanges, goodHead, isValid}
-use Rattle.verdict.proofs.Kept.{loaded-length}
+use Rattle.verdict_blocks.specs.declared.standing.Standing.{Standing}
+use Rattle.verdict_blocks.specs.Patterns.{OneOfTwo}
+use Rattle.verdict_blocks.specs.Blocks.{Block}
+use Rattle.verdict_blocks.specs.Going.{Sound}
+use Rattle.verdict_blocks.specs.Keeping.{blockFrom, blockAt}
+use Rattle.verdict.specs.Feed.{stateFrom, badPattern, goodLanes, goodStanding, goodWindow, goodBlock, goodBlocks, fewChanges, goodHead, isValid}
+use Rattle.verdict_blocks.proofs.Kept.{loaded-length}
 
 -- ---- lanes
 
@@ -121,6 +121,13 @@ moved-leb f r n h =
       | no l ↦ rw (le-leb (f + r) n (omega arith), le-leb f (n - r) (omega arith))
     ]
 
+pub moved-eqb : (a b n : ℕ) → b ≤ a → eqb (a - b) n ≡ eqb a (n + b)
+moved-eqb a b n h =
+    elim (ℕ-discrete a (n + b)) [
+      | yes e ↦ rw (eq-eqb a (n + b) e, eq-eqb (a - b) n (omega (arith, e)))
+      | no far ↦ rw (ne-eqb a (n + b) far, ne-eqb (a - b) n (λ e. far (omega (arith, e))))
+    ]
+
 abbrev pub countsWell : Standing → Bool
 countsWell s = leb (s .read) 1152921504606846976 && leb (s .from + s .right) (s .read)
 
@@ -212,8 +219,9 @@ module _ (pattern : ℕ) (s : Standing) where
 -- a good block has room for 64 frames
 pub block-sound : (pattern : ℕ) (b : Block) → goodBlock pattern b ≡ true → length (b .lanes) ≡ 17 → length (b .marks) ≡ 17 → Sound pattern 64000 b
 block-sound pattern b good size marked =
-    let both = and-both (goodStanding pattern (b .standing)) (goodLanes (b .lanes) 16) good in
-    standing-sound pattern (b .standing) (both .0) (b .lanes) (b .marks) (both .1) size marked
+    let both = and-both (goodStanding pattern (b .standing)) (goodWindow pattern (b .standing) && goodLanes (b .lanes) 16) good in
+    standing-sound pattern (b .standing) (both .0) (b .lanes) (b .marks) (and-both (goodWindow pattern (b .standing)) (goodLanes (b .lanes) 16) (both .1) .1) size
+    marked
 
 -- ---- the blocks
 
@@ -318,7 +326,9 @@ module _ (ns : List ℕ) (size : length ns ≡ 683) (valid : isValid (stateFrom 
   pub valid-taken : getD ns 1 0 ≡ 0 → (b : ℕ) → b < 16 → (blockAt ns b) .standing .taken ≡ 1
   valid-taken z b h =
       standing-taken (getD ns 1 0) ((blockAt ns b) .standing)
-      (and-both (goodStanding (getD ns 1 0) ((blockAt ns b) .standing)) (goodLanes ((blockAt ns b) .lanes) 16) (block-valid b h) .0) z
+      (and-both (goodStanding (getD ns 1 0) ((blockAt ns b) .standing))
+      (goodWindow (getD ns 1 0) ((blockAt ns b) .standing) && goodLanes ((blockAt ns b) .lanes) 16) (block-valid b h) .0)
+      z
 
   part : (b : ℕ) → b < 16 → length (take 42 (drop (11 + 42 * b) ns)) ≡ 42
   part b h = length-take-le 42 (drop (11 + 42 * b) ns) (omega (arith, size, length-drop (11 + 42 * b) ns))

@@ -1,12 +1,4 @@
-pub mod Windows
-pub mod FirstRight
-pub mod Carried
-pub mod Sizes
-pub mod Kept
-pub mod Waying
-pub mod Several
 pub mod Good
-pub mod Parts
 pub mod Cutting
 pub mod Made
 pub mod Telling
@@ -14,3 +6,5 @@ pub mod Numbers
 pub mod Answers
 pub mod Betters
 pub mod Heading
+pub mod Fed
+pub mod Unrefused

@@ -13,12 +13,12 @@ use Rattle.digits.specs.Digits.{tab}
 use Rattle.digits.proofs.Laws.{tab-length}
 use Rattle.table.specs.declared.Row.{Row}
 use Rattle.levels.specs.Order.{hasNegative}
-use Rattle.levels.specs.Judging.{badEarlier}
+use Rattle.levels.specs.Faults.{badEarlier}
 use Rattle.slips.specs.Slips.{stepPrice, apart, fresh}
-use Rattle.verdict.specs.Blocks.{Block, freshBlock}
-use Rattle.verdict.specs.Keeping.{blockNumbers, blockFrom, blockAt, withBlock}
+use Rattle.verdict_blocks.specs.Blocks.{Block, freshBlock}
+use Rattle.verdict_blocks.specs.Keeping.{blockNumbers, blockFrom, blockAt, withBlock}
 use Rattle.verdict.specs.Feed.{blocksNumbers, numbersOf, stateFrom, freshState, badPattern, freshFault, goodLanes, goodStanding, goodBlocks, goodHead, isValid}
-use Rattle.verdict.proofs.Kept.{numbers-length}
+use Rattle.verdict_blocks.proofs.Kept.{numbers-length}
 use Rattle.verdict.proofs.Cutting.{part-more}
 use Rattle.verdict.proofs.Good.{pattern-one, head-parts}
 

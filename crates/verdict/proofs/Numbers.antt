@@ -1,36 +1,22 @@
 -- A state and its numbers: 683 numbers are those of the state that they are taken for.
 use mathlib.Core.Path.{_≡_, refl, sym, _∙_, ap, ap₂}
-use mathlib.Core.List.{List, [], _∷_, _++_}
+use mathlib.Core.List.{List, [], _∷_, _++_, append-nil, append-assoc}
 use Prim.Native.Nat.{ℕ, zero, suc, _+_, _*_, _≤_, _<_}
 use native.Mathlib.Omega.{arith}
 use native.Mathlib.Decide.{ℕ-discrete}
 use lib.ListN.{length, getD, take, drop, length-drop, length-append, take-append-drop}
-use lib.Seq.{length-take-le, getD-take, take-add, drop-drop, take-at, drop-at, drop-append-le, take-append-le}
+use lib.Seq.{length-take-le, getD-take, take-add, drop-drop, drop-at, drop-append-le, take-append-le}
 use Rattle.digits.specs.Digits.{tab}
 use Rattle.digits.proofs.Laws.{tab-of}
-use Rattle.verdict.specs.Blocks.{Block}
-use Rattle.verdict.specs.Keeping.{standingNumbers, standingFrom, blockNumbers, blockFrom, blockAt}
+use Rattle.verdict_blocks.specs.Blocks.{Block}
+use Rattle.verdict_blocks.specs.Keeping.{blockNumbers, blockFrom, blockAt}
 use Rattle.verdict.specs.Feed.{State, blocksNumbers, numbersOf, stateFrom, tributaryTold, answerOf}
-use Rattle.verdict.proofs.Kept.{take-all, numbers-length}
+use Rattle.verdict_blocks.proofs.Kept.{take-all, numbers-length}
+use Rattle.verdict_blocks.proofs.Several.{partOf}
+use Rattle.verdict_blocks.proofs.Parts.{numbers-back, block-back, next-part}
 
 first-of : (ns : List ℕ) (n : ℕ) → n ≤ length ns → tab n 0 (λ (i : ℕ). getD ns i 0) ≡ take n ns
 first-of ns n h = sym (tab-of (take n ns) n (λ (i : ℕ). getD ns i 0) (length-take-le n ns h) (λ i hi. getD-take n ns i 0 hi))
-
--- 42 numbers
-module _ (ns : List ℕ) (size : length ns ≡ 42) where
-  standing-kept : standingNumbers (standingFrom ns) ≡ take 8 ns
-  unfolding tab
-  standing-kept = first-of ns 8 (omega (arith, size))
-
-  lanes-kept : take 17 (drop 8 ns) ++ take 17 (drop 25 ns) ≡ drop 8 ns
-  lanes-kept =
-      let long : length (drop 8 ns) ≡ 34 = length-drop 8 ns ∙ omega (arith, size) in
-      let last : take 17 (drop 25 ns) ≡ take 17 (drop 17 (drop 8 ns)) = ap (take 17) (sym (drop-drop 17 8 ns)) in
-      ap (λ (e : List ℕ). take 17 (drop 8 ns) ++ e) last ∙ (sym (take-add 17 17 (drop 8 ns)) ∙ take-all (drop 8 ns) 34 long)
-
-  pub block-kept : blockNumbers (blockFrom ns) ≡ ns
-  unfolding blockNumbers blockFrom
-  block-kept = ap₂ (λ (s v : List ℕ). s ++ v) standing-kept lanes-kept ∙ take-append-drop 8 ns
 
 -- 683
 module _ (ns : List ℕ) (size : length ns ≡ 683) where
@@ -59,7 +45,7 @@ module _ (ns : List ℕ) (size : length ns ≡ 683) where
       let long : length part ≡ 42 = length-take-le 42 (drop (11 + 42 * n) ns) (omega (arith, size, length-drop (11 + 42 * n) ns)) in
       let there : part ≡ take 42 (drop (42 * n) (drop 11 ns)) = ap (take 42) (sym (drop-drop (42 * n) 11 ns)) in
       let more : 42 * suc n ≡ 42 * n + 42 = omega arith in
-      rw more (ap₂ (λ (x y : List ℕ). x ++ y) (blocks-kept n (omega arith)) (block-kept part long ∙ there) ∙ sym (take-add (42 * n) 42 (drop 11 ns)))
+      rw more (ap₂ (λ (x y : List ℕ). x ++ y) (blocks-kept n (omega arith)) (numbers-back part long ∙ there) ∙ sym (take-add (42 * n) 42 (drop 11 ns)))
 
   pub numbers-kept : numbersOf (stateFrom ns) ≡ ns
   unfolding numbersOf stateFrom
@@ -74,15 +60,8 @@ pub record Whole (b : Block) : Type 0 where
   pub marks : length (b .marks) ≡ 17
 
 module _ (b : Block) (whole : Whole b) where
-  lanes-again : take 17 (b .lanes ++ b .marks) ≡ b .lanes
-  lanes-again = take-at (b .lanes) (b .marks) 17 (whole .lanes)
-
-  marks-again : take 17 (drop 17 (b .lanes ++ b .marks)) ≡ b .marks
-  marks-again = ap (take 17) (drop-at (b .lanes) (b .marks) 17 (whole .lanes)) ∙ take-all (b .marks) 17 (whole .marks)
-
   pub block-again : blockFrom (blockNumbers b) ≡ b
-  unfolding blockNumbers blockFrom
-  block-again = rw (lanes-again, marks-again)
+  block-again = block-back b (whole .lanes) (whole .marks)
 
 module _ (g : ℕ → Block) (whole : (b : ℕ) → b < 16 → Whole (g b)) where
   long : (b : ℕ) → b < 16 → length (blockNumbers (g b)) ≡ 42
@@ -141,3 +120,33 @@ module _ (s : State) (whole : (b : ℕ) → b < 16 → Whole (s .blocks b)) wher
       ap₂ (λ (x y : List ℕ). x ++ y) (tributary-again 0 (omega arith) (changes-again .0))
       (ap₂ (λ (x y : List ℕ). x ++ y) (tributary-again 1 (omega arith) (changes-again .1))
       (ap₂ (λ (x y : List ℕ). x ++ y) (tributary-again 2 (omega arith) (changes-again .2)) (tributary-again 3 (omega arith) (changes-again .3))))
+
+-- ---- and a state is told by its first numbers and its blocks'
+
+abbrev pub headOf : State → List ℕ
+headOf s =
+    s .level
+    ∷ s .pattern
+    ∷ s .came
+    ∷ s .older
+    ∷ s .last
+    ∷ s .olderAll
+    ∷ s .lastAll
+    ∷ s .changes 0
+    ∷ s .changes 1
+    ∷ s .changes 2
+    ∷ s .changes 3
+    ∷ []
+
+module _ (ns : List ℕ) (s : State) (size : length ns ≡ 683) (head : take 11 ns ≡ headOf s) (parts : (b : ℕ) → b < 16 → partOf ns b ≡ blockNumbers (s .blocks b)) where
+  numbers-to : (n : ℕ) → n ≤ 16 → take (11 + 42 * n) ns ≡ headOf s ++ blocksNumbers n (s .blocks)
+  unfolding blocksNumbers
+  numbers-to zero h = head ∙ sym (append-nil (headOf s))
+  numbers-to (suc n) h =
+      next-part ns n
+      ∙ ap₂ (λ (u v : List ℕ). u ++ v) (numbers-to n (omega arith)) (parts n (omega arith))
+      ∙ append-assoc (headOf s) (blocksNumbers n (s .blocks)) (blockNumbers (s .blocks n))
+
+  pub state-numbers : ns ≡ numbersOf s
+  unfolding numbersOf
+  state-numbers = sym (take-all ns 683 size) ∙ numbers-to 16 (omega arith)

@@ -12,10 +12,10 @@ use borrow.Author.Tests.{eq-eqb}
 use Rattle.digits.proofs.Tests.{cond-told}
 use Rattle.slips.specs.Slips.{leastOf, bestOf}
 use Rattle.slips.proofs.Relaid.{best-least}
-use Rattle.verdict.specs.Blocks.{Block, betterOf}
-use Rattle.verdict.specs.Keeping.{blockFrom, blockAt}
+use Rattle.verdict_blocks.specs.Blocks.{Block, betterOf}
+use Rattle.verdict_blocks.specs.Keeping.{blockFrom, blockAt}
 use Rattle.verdict.specs.Feed.{stateFrom, signedShift, toldOf, tributaryTold, answerOf}
-use Rattle.verdict.proofs.Kept.{take-all}
+use Rattle.verdict_blocks.proofs.Kept.{take-all}
 use Rattle.verdict.proofs.Cutting.{part-more, part-length, first-set}
 
 -- in the code's terms

@@ -11,12 +11,12 @@ use Rattle.table.specs.declared.Row.{Row}
 use Rattle.table.specs.Table.{levelOf}
 use Rattle.levels.specs.Sizes.{onLevel, framesOf, badLine, quarterOf}
 use Rattle.levels.specs.Order.{hasNegative}
-use Rattle.levels.specs.Judging.{badEarlier}
+use Rattle.levels.specs.Faults.{badEarlier}
 use Rattle.slips.specs.Slips.{stepPrice, lentFrom, leastOf, bestOf}
-use Rattle.verdict.specs.declared.standing.Standing.{Standing}
-use Rattle.verdict.specs.Blocks.{Block, zeroAt, freshBlock, betterOf}
-use Rattle.verdict.specs.Keeping.{blockNumbers, blockAt}
-use Rattle.verdict.specs.Readings.{majorities, ownVotes, beforeVotes, ranBy, ranAfter}
+use Rattle.verdict_blocks.specs.declared.standing.Standing.{Standing}
+use Rattle.verdict_blocks.specs.Blocks.{Block, zeroAt, freshBlock, betterOf}
+use Rattle.verdict_blocks.specs.Keeping.{blockNumbers, blockAt}
+use Rattle.verdict_blocks.specs.Readings.{majorities, ownVotes, beforeVotes, ranBy, ranAfter}
 
 -- ---- a state
 
@@ -150,8 +150,12 @@ goodStanding pattern s =
     && (ltb (s .follows) 64
     && (eqb (s .follows) 0 || leb (pattern + s .follows) (s .read))))))))))
 
+-- a pattern that was taken up is held from lane 0's digit on
+abbrev pub goodWindow : ℕ → Standing → Bool
+goodWindow pattern s = eqb pattern 0 || (eqb (s .taken) 0 || eqb (s .at) (s .read + s .low))
+
 abbrev pub goodBlock : ℕ → Block → Bool
-goodBlock pattern b = goodStanding pattern (b .standing) && goodLanes (b .lanes) 16
+goodBlock pattern b = goodStanding pattern (b .standing) && (goodWindow pattern (b .standing) && goodLanes (b .lanes) 16)
 
 unfoldable pub goodBlocks : ℕ → (ℕ → Block) → ℕ → Bool
 goodBlocks pattern g zero = true

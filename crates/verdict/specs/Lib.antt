@@ -1,6 +1,2 @@
-pub mod Patterns
-pub mod Blocks
-pub mod Keeping
-pub mod Readings
 pub mod Feed
 pub mod Going

@@ -1,11 +1,11 @@
 // A fresh state (specs/Feed.antt): nothing was fed, and all sixteen blocks are as before the first digit.
-use crate::keeping;
-use crate::standing::Standing;
 use crate::validity;
-use levels::judging;
+use levels::faults;
 use levels::order;
 use table::Level;
 use table::Row;
+use verdict_blocks::keeping;
+use verdict_blocks::standing::Standing;
 ghost use mathlib.Core.Path.{_≡_};
 ghost use mathlib.Core.Bool.{cond};
 ghost use mathlib.Core.List.{[], _∷_, _++_};
@@ -13,8 +13,8 @@ ghost use Prim.Native.Nat.{ℕ, _+_, _*_, _<_};
 ghost use lib.Dec.{eqb};
 ghost use lib.ListN.{length, take};
 ghost use Rattle.levels.specs.Order.{hasNegative};
-ghost use Rattle.verdict.specs.Blocks.{freshBlock};
-ghost use Rattle.verdict.specs.Keeping.{blockNumbers, withBlock};
+ghost use Rattle.verdict_blocks.specs.Blocks.{freshBlock};
+ghost use Rattle.verdict_blocks.specs.Keeping.{blockNumbers, withBlock};
 ghost use Rattle.verdict.specs.Feed.{blocksNumbers, numbersOf, freshState, freshFault, noState, FreshMet};
 
 // With digits sent they are known from the first one on.
@@ -108,7 +108,7 @@ fn fresh_fault(row: Row, earlier: u64, pattern: u64) -> u64
     if validity::bad_pattern(pattern) {
         return 13;
     }
-    if judging::bad_earlier(row, earlier) {
+    if faults::bad_earlier(row, earlier) {
         return 5;
     }
     0

@@ -4,7 +4,7 @@ ghost use mathlib.Core.Bool.{cond, _&&_};
 ghost use mathlib.Core.List.{_∷_};
 ghost use Prim.Native.Nat.{ℕ, _+_, _%_, _<_, _≤_};
 ghost use lib.Dec.{eqb};
-ghost use lib.ListN.{length, getD, drop};
+ghost use lib.ListN.{length, getD, set, drop};
 ghost use lib.Seq.{sets};
 ghost use Rattle.verdict.specs.Feed.{decided, changesIn};
 ghost use Rattle.verdict.specs.Going.{votesAfter, changesAfter};
@@ -114,4 +114,33 @@ fn put_votes(
     state[4] = now_last;
     state[5] = now_older_all;
     state[6] = now_last_all;
+}
+
+// All of them, by the votes of a line, which the array has from place 1 on.
+pub fn feed_head(state: &mut [u64], votes: [u8; 66], frames: usize)
+    requires { ⌜
+        (length (now state) ≡ 683)
+        × (frames ≤ 64)
+        × (getD (now state) 4 0 ≤ 15)
+        × ((j : ℕ) → j < 4 → getD (now state) (7 + j) 0 ≤ 4611686018427387904)
+        ⌝ }
+    ensures { λ _. ⌜
+        now (state .exit)
+        ≡ sets
+        (sets (now (state .entry)) 7
+        (changesAfter (now (state .entry)) (getD (now (state .entry)) 2 0) (set votes 0 (getD (now (state .entry)) 4 0)) frames))
+        2
+        (votesAfter (getD (now (state .entry)) 2 0) (getD (now (state .entry)) 3 0) (getD (now (state .entry)) 4 0) (getD (now (state .entry)) 5 0)
+        (getD (now (state .entry)) 6 0) votes frames)
+        ⌝ }
+{
+    let came = state[2];
+    let older = state[3];
+    let last = state[4];
+    let older_all = state[5];
+    let last_all = state[6];
+    let mut seen = votes;
+    seen[0] = last as u8;
+    put_changes(state, seen, came, frames);
+    put_votes(state, came, older, last, older_all, last_all, votes, frames);
 }

@@ -1,7 +1,6 @@
 // Why a feed is refused (specs/Feed.antt): 6, 2, 4 and 5, in this order.
 use crate::validity;
 use levels::sizes;
-use table::Level;
 use table::Row;
 ghost use mathlib.Core.Path.{_≡_};
 ghost use mathlib.Core.Bool.{_&&_, not};
@@ -9,7 +8,7 @@ ghost use Prim.Native.Nat.{_%_};
 ghost use lib.Dec.{eqb};
 ghost use lib.ListN.{length};
 ghost use Rattle.levels.specs.Table.{Shared};
-ghost use Rattle.verdict.specs.Feed.{stateFrom, feedFault, feedRefusal};
+ghost use Rattle.verdict.specs.Feed.{stateFrom, feedFault};
 
 // Whether what was sent is not four equal quarters: asked with pattern 0 only.
 fn bad_sent(pattern: u64, sent: usize) -> bool
@@ -21,8 +20,8 @@ fn bad_sent(pattern: u64, sent: usize) -> bool
     sent % 4 != 0
 }
 
-// The first that applies on a level's row, or 0, by the lengths of line and sent in bytes.
-fn feed_fault(row: Row, state: &[u64], line: usize, next: u64, sent: usize) -> u64
+// The first that applies on a level's row, or 0, by the lengths of line and sent in bytes. A state of no level is refused before.
+pub fn feed_fault(row: Row, state: &[u64], line: usize, next: u64, sent: usize) -> u64
     requires { ⌜ Shared row × (length (now state) ≡ 683) ⌝ }
     ensures { λ r. ⌜ r ≡ feedFault row (stateFrom (now (state .entry))) line next sent ⌝ }
 {
@@ -39,16 +38,4 @@ fn feed_fault(row: Row, state: &[u64], line: usize, next: u64, sent: usize) -> u
         return 5;
     }
     0
-}
-
-// A state of no level is not valid.
-pub fn feed_refusal(state: &[u64], line: usize, next: u64, sent: usize) -> u64
-    requires { ⌜ length (now state) ≡ 683 ⌝ }
-    ensures { λ r. ⌜ r ≡ feedRefusal (now (state .entry)) line next sent ⌝ }
-{
-    let found = table::level_of(state[0]);
-    match found {
-        Level::Of(row) => feed_fault(row, state, line, next, sent),
-        Level::NoSuchLevel => 6,
-    }
 }

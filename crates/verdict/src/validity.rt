@@ -1,14 +1,14 @@
 // Which states are valid (specs/Feed.antt): those whose numbers leave room for 64 frames more.
-use crate::keeping;
-use crate::standing::Standing;
+use verdict_blocks::keeping;
+use verdict_blocks::standing::Standing;
 ghost use mathlib.Core.Path.{_≡_};
 ghost use mathlib.Core.Bool.{_&&_, _||_, not};
 ghost use Prim.Native.Nat.{ℕ, _+_, _^_, _<_, _≤_};
 ghost use lib.Dec.{eqb, leb, ltb};
 ghost use lib.ListN.{length, getD};
 ghost use Rattle.slips.specs.Slips.{stepPrice};
-ghost use Rattle.verdict.specs.Keeping.{blockFrom, blockAt};
-ghost use Rattle.verdict.specs.Feed.{stateFrom, badPattern, goodLanes, goodStanding, goodBlock, goodBlocks, fewChanges, goodHead, isValid};
+ghost use Rattle.verdict_blocks.specs.Keeping.{blockFrom, blockAt};
+ghost use Rattle.verdict.specs.Feed.{stateFrom, badPattern, goodLanes, goodStanding, goodWindow, goodBlock, goodBlocks, fewChanges, goodHead, isValid};
 
 // A lane behind its neighbour: not too dear, and no more than a step apart.
 fn good_pair(a: u64, b: u64) -> bool
@@ -116,11 +116,31 @@ fn good_standing(pattern: u64, s: Standing) -> bool
     good_follows(pattern, s)
 }
 
+// Whether a pattern that was taken up is held from lane 0's digit on. Without this a state could ask for more of its digits than anyone waits for.
+fn good_window(pattern: u64, s: Standing) -> bool
+    ensures { λ r. ⌜ r ≡ goodWindow pattern s ⌝ }
+{
+    if pattern == 0 {
+        return true;
+    }
+    if s.taken == 0 {
+        return true;
+    }
+    if s.at < s.low {
+        return false;
+    }
+    s.at - s.low == s.read
+}
+
 fn good_block(block: &[u64], pattern: u64) -> bool
     requires { ⌜ (length (now block) ≡ 42) × (pattern ≤ 23) ⌝ }
     ensures { λ r. ⌜ r ≡ goodBlock pattern (blockFrom (now (block .entry))) ⌝ }
 {
-    if !good_standing(pattern, keeping::standing_of(block)) {
+    let s = keeping::standing_of(block);
+    if !good_standing(pattern, s) {
+        return false;
+    }
+    if !good_window(pattern, s) {
         return false;
     }
     let mut v = [0u64; 17];

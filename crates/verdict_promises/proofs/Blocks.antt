@@ -6,8 +6,8 @@ use Prim.Native.Nat.{ℕ, _+_, _/_, _%_, _<_}
 use native.Mathlib.Omega.{arith}
 use Rattle.table.specs.declared.Row.{Row}
 use Rattle.levels.specs.Order.{hasNegative}
-use Rattle.verdict.specs.Blocks.{Block, freshBlock}
-use Rattle.verdict.specs.Readings.{majorities, ranBy, ranAfter, ownVotes, beforeVotes}
+use Rattle.verdict_blocks.specs.Blocks.{Block, freshBlock}
+use Rattle.verdict_blocks.specs.Readings.{majorities, ranBy, ranAfter, ownVotes, beforeVotes}
 use Rattle.verdict.specs.Feed.{State, freshState, fedBlock, fedState}
 use Rattle.verdict_promises.specs.Steady.{recorded}
 

@@ -27,8 +27,8 @@ use Rattle.reading.specs.Notes.{voteAt, serviceAt, noteOf, notesOf}
 use Rattle.extraction.specs.Quarters.{takenTo}
 use Rattle.promises.proofs.Order.{places-same}
 use Rattle.promises.proofs.Sent.{in-line, control-place}
-use Rattle.verdict.specs.Blocks.{Block, startOf, framesTo}
-use Rattle.verdict.specs.Readings.{majorities, readBy, carriedIn, countsBy, ranBy}
+use Rattle.verdict_blocks.specs.Blocks.{Block, startOf, framesTo}
+use Rattle.verdict_blocks.specs.Readings.{majorities, readBy, carriedIn, countsBy, ranBy}
 use Rattle.verdict_promises.proofs.Frames.{start-alike, frames-alike, frames-cat, columns-cat}
 
 -- ---- the notes of two runs

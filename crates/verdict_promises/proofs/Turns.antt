@@ -20,8 +20,8 @@ use Rattle.levels.specs.Table.{Shared}
 use Rattle.levels.specs.Sizes.{framesOf}
 use Rattle.levels.specs.Order.{stuffed}
 use Rattle.reading.specs.Notes.{noteOf}
-use Rattle.verdict.specs.Blocks.{Block}
-use Rattle.verdict.specs.Readings.{majorities, ownVotes, beforeVotes, afterVotes, ranBy, ranAfter}
+use Rattle.verdict_blocks.specs.Blocks.{Block}
+use Rattle.verdict_blocks.specs.Readings.{majorities, ownVotes, beforeVotes, afterVotes, ranBy, ranAfter}
 use Rattle.verdict.specs.Feed.{State, decided, changesIn, voteAgo, fedBlock, fedState}
 use Rattle.verdict_promises.specs.Turns.{Same, fedInTurn, joined, Whole, AllWhole, no-more, one-more}
 use Rattle.verdict_promises.proofs.Cuts.{bitAt, frames-of, line-long, majorities-cat, ran-cat}

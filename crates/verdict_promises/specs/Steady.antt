@@ -8,8 +8,8 @@ use Rattle.table.specs.declared.Row.{Row}
 use Rattle.levels.specs.Sizes.{framesOf}
 use Rattle.levels.specs.Order.{stuffed, decisions, hasNegative}
 use Rattle.slips.specs.Slips.{leastOf}
-use Rattle.verdict.specs.Blocks.{Block, betterOf}
-use Rattle.verdict.specs.Readings.{majorities}
+use Rattle.verdict_blocks.specs.Blocks.{Block, betterOf}
+use Rattle.verdict_blocks.specs.Readings.{majorities}
 use Rattle.verdict.specs.Feed.{State, freshState, fedState}
 
 -- tributary j's decision is `is` in every frame of a recording, and in the earlier vote where a level looks at it

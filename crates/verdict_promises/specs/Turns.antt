@@ -4,7 +4,7 @@ use mathlib.Core.List.{List, [], _∷_, _++_}
 use Prim.Native.Nat.{ℕ, _*_, _%_, _<_}
 use lib.ListN.{length, getD}
 use Rattle.table.specs.declared.Row.{Row}
-use Rattle.verdict.specs.Readings.{majorities}
+use Rattle.verdict_blocks.specs.Readings.{majorities}
 use Rattle.verdict.specs.Feed.{State, fedState}
 
 -- two states that are one: in everything that a feed looks at, that an answer tells and that a state's numbers hold, for the four tributaries and the sixteen blocks

@@ -16,8 +16,8 @@ use Rattle.promises.specs.Damage.{groupAt, allowed}
 use Rattle.promises.specs.Carried.{Room}
 use Rattle.judge_promises.specs.Verdicts.{Index, actsOn, actedLine}
 use Rattle.slips.specs.Slips.{leastOf}
-use Rattle.verdict.specs.Blocks.{Block, zeroAt, startOf}
-use Rattle.verdict.specs.Readings.{readBy, countsBy}
+use Rattle.verdict_blocks.specs.Blocks.{Block, zeroAt, startOf}
+use Rattle.verdict_blocks.specs.Readings.{readBy, countsBy}
 use Rattle.verdict_promises.specs.Paths.{slipsOn, Path, lowIn}
 
 -- in how many of the first x columns of tributary j a place carries a digit, by what the frames do, and the digit has changed

@@ -1,38 +1,18 @@
--- One digit more: of two runs that are compared, and of a line whose control digits are another's.
+-- One digit more of a line whose control digits are another's.
 use mathlib.Core.Path.{_≡_, refl, _∙_}
 use mathlib.Core.Bool.{true, false}
 use mathlib.Core.List.{List}
 use Prim.Native.Nat.{ℕ, _+_, _*_, _%_, _≤_, _<_}
 use native.Mathlib.Omega.{arith}
-use native.Mathlib.Numerals.{add-one}
 use native.Mathlib.Nat.{mod-lt}
-use native.Mathlib.Decide.{decLt, ℕ-discrete}
+use native.Mathlib.Decide.{ℕ-discrete}
 use lib.ListN.{length, getD, set}
-use borrow.Author.Tests.{eq-eqb, ne-eqb}
 use Rattle.digits.specs.Digits.{digitsOf}
 use Rattle.digits.proofs.Laws.{put-same, put-other}
 use Rattle.table.specs.declared.Row.{Row}
 use Rattle.levels.specs.Table.{Shared}
 use Rattle.levels.specs.Places.{kindAt}
-use Rattle.workbench.specs.Bench.{isControl, mixed, differences}
-
-module _ (xs ys : List ℕ) (i : ℕ) where
-  pub wrong-same : getD xs i 0 ≡ getD ys i 0 → differences xs ys (i + 1) ≡ differences xs ys i + 0
-  unfolding differences
-  wrong-same e = rw (add-one i, eq-eqb (getD xs i 0) (getD ys i 0) e)
-
-  pub wrong-other : (getD xs i 0 ≡ getD ys i 0 → ⊥) → differences xs ys (i + 1) ≡ differences xs ys i + 1
-  unfolding differences
-  wrong-other e = rw (add-one i, ne-eqb (getD xs i 0) (getD ys i 0) e)
-
-  pub right-more : ((k : ℕ) → k < i → getD xs k 0 ≡ getD ys k 0) → getD xs i 0 ≡ getD ys i 0 → (k : ℕ) → k < i + 1 → getD xs k 0 ≡ getD ys k 0
-  right-more h e k hk =
-      elim (decLt k i) [
-        | yes l ↦ h k l
-        | no n ↦
-            let at : k ≡ i = omega arith in
-            rw at e
-      ]
+use Rattle.workbench.specs.Bench.{isControl, mixed}
 
 -- a place of a line stands somewhere in a frame
 pub in-a-frame : (row : Row) → Shared row → (p : ℕ) → p % row .digits < row .digits

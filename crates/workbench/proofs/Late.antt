@@ -20,8 +20,8 @@ use Rattle.levels.specs.Table.{Shared}
 use Rattle.levels.specs.Sizes.{onLevel}
 use Rattle.levels.proofs.Refusals.{faultless, send-faultless}
 use Rattle.levels.proofs.Rows.{shared-row}
-use Rattle.levels.specs.declared.judging.Counted.{Counted}
-use Rattle.levels.specs.Judging.{fault, sendFaultOf, refusedWith, sendAnswerOn, sendAnswered}
+use Rattle.levels.specs.declared.faults.Counted.{Counted}
+use Rattle.levels.specs.Faults.{fault, sendFaultOf, refusedWith, sendAnswerOn, sendAnswered}
 use Rattle.multiplex.specs.Multiplex.{lineOn, lineAfter}
 use Rattle.workbench.specs.Bench.{mixed, mixedLine, lateLine}
 

@@ -2,13 +2,11 @@
 
 mod agree;
 mod compare;
-#[cfg(feature = "verdict")]
 mod demo;
 mod extract;
 mod find;
 mod frame;
 mod hunt;
-#[cfg(feature = "verdict")]
 mod judge;
 mod keep;
 mod multiframe;
@@ -29,7 +27,6 @@ use crate::report::Saying;
 
 pub fn run(command: Command, saying: Saying) -> Result<u8, Failure> {
     match command {
-        #[cfg(feature = "verdict")]
         Command::Demo(call) => demo::run(call, saying),
         Command::Send(call) => send::run(call, saying),
         Command::Take(call) => take::run(call, saying),
@@ -38,7 +35,6 @@ pub fn run(command: Command, saying: Saying) -> Result<u8, Failure> {
         Command::Agree(call) => agree::run(call, saying),
         Command::Find(call) => find::run(call, saying),
         Command::Watch(call) => watch::run(call, saying),
-        #[cfg(feature = "verdict")]
         Command::Judge(call) => judge::run(call, saying),
         Command::Swap(call) => swap::run(call, saying),
         Command::Repair(call) => repair::run(call, saying),
@@ -55,9 +51,5 @@ pub fn run(command: Command, saying: Saying) -> Result<u8, Failure> {
         Command::Multiframe(call) => multiframe::run(call, saying),
         Command::Completions(call) => shells::completions(call),
         Command::Manual => shells::manual(),
-        #[cfg(not(feature = "verdict"))]
-        Command::Demo(_) | Command::Judge(_) => {
-            Err(Failure::Call("this build has no verdict: its library has no such call.".into()))
-        }
     }
 }

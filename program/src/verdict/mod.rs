@@ -172,7 +172,9 @@ impl Tributary {
         match finding {
             Finding::Late | Finding::LateOrEarly => Reading::Before,
             Finding::Early => Reading::After,
-            Finding::Unlike => {
+            // Of a decision that never changes one reading may do without a slip at a border, which is then
+            // none of the clock's.
+            Finding::Unlike | Finding::Still => {
                 let costs = self.costs();
                 let least = costs.iter().min();
                 let best =
@@ -315,6 +317,15 @@ mod tests {
         let late = Read { unjudged: 50_000, ..read(0, 0) };
         let tributary = Tributary { changes: 9, readings: [read(7, 0), late, late] };
         assert_eq!(tributary.finding(Absence::Unknown), Finding::Right);
+    }
+
+    #[test]
+    fn a_slip_that_a_border_explains_is_none_of_the_clock() {
+        let readings = [read(0, 1), read(0, 0), read(0, 1)];
+        let still = Tributary { changes: 0, readings };
+        assert_eq!(still.best(still.finding(Absence::Unknown)), Reading::Before);
+        let same = Tributary { changes: 0, readings: [read(0, 1); 3] };
+        assert_eq!(same.best(same.finding(Absence::Unknown)), Reading::Own);
     }
 
     #[test]

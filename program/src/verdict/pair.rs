@@ -1,6 +1,6 @@
 //! The library's pair of calls: the only place where a recording is held against what was sent.
 
-use spritbobbin::{Level, VerdictState};
+use spritbobbin::{Explanation, Level, Pattern, TributaryVerdict, VerdictState};
 
 use super::{Read, Tributary};
 use crate::failure::Failure;
@@ -15,7 +15,12 @@ impl Pair {
     /// Before the first frame, after this vote; against a pattern of so many stages, or where they are 0
     /// against digits.
     pub fn new(level: Level, earlier: u8, stages: u64) -> Result<Pair, Failure> {
-        Ok(Pair { state: VerdictState::new(level, earlier, stages)? })
+        let pattern = match stages {
+            15 => Some(Pattern::Fifteen),
+            23 => Some(Pattern::TwentyThree),
+            _ => None,
+        };
+        Ok(Pair { state: VerdictState::new(level, earlier, pattern)? })
     }
 
     /// Whole frames, at most 64, before a frame of this vote; the digits sent begin with this number.
@@ -26,22 +31,20 @@ impl Pair {
         sent: &[u8],
         first: u64,
     ) -> Result<[Tributary; 4], Failure> {
-        let answer = self.state.feed(line, next, sent, first)?;
-        Ok([0, 1, 2, 3].map(|j| tributary(answer.get(22 * j..22 * j + 22).unwrap_or_default())))
+        Ok(self.state.feed(line, next, sent, first)?.map(tributary))
     }
 }
 
-/// The 22 numbers of one tributary.
-fn tributary(numbers: &[u64]) -> Tributary {
-    let number = |k: usize| numbers.get(k).copied().unwrap_or(0);
-    let read = |k: usize| Read {
-        digits: number(k),
-        unjudged: number(k + 1),
-        right: number(k + 2),
-        wrong: number(k + 3),
-        slips: number(k + 4),
-        shift: number(k + 5) as i64,
-        entered: number(k + 6),
+/// What the package says of one tributary.
+fn tributary(of: TributaryVerdict) -> Tributary {
+    let read = |of: Explanation| Read {
+        digits: of.digits,
+        unjudged: of.unjudged,
+        right: of.right,
+        wrong: of.wrong,
+        slips: of.slips,
+        shift: of.shift,
+        entered: of.entered,
     };
-    Tributary { changes: number(0), readings: [read(1), read(8), read(15)] }
+    Tributary { changes: of.changes, readings: [of.own, of.before, of.after].map(read) }
 }

@@ -1,6 +1,6 @@
 //! Prints what a program on the cases below must write, a line to a case: worked cases 9,
-//! 10 and 11, two frames each of levels 12 and 14, a capture of case 1, frames of 2048 kbit/s that are found and lost, each refusal
-//! at its border, and each pair of faults that tells the order.
+//! 10 and 11, two frames each of levels 12 and 14, a line read digit by digit to its end, a capture of case 1, frames of 2048 kbit/s that
+//! are found and lost, each refusal at its border, and each pair of faults that tells the order.
 //!
 //! The text is made so that a program in any language can write it: fixed words, single
 //! spaces, and numbers in the decimal system. How the inputs are made:
@@ -15,6 +15,7 @@
 //!   the reading leaves;
 //! - the bytes of a piece, and of the frame store of a given state, are 0, but the piece of
 //!   a given stretch is one byte, `fill`, and its state hunts with no digits seen;
+//! - byte i of a line that a reader reads is i modulo 256;
 //! - byte i of the line and of the label of a capture that is written is i modulo 256, and
 //!   its file holds 165 in every byte beforehand;
 //! - a file that is read has the bytes given and zeros after them;
@@ -197,6 +198,21 @@ const STRETCHES: [Stretched; 23] = [
     (2, 0, 0, 2, 0, 0, 0, 1),
     (2, 0, 0, 0, 2, 0, 0, 1),
     (2, 0, 0, MAX, 1, 0, 0, 1),
+];
+
+/// Line bytes, and the place that is read from.
+const READINGS: [(usize, u64); 10] = [
+    (14, 93),
+    (2, 0),
+    (2, 15),
+    (2, 16),
+    (2, 17),
+    (0, 0),
+    (1, MAX),
+    // The longest line, and one that is longer.
+    (65_536, 524_277),
+    (65_537, 0),
+    (65_537, 524_287),
 ];
 
 const WRITINGS: [Writing; 24] = [
@@ -457,6 +473,19 @@ fn case_11(size: u64) {
     }
 }
 
+/// A line's digits from a place on, each the one that its byte has there, the most significant
+/// first, until the line has ended, and where that is.
+fn read_on((line, from): (usize, u64)) {
+    print!("reader line {line} place {from}: digits");
+    let bytes = count_up(line);
+    let mut place = from;
+    while let Some(byte) = bytes.get((place / 8) as usize).filter(|_| line <= 65_536) {
+        print!(" {}", (byte >> (7 - place % 8)) & 1);
+        place += 1;
+    }
+    println!(" ended at {place}");
+}
+
 /// The capture of case 1 without a label: all its bytes.
 fn example() {
     let (mut line, mut file) = ([0; 106], [0; 113]);
@@ -546,6 +575,7 @@ fn main() {
     FEEDINGS.into_iter().for_each(feeding);
     STRETCHES.into_iter().for_each(stretched);
     [3392, 1, 7, 1000].into_iter().for_each(case_11);
+    READINGS.into_iter().for_each(read_on);
     example();
     WRITINGS.into_iter().for_each(writing);
     FILES.into_iter().for_each(small);

@@ -5,7 +5,7 @@ use Prim.Native.Nat.{ℕ, _/_}
 use borrow.Author.Needs.{needs}
 use lib.ListN.{length}
 use Rattle.table.specs.declared.Row.{Row}
-use Rattle.levels.specs.Judging.{refusedWith}
+use Rattle.levels.specs.Faults.{refusedWith}
 use Rattle.levels.proofs.Refusals.{number, faultless, refused-kept, accepted-new}
 use Rattle.extraction.specs.Quarters.{quartersFrom}
 use Rattle.extraction.proofs.extract_on.Statement.{statement}

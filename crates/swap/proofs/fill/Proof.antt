@@ -35,19 +35,19 @@ inside : (c : tie.In-loop Inv-loop μ-loop) → c .before .loop .x < 2 * length 
 inside c = omega (arith, c .before .loop .inv .1, c .loop-test .taken)
 
 ahead-requires : tie.Need-ahead-requires Inv-loop μ-loop
-ahead-requires c κs = let asks = next-asks (c .before .loop .inv .3) (inside c) in (asks .0, asks .3)
+ahead-requires c κs = let asks = next-asks (c .before .loop .inv .3) (inside c) in (asks .0, asks .2, asks .3)
 
 put-columns-requires : tie.Need-put-columns-requires Inv-loop μ-loop
 put-columns-requires c κs =
     let a = c .before .before in
     let inv = a .before .before .loop .inv in
     let asks = run-asks (inv .3) (inside (a .before)) (a .ahead .result) (a .ahead .ensures) in
-    (inv .2, asks .0, asks .1, asks .2, asks .3, asks .4)
+    (inv .2, asks .0, asks .1, asks .2, asks .3, asks .4, asks .5)
 
 add-t24 : tie.Need-add-t24 Inv-loop μ-loop
 add-t24 c =
     let a = c .before .before .before .before .before .before in
-    omega (arith, run-asks (a .before .before .loop .inv .3) (inside (a .before)) (a .ahead .result) (a .ahead .ensures) .3)
+    omega (arith, run-asks (a .before .before .loop .inv .3) (inside (a .before)) (a .ahead .result) (a .ahead .ensures) .4)
 
 columns-on-requires : tie.Need-columns-on-requires Inv-loop μ-loop
 columns-on-requires c κs =

@@ -41,8 +41,14 @@ fn sends_and_takes(row: &Row, frames: usize) -> Case {
     Case::new(&format!("plain-send-take-{}-{frames}-frames", row.level))
         .file("notes", &list)
         .file("tributaries", &buffer)
-        .accepted(words(&format!("plain-send {} notes tributaries line", row.level)), &send)
-        .accepted(words(&format!("plain-take {} line {}", row.level, outputs.join(" "))), &take)
+        .accepted(
+            words(&format!("send --engine plain -l {} notes tributaries line", row.level)),
+            &send,
+        )
+        .accepted(
+            words(&format!("take --engine plain -l {} line {}", row.level, outputs.join(" "))),
+            &take,
+        )
         .makes("line", &sent.line)
         .makes(outputs[0], &list)
         .makes(outputs[1], &buffer)
@@ -54,7 +60,10 @@ fn takes(name: &str, row: &Row, line: &[u8]) -> Case {
     let text = texts::taken(row, &taken) + &written(&["notes", "tributaries"]);
     Case::new(&format!("plain-take-{}-{name}", row.level))
         .file("line", line)
-        .accepted(words(&format!("plain-take {} line notes tributaries", row.level)), &text)
+        .accepted(
+            words(&format!("take --engine plain -l {} line notes tributaries", row.level)),
+            &text,
+        )
         .makes("notes", &taken.notes)
         .makes("tributaries", &quarters)
 }
@@ -70,7 +79,7 @@ fn agree(name: &str, row: &Row, line: &[u8]) -> Case {
     let compared = compared(row, line);
     Case::new(&format!("agree-{}-{name}", row.level))
         .file("line", line)
-        .accepted(words(&format!("agree {} line", row.level)), &texts::agree(row, compared))
+        .accepted(words(&format!("agree -l {} line", row.level)), &texts::agree(row, compared))
 }
 
 fn wrong_sending() -> Vec<Case> {
@@ -79,7 +88,7 @@ fn wrong_sending() -> Vec<Case> {
         Case::new(name)
             .file("notes", notes)
             .file("tributaries", &vec![0; bytes])
-            .fails(words("plain-send 2 notes tributaries line"), line)
+            .fails(words("send --engine plain -l 2 notes tributaries line"), line)
     };
     vec![
         fails("plain-send-short", &[0], 100, &no_room(row, "tributaries", 100, 1)),
@@ -90,9 +99,9 @@ fn wrong_sending() -> Vec<Case> {
 
 fn wrong_lines() -> Vec<Case> {
     let mut cases = Vec::new();
-    for (command, rest) in [("plain-take", " notes tributaries"), ("agree", "")] {
-        let given = |name: &str| Case::new(&format!("{command}-{name}"));
-        let call = |level: u64| words(&format!("{command} {level} line{rest}"));
+    for (command, rest) in [("take --engine plain", " notes tributaries"), ("agree", "")] {
+        let given = |name: &str| Case::new(&format!("{}-{name}", command.replace(' ', "-")));
+        let call = |level: u64| words(&format!("{command} -l {level} line{rest}"));
         let short = no_whole_frames(level(2), "line", 105);
         cases.push(given("short").file("line", &[0; 105]).fails(call(2), &short));
         cases.push(given("no-level").file("line", &[0; 106]).fails(call(5), &no_level("5")));

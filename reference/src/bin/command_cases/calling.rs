@@ -1,138 +1,189 @@
-//! Help, and calls that are wrong: the right forms are listed, and nothing is done.
+//! Calls that name no command, leave words out, add words, or have a word where it cannot stand; calls
+//! for help; and calls that name a file twice.
 
 use crate::case::{words, Case};
+use crate::texts::written_over;
 
-const COMMANDS: [&str; 22] = [
+/// The commands.
+const COMMANDS: [&str; 23] = [
     "demo",
     "frame",
     "send",
     "take",
-    "plain-send",
-    "agree",
     "notes",
     "extract",
-    "swap",
-    "repair",
-    "repair-national",
-    "judge",
+    "agree",
     "find",
     "watch",
+    "judge",
+    "swap",
+    "repair",
     "keep",
     "show",
     "compare",
+    "cut",
+    "split",
+    "join",
     "multiframe",
     "build",
     "apart",
     "hunt",
-    "help",
+    "completions",
 ];
 
 /// Wrong calls. The files that they name are there.
-const WRONG: [&str; 85] = [
+const WRONG: [&str; 86] = [
     "",
     "bogus",
-    "sen 2 notes tributaries out",
+    "sen -l 2 notes tributaries out",
     "a-command-that-is-a-word-of-many-letters",
     "demo 2",
     "frame",
-    "frame 2 3F picture.svg out",
-    "frame 2 00 3F",
-    "frame 2 3",
-    "frame 2 3FF",
-    "frame 2 GG",
-    "frame 2 picture.txt",
-    "frame 2 3F picture.txt",
+    "frame 2",
+    "frame -l 2 picture.svg",
+    "frame -l 2 --note 3",
+    "frame -l 2 --note 3FF",
+    "frame -l 2 --note GG",
+    "frame -l 2 --note +F",
+    "frame -l 2 --note 3F --note 3F",
+    "frame -l 2 --svg",
     "send",
-    "send 2 notes tributaries",
-    "send 2 notes tributaries out more",
-    "take 2 line out",
-    "take 2 line out more yet-more",
-    "take 2 line out out",
-    "plain-send",
-    "plain-send 2 notes tributaries",
-    "plain-send 2 notes tributaries out more",
-    "plain-take",
-    "plain-take 2 line out",
-    "plain-take 2 line out more yet-more",
-    "plain-take 2 line out out",
-    "agree",
-    "agree 2",
-    "agree 2 line more",
-    "notes",
-    "notes 2",
-    "notes 2 line out more",
-    "extract 2 line notes",
-    "extract 2 line notes out more",
-    "swap",
-    "swap 2 1 line notes",
-    "swap 2 1 line notes tributaries out more",
-    "repair",
-    "repair line",
-    "repair 2 line",
-    "repair 12:5 line",
-    "repair :5 line",
-    "repair 2 line out more",
-    "judge",
-    "judge line",
-    "judge 2 line",
-    "judge 12:5 line",
-    "judge :5 line",
-    "judge 2 line tributaries out",
-    "judge 2 line tributaries out more.html",
-    "take :5 line out",
-    "take 12:5 line out",
-    "take :5 line out out",
-    "find",
-    "find 2",
-    "find 2 line out more",
-    "watch",
-    "watch 2",
-    "watch 2 line 3",
+    "send notes tributaries out",
+    "send -l 2 notes tributaries",
+    "send -l 2 notes tributaries out more",
+    "send -l 2 -l 3 notes tributaries out",
+    "send -l 2 --engine slow notes tributaries out",
+    "take",
+    "take line",
     "take line out",
     "take line out out",
-    "take 2 line",
-    "take",
+    "take line out more yet-more",
+    "take -l 2 line",
+    "take -l 2 line out",
+    "take -l 2 line out out",
+    "take -l 2 line out ./out",
+    "take -l 2 line out more yet-more",
+    "take --find line out more",
+    "take --earlier 5 line out",
+    "take --bogus line out more",
+    "agree",
+    "agree line",
+    "agree -l 2",
+    "agree -l 2 line more",
+    "notes",
+    "notes -l 2",
+    "notes -l 2 line out more",
+    "notes --find line out",
+    "extract -l 2 line notes",
+    "extract line notes out",
+    "extract -l 2 line notes out more",
+    "swap",
+    "swap -l 2 line notes tributaries out",
+    "swap -l 2 --tributary 1 line notes tributaries",
+    "swap -l 2 --tributary 1 line notes tributaries out more",
+    "repair",
+    "repair line",
+    "repair -l 2 line",
+    "repair --earlier 5 line",
+    "repair -l 2 line out more",
+    "judge",
+    "judge line",
+    "judge -l 2 line",
+    "judge --earlier 5 line",
+    "judge -l 2 line tributaries out",
+    "judge -l 2 line tributaries --pattern 15",
+    "find",
+    "find line",
+    "find -l 2",
+    "find -l 2 line out",
+    "watch",
+    "watch 2",
+    "watch 2=",
+    "watch 2=line 3",
     "keep",
-    "keep 2 line",
-    "keep 2 line out label more",
+    "keep line out",
+    "keep -l 2 line",
+    "keep -l 2 line out label",
     "show",
     "show line out more",
     "compare",
     "compare line",
-    "compare line line picture.txt",
-    "compare line line picture.svg more",
+    "compare line line picture.svg",
+    "multiframe picture.svg",
     "build",
     "build notes tributaries line",
     "build notes tributaries line out more",
     "apart",
     "apart line out more",
-    "apart line out more yet-more still-more",
-    "apart line out out more",
     "apart line out more out",
-    "apart line more out out",
+    "apart line more out ./out",
     "hunt",
     "hunt line more",
-    "multiframe picture.txt",
-    "multiframe picture.svg more",
+];
+
+/// An output that is a file which is read, by its name or another, and the words for both.
+const OVER: [(&str, &str, &str, &str); 16] = [
+    ("take -l 2 line line out", "NOTES", "line", "LINE"),
+    ("take -l 2 line out ./line", "TRIBUTARIES", "./line", "LINE"),
+    ("take line out line", "TRIBUTARIES", "line", "LINE"),
+    ("notes -l 2 line line", "NOTES", "line", "LINE"),
+    ("notes -l 2 --find line line", "NOTES", "line", "LINE"),
+    ("show line line", "LINE", "line", "CAPTURE"),
+    ("show line deep/../line", "LINE", "deep/../line", "CAPTURE"),
+    ("send -l 2 notes tributaries notes", "LINE", "notes", "NOTES"),
+    ("send -l 2 notes tributaries ./tributaries", "LINE", "./tributaries", "TRIBUTARIES"),
+    ("extract -l 2 line notes notes", "TRIBUTARIES", "notes", "NOTES"),
+    ("extract -l 2 line notes line", "TRIBUTARIES", "line", "LINE"),
+    ("keep -l 2 line line", "CAPTURE", "line", "LINE"),
+    ("find -l 2 x.line --out x", "PREFIX.line", "x.line", "RECORDING"),
+    ("find -l 2 x.line --out ./x", "PREFIX.line", "./x.line", "RECORDING"),
+    ("apart line out line more", "SIGNALLING", "line", "MULTIFRAMES"),
+    ("build notes tributaries line line", "MULTIFRAMES", "line", "SPARE"),
 ];
 
 pub fn cases() -> Vec<Case> {
-    let form = |command: &&str| format!("spritbobbin {command}( |$)");
-    let mut forms: Vec<String> = COMMANDS.iter().map(form).collect();
-    // A page is asked for by the same word in both forms of judge.
-    forms.push(r"judge LEVEL LINE SENT \[PAGE\.html\] ".into());
-    forms.push(r"judge CAPTURE SENT \[PAGE\.html\] ".into());
-    // Of the last line no more is asked than that it is no refusal and no failure.
-    let mut cases = vec![Case::new("help").like(words("help"), 0, &forms, "^[^rf]")];
+    let form = |command: &&str| format!("^  {command} ");
+    let forms: Vec<String> = COMMANDS.iter().map(form).collect();
+    let mut cases = vec![
+        Case::new("help").like(words("help"), 0, &forms, "be read or written"),
+        Case::new("help-h").like(words("-h"), 0, &forms, "be read or written"),
+        Case::new("help-long").like(words("--help"), 0, &forms, "be read or written"),
+        Case::new("version").like(words("--version"), 0, &[], r"^spritbobbin [0-9.]+ \(commit "),
+    ];
+    for command in COMMANDS {
+        // Each has an example, which calls it.
+        let example = format!("^  spritbobbin {command}( |$)");
+        let usage = format!("^Usage: spritbobbin {command}( |$)");
+        for (how, call) in
+            [("long", format!("{command} --help")), ("help", format!("help {command}"))]
+        {
+            let name = format!("help-of-{command}-{how}");
+            cases.push(Case::new(&name).like(
+                words(&call),
+                0,
+                std::slice::from_ref(&usage),
+                &example,
+            ));
+        }
+    }
     cases.extend(WRONG.iter().map(|command| wrong(command)));
+    for (call, output, path, input) in OVER {
+        let name = format!("over-an-input {call}").replace([' ', '/'], "-");
+        cases.push(given(&name).fails(words(call), &written_over(output, path, input)));
+    }
     cases
 }
 
-fn wrong(command: &str) -> Case {
-    let name = format!("wrong-call {command}").trim_end().replace(' ', "-");
-    Case::new(&name)
+fn given(name: &str) -> Case {
+    Case::new(name)
+        .folder("deep")
         .file("notes", &[0])
         .file("tributaries", &[0; 104])
         .file("line", &[0; 106])
-        .like(words(command), 1, &["^The right forms are:$".into()], "^failed: ")
+        .file("x.line", &[0; 106])
+}
+
+fn wrong(command: &str) -> Case {
+    let name = format!("wrong-call {command}").trim_end().replace([' ', '/'], "-");
+    given(&name).like(words(command), 2, &["^(error|wrong call): |^Usage: ".into()], ".")
 }

@@ -24,7 +24,8 @@ pub struct Case {
     given: Folder,
     after: Folder,
     stdout: String,
-    /// Patterns where the words are left to the program; then `stdout` says nothing.
+    stderr: String,
+    /// Patterns where the words are left to the program; then `stdout` and `stderr` say nothing.
     has: Vec<String>,
     last: Option<String>,
     svg: Option<String>,
@@ -37,6 +38,19 @@ pub struct Page {
     pub path: String,
     pub counts: Vec<(&'static str, usize)>,
     pub texts: Vec<String>,
+}
+
+/// The words of a call for a level and the vote before the first frame, written as `12:5`; for a
+/// capture, which has its level, the vote alone, as `:5`.
+pub fn at(level_and_vote: &str) -> String {
+    let (level, vote) = match level_and_vote.split_once(':') {
+        Some((level, vote)) => (level, format!("--earlier {vote}")),
+        None => (level_and_vote, String::new()),
+    };
+    if level.is_empty() {
+        return vote;
+    }
+    format!("-l {level} {vote}")
 }
 
 /// The words of a command in which no word has a blank.
@@ -93,13 +107,27 @@ impl Case {
         self.command(words, 0)
     }
 
-    /// A command that is refused or fails, and the one line that it prints.
-    pub fn fails(mut self, words: Vec<String>, line: &str) -> Case {
-        self.stdout += &format!("{line}\n");
+    /// A command that is carried out and whose check does not hold, and all that it prints.
+    pub fn checked(mut self, words: Vec<String>, stdout: &str) -> Case {
+        self.stdout += stdout;
         self.command(words, 1)
     }
 
-    /// A command of which only patterns of some lines are known, and of the last line.
+    /// A command that is refused or fails, and the one line that it prints on standard error.
+    pub fn fails(mut self, words: Vec<String>, line: &str) -> Case {
+        self.stderr += &format!("{line}\n");
+        let first = line.split_whitespace().next();
+        let status = match first {
+            Some("refused") => 1,
+            Some("wrong") => 2,
+            Some("failed:") => 3,
+            _ => panic!("no refusal and no failure: {line}"),
+        };
+        self.command(words, status)
+    }
+
+    /// A command of which only patterns of some lines are known, and of the last line: of standard
+    /// output where it is accepted, else of standard error.
     pub fn like(mut self, words: Vec<String>, status: u8, has: &[String], last: &str) -> Case {
         self.has = has.into();
         self.last = Some(last.into());
@@ -119,7 +147,10 @@ impl Case {
         fs::write(folder.join("command"), lines(&[commands.join("\n\n")]))?;
         fs::write(folder.join("expected.status"), lines(&self.status))?;
         match &self.last {
-            None => fs::write(folder.join("expected.stdout"), &self.stdout)?,
+            None => {
+                fs::write(folder.join("expected.stdout"), &self.stdout)?;
+                fs::write(folder.join("expected.stderr"), &self.stderr)?;
+            }
             Some(last) => {
                 fs::write(folder.join("expected.has"), lines(&self.has))?;
                 fs::write(folder.join("expected.last"), lines(&[last]))?;

@@ -116,7 +116,7 @@ fn drawn() -> Vec<Case> {
         };
         given(name, row, &line, &other)
             .accepted(
-                words("compare one other picture.svg"),
+                words("compare one other --svg picture.svg"),
                 &(text(row, &line, &other) + &written(&["picture.svg"])),
             )
             .draws("picture.svg")
@@ -151,7 +151,7 @@ fn refused() -> Vec<Case> {
         let case = |how: &str, one: &[u8], other: &[u8]| {
             Case::new(&format!("compare-{how}-{name}")).file("one", one).file("other", other)
         };
-        let command = || words("compare one other picture.svg");
+        let command = || words("compare one other --svg picture.svg");
         cases.extend(
             case("first", file, &good)
                 .fails(command(), &no_capture("one", file))
@@ -162,7 +162,7 @@ fn refused() -> Vec<Case> {
     }
     let fits = |name: &str, other: Vec<u8>, line: &str| {
         let case = Case::new(&format!("compare-{name}")).file("one", &good).file("other", &other);
-        case.fails(words("compare one other picture.svg"), line).twice(&["picture.svg"])
+        case.fails(words("compare one other --svg picture.svg"), line).twice(&["picture.svg"])
     };
     cases.extend(fits(
         "levels",
@@ -182,7 +182,7 @@ fn wrong_files() -> Vec<Case> {
     let good = capture(row, &frames(row, 1), None);
     let one = |name: &str| Case::new(name).file("one", &good);
     let both = |name: &str| one(name).file("other", &good);
-    let nowhere = words("compare one other none/picture.svg");
+    let nowhere = words("compare one other --svg none/picture.svg");
     let here = || words("compare one other");
     vec![
         Case::new("compare-no-files").fails(here(), &cannot("one", "opened")),
@@ -191,6 +191,6 @@ fn wrong_files() -> Vec<Case> {
         both("compare-in-no-folder").fails(nowhere, &cannot("none/picture.svg", "written")),
         both("compare-picture-is-a-folder")
             .folder("picture.svg")
-            .fails(words("compare one other picture.svg"), &cannot("picture.svg", "written")),
+            .fails(words("compare one other --svg picture.svg"), &cannot("picture.svg", "written")),
     ]
 }

@@ -8,7 +8,7 @@ use crate::worked::{self, Event, Found};
 use reference::level::Row;
 use reference::random::Random;
 
-const OUTPUTS: [&str; 2] = ["back.notes", "back.tributaries"];
+const OUTPUTS: [&str; 3] = ["back.line", "back.notes", "back.tributaries"];
 
 pub fn cases() -> Vec<Case> {
     let mut cases = Vec::new();
@@ -24,7 +24,7 @@ pub fn cases() -> Vec<Case> {
     cases
 }
 
-/// A recording, what is found in it, what find prints, and the two files that it makes.
+/// A recording, what is found in it, what find prints, and the files that it makes.
 pub struct Finding {
     row: &'static Row,
     stream: Vec<u8>,
@@ -63,18 +63,24 @@ impl Finding {
 
     /// The case without the files.
     fn prints(&self, name: &str) -> Case {
-        let command = words(&format!("find {} stream", self.row.level));
+        let command = words(&format!("find -l {} stream", self.row.level));
         Case::new(&format!("find-{}-{name}", self.row.level))
             .file("stream", &self.stream)
             .accepted(command, &self.text)
     }
 
+    /// What is said where files are written too.
+    pub fn text_and_stretches(&self) -> String {
+        self.text.clone() + &texts::stretches(self.row, &self.found)
+    }
+
     /// The case with the files.
     fn writes(&self, name: &str) -> Case {
-        let command = words(&format!("find {} stream back", self.row.level));
+        let command = words(&format!("find -l {} stream --out back", self.row.level));
         Case::new(&format!("find-{}-{name}-files", self.row.level))
             .file("stream", &self.stream)
-            .accepted(command, &(self.text.clone() + &written(&OUTPUTS)))
+            .accepted(command, &(self.text_and_stretches() + &written(&OUTPUTS)))
+            .makes("back.line", &self.found.line(self.row))
             .makes("back.notes", &self.notes)
             .makes("back.tributaries", &self.tributaries)
     }
@@ -198,41 +204,42 @@ fn wrong_levels() -> Vec<Case> {
     let frames = Stream::new(level(2), 18).good(4).bytes();
     let mut cases = Vec::new();
     // The first word twice: without and with older files where the outputs go.
-    for word in ["5", "5", "8448"] {
-        let command = words(&format!("find {word} stream back"));
+    for word in ["5", "5", "8449"] {
+        let command = words(&format!("find -l {word} stream --out back"));
         let case = Case::new(&format!("find-no-level-{word}")).file("stream", &frames);
         cases.push(case.fails(command, &no_level(word)));
     }
-    let command = words("find 6 stream none/back");
+    let command = words("find -l 6 stream --out none/back");
     cases.push(Case::new("find-no-level-no-file").fails(command, &no_level("6")));
     cases
 }
 
 fn wrong_inputs() -> Vec<Case> {
-    let command = || words("find 2 stream back");
+    let command = || words("find -l 2 stream --out back");
     let folder = Case::new("find-stream-is-a-folder").folder("stream");
     let missing = cannot("stream", "opened");
     let mut cases = Case::new("find-no-stream").fails(command(), &missing).twice(&OUTPUTS);
     cases.extend(folder.fails(command(), &cannot("stream", "read")).twice(&OUTPUTS));
-    cases.push(Case::new("find-no-stream-no-files").fails(words("find 2 stream"), &missing));
+    cases.push(Case::new("find-no-stream-no-files").fails(words("find -l 2 stream"), &missing));
     cases
 }
 
-/// Neither output is touched if one of the two cannot be written.
+/// No output is touched if one of the three cannot be written.
 fn wrong_outputs() -> Vec<Case> {
     let frames = Stream::new(level(2), 19).good(5).bytes();
     let given = |name| Case::new(name).file("stream", &frames);
-    let is_a_folder = |name, path, other| {
+    let is_a_folder = |name, path, others: [&str; 2]| {
         let case = given(name).folder(path);
-        case.fails(words("find 2 stream back"), &cannot(path, "written")).twice(&[other])
+        case.fails(words("find -l 2 stream --out back"), &cannot(path, "written")).twice(&others)
     };
-    // Which of the two files is named is left to the program.
-    let either = r"^failed: none/back\.(notes|tributaries) cannot be written\.$";
-    let command = words("find 2 stream none/back");
+    // Which of the three files is named is left to the program.
+    let either = r"^failed: none/back\.(line|notes|tributaries) cannot be written: No such file or directory\.$";
+    let command = words("find -l 2 stream --out none/back");
     [
-        vec![given("find-in-no-folder").like(command, 1, &[], either)],
-        is_a_folder("find-notes-are-a-folder", "back.notes", "back.tributaries"),
-        is_a_folder("find-tributaries-are-a-folder", "back.tributaries", "back.notes"),
+        vec![given("find-in-no-folder").like(command, 3, &[], either)],
+        is_a_folder("find-line-is-a-folder", OUTPUTS[0], [OUTPUTS[1], OUTPUTS[2]]),
+        is_a_folder("find-notes-are-a-folder", OUTPUTS[1], [OUTPUTS[0], OUTPUTS[2]]),
+        is_a_folder("find-tributaries-are-a-folder", OUTPUTS[2], [OUTPUTS[0], OUTPUTS[1]]),
     ]
     .concat()
 }

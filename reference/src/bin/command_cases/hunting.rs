@@ -3,8 +3,9 @@
 
 use crate::case::{words, Case};
 use crate::multiframes;
-use crate::texts::cannot;
+use crate::texts::{cannot, time};
 use reference::digits::{pack, unpack};
+use reference::multiframe_start;
 use reference::random::Random;
 use reference::{finder_feed, FinderState, FRAME_DIGITS, SECOND_PLACE, WORD, WORD_PLACE};
 
@@ -89,14 +90,36 @@ fn searched(recording: &[u8]) -> Vec<Event> {
     events
 }
 
-fn text(bytes: usize, events: &[Event], mode: u64) -> String {
+/// What is said of the multiframe's start in the sixteen frames from the one on whose word is found
+/// at this digit; nothing where the recording ends before the sixteenth.
+fn start(recording: &[u8], word: usize) -> String {
+    let (first, digits) = (word - 1, unpack(recording, 8 * recording.len()));
+    let Some(frames) = digits.get(first..first + 4096) else { return String::new() };
+    match multiframe_start(&pack(frames)) {
+        [0, 16] => "no multiframe begins in the sixteen frames from there on\n".into(),
+        [0, frame] => {
+            let digit = first + 256 * frame as usize;
+            let time = time(2048, digit);
+            format!("multiframe begins at digit {digit} ({time}): 0000 in byte 16\n")
+        }
+        other => panic!("refused: {other:?}"),
+    }
+}
+
+fn text(recording: &[u8], events: &[Event], mode: u64) -> String {
+    let bytes = recording.len();
     let mut text = format!("2048 kbit/s: {bytes} bytes, {} digits, numbered from 0.\n", 8 * bytes);
     for event in events {
         text += &match event {
-            Event::Found(digit) => {
-                format!("found at digit {digit}: the second good word, after a second digit of 1\n")
+            Event::Found(digit) => format!(
+                "found at digit {digit} ({}): the second good word, after a second digit of 1\n{}",
+                time(2048, *digit),
+                start(recording, *digit)
+            ),
+            Event::Lost(digit) => {
+                let time = time(2048, *digit);
+                format!("lost at digit {digit} ({time}): the third wrong word in a row\n")
             }
-            Event::Lost(digit) => format!("lost at digit {digit}: the third wrong word in a row\n"),
         };
     }
     let found = events.iter().filter(|event| matches!(event, Event::Found(_))).count();
@@ -120,7 +143,7 @@ fn hunts(name: &str, recording: &[u8], expected: &[Event], last: u64) -> Case {
     assert_eq!(events, searched(recording), "{name}: the search finds others");
     Case::new(&format!("hunt-{name}"))
         .file("recording", recording)
-        .accepted(words("hunt recording"), &text(recording.len(), &events, mode))
+        .accepted(words("hunt recording"), &text(recording, &events, mode))
 }
 
 /// Frames of 2048 kbit/s without a multiframe: the words, second digits of 1, and ones, which

@@ -1,28 +1,31 @@
 //! Cases of judge: what it must say of lines that a right, a late and an early multiplexer make, of
-//! slipped, damaged and random ones, held against files and against patterns. The sentences are
-//! worked out from this package's own readings.
+//! slipped, damaged and random ones, held against files and against patterns. The numbers are this
+//! package's own verdict, and the sentences are made of them here.
 
-use crate::case::{words, Case};
+use crate::case::{at, words, Case};
 use crate::inputs::{damaged, known_bits, level, levels, room};
 use crate::texts::{cannot, no_capture, no_level, no_room, no_vote, no_whole_frames};
 use crate::worked::quarters;
-use reference::digits::unpack;
-use reference::frame::{self, Action};
-use reference::judging::{
-    acting, line_of, pattern_digits, read_by, votes, Reading, Sent, READINGS,
-};
+use reference::digits::{pack, unpack};
+use reference::frame::{self, Action, Place};
+use reference::judging::{line_of, pattern_digits, votes, Reading, READINGS};
 use reference::level::Row;
 use reference::random::Random;
+use reference::verdict::{feed, fresh, UNKNOWN};
 use reference::write_capture;
 
 pub fn cases() -> Vec<Case> {
     let mut cases = Vec::new();
     for row in levels() {
         cases.extend(of_level(row));
+        cases.extend(long(row));
+        cases.extend(found(row));
     }
     cases.extend(clocks());
     cases.extend(of_captures());
+    cases.extend(patterns());
     cases.push(demo());
+    cases.extend(checked());
     cases.extend(refused());
     cases
 }
@@ -58,6 +61,80 @@ fn sent_digits(row: &Row, frames: usize, stages: u64, seed: u64) -> [Vec<u8>; 4]
     })
 }
 
+/// One reading of one tributary, as the verdict tells it.
+#[derive(Clone, Copy, Debug, Default, PartialEq, Eq)]
+pub struct Read {
+    pub digits: u64,
+    pub unjudged: u64,
+    pub wrong: u64,
+    pub slips: u64,
+    pub shift: i64,
+    pub entered: u64,
+}
+
+impl Read {
+    fn judged(&self) -> u64 {
+        self.digits - self.unjudged
+    }
+
+    fn takes(&self) -> (u64, u64, u64) {
+        (self.wrong, self.slips, self.unjudged)
+    }
+}
+
+/// A slip of a reading: the first digit after it, its frame, how the shift changed, how many there are,
+/// and whether it is a wrong vote.
+#[derive(Clone, Copy, Debug)]
+struct Slip {
+    digit: u64,
+    frame: usize,
+    step: i64,
+    slips: u64,
+    vote: bool,
+}
+
+/// All four tributaries: changes of the decision, the readings, and the slips of each.
+pub struct Told {
+    changes: [u64; 4],
+    reads: [[Read; 3]; 4],
+    slips: [[Vec<Slip>; 3]; 4],
+}
+
+impl Told {
+    /// What a reading of tributary j takes, as a page's table has it.
+    pub fn takes(&self, j: usize, reading: usize) -> String {
+        let read = self.reads[j][reading];
+        let slips = match read.slips {
+            1 => "1 slip".into(),
+            slips => format!("{} slips", grouped(slips as usize)),
+        };
+        match read.wrong {
+            _ if read.judged() == 0 && read.digits > 0 => "-".into(),
+            0 => format!("0 wrong {slips}"),
+            wrong => {
+                format!("{} wrong {} {slips}", grouped(wrong as usize), ratio(wrong, read.judged()))
+            }
+        }
+    }
+}
+
+/// The numbers of an answer.
+fn reads(answer: &[u64]) -> [[Read; 3]; 4] {
+    [0, 1, 2, 3].map(|j| {
+        [0, 1, 2].map(|reading| {
+            let of = &answer[22 * j + 1 + 7 * reading..22 * j + 8 + 7 * reading];
+            Read {
+                digits: of[0],
+                unjudged: of[1],
+                wrong: of[3],
+                slips: of[4],
+                shift: of[5] as i64,
+                entered: of[6],
+            }
+        })
+    })
+}
+
 impl Trial {
     /// The line of a multiplexer that goes by this reading.
     pub fn new(
@@ -79,10 +156,11 @@ impl Trial {
         self
     }
 
+    /// The words of the call for what was sent.
     pub fn sent(&self) -> String {
         match self.stages {
             0 => "sent".into(),
-            stages => format!("pattern-{stages}"),
+            stages => format!("--pattern {stages}"),
         }
     }
 
@@ -96,7 +174,7 @@ impl Trial {
     }
 
     fn judged(&self, name: &str) -> Case {
-        let command = words(&format!("judge {} line {}", self.level, self.sent()));
+        let command = words(&format!("judge {} line {}", at(&self.level), self.sent()));
         self.case(name).accepted(command, &self.text())
     }
 
@@ -104,96 +182,472 @@ impl Trial {
         self.line.len() / self.row.frame_bytes()
     }
 
+    /// The verdict, frame by frame, by this package alone.
+    pub fn told(&self) -> Told {
+        let (_, mut state) = fresh(self.row.level, self.earlier.into(), self.stages);
+        let votes = votes(self.row, &self.line);
+        let mut slips: [[Vec<Slip>; 3]; 4] = Default::default();
+        let mut starts: Vec<[[Read; 3]; 4]> = Vec::new();
+        let mut answer = state.told();
+        for (k, frame) in self.line.chunks(self.row.frame_bytes()).enumerate() {
+            let next = votes.get(k + 1).map_or(UNKNOWN, |vote| u64::from(*vote));
+            let fed = feed(&state, frame, next, &self.buffer_of(), 0);
+            starts.push(reads(&answer));
+            for j in 0..4 {
+                for reading in 0..3 {
+                    let before = reads(&answer)[j][reading];
+                    let after = reads(&fed.answer)[j][reading];
+                    if after.slips > before.slips {
+                        slips[j][reading].push(self.slip(&starts, j, reading, before, after));
+                    } else if after.slips < before.slips {
+                        let of = &mut slips[j][reading];
+                        while of.iter().map(|slip| slip.slips).sum::<u64>() > after.slips {
+                            of.pop();
+                        }
+                    }
+                }
+            }
+            state = fed.state;
+            answer = fed.answer;
+        }
+        let changes = [0, 1, 2, 3].map(|j| answer[22 * j]);
+        Told { changes, reads: reads(&answer), slips }
+    }
+
+    fn buffer_of(&self) -> Vec<u8> {
+        if self.stages == 0 {
+            return self.buffer.clone();
+        }
+        Vec::new()
+    }
+
+    /// Where the slip is that shows after this many frames.
+    fn slip(
+        &self,
+        starts: &[[[Read; 3]; 4]],
+        j: usize,
+        reading: usize,
+        before: Read,
+        after: Read,
+    ) -> Slip {
+        let digit = after.entered;
+        let frame = starts.iter().rposition(|all| all[j][reading].digits <= digit).unwrap_or(0);
+        let inside = digit.saturating_sub(starts[frame][j][reading].digits) as i64;
+        let near = self.justification(j).iter().any(|&at| inside >= at - 8 && inside <= at + 40);
+        let acts = frame as i64 + [0, -1, 1][reading];
+        let votes = if self.row.negative_places { vec![acts - 1, acts] } else { vec![acts] };
+        let vote = near && votes.into_iter().any(|frame| self.is_split(frame, j));
+        let (step, slips) = (after.shift - before.shift, after.slips - before.slips);
+        Slip { digit, frame, step, slips, vote }
+    }
+
+    /// How many digits of tributary j a frame has before each of its justification places.
+    fn justification(&self, j: usize) -> Vec<i64> {
+        let (mut digits, mut places) = (0, Vec::new());
+        for place in frame::layout(self.row) {
+            match place {
+                Place::Tributary(of) if of == j => digits += 1,
+                Place::Justification(of) | Place::Negative(of) if of == j => places.push(digits),
+                _ => {}
+            }
+        }
+        places
+    }
+
+    /// Whether the control digits of tributary j do not all agree in this frame.
+    fn is_split(&self, frame: i64, j: usize) -> bool {
+        let bytes = self.row.frame_bytes();
+        let frame = match usize::try_from(frame).ok().filter(|frame| *frame < self.frames()) {
+            Some(frame) => &self.line[frame * bytes..(frame + 1) * bytes],
+            None => return false,
+        };
+        let digits = unpack(frame, self.row.frame_digits);
+        let places = frame::layout(self.row).into_iter().zip(digits);
+        let group: Vec<u8> = places
+            .filter(|(place, _)| *place == Place::Control(j))
+            .map(|(_, digit)| digit)
+            .collect();
+        group.contains(&0) && group.contains(&1)
+    }
+
     pub fn text(&self) -> String {
+        let told = self.told();
         let against = match self.stages {
             0 => "sent".into(),
             stages => format!("the pattern of 2^{stages} - 1 digits, inverted"),
         };
         let (level, rate) = (self.row.level, line_rate(self.row));
         let mut text = format!(
-            "Level {level}, {rate} kbit/s: {}, held against {against}. \
+            "Level {level}, {rate} kbit/s: {}, {}, held against {against}. \
              Clocks: taking the line at {rate} kbit/s.\n",
-            so_many_frames(self.frames())
+            so_many_frames(self.frames()),
+            time(self.row, self.frames())
         );
         for j in 0..4 {
-            text += &format!("tributary {}: {}\n", j + 1, self.sentence(j));
+            text += &format!("tributary {}: {}\n", j + 1, self.sentence(&told, j));
             text += &format!("  clock: {}\n", self.clock(j));
         }
-        text
+        text + &format!("{}\n", self.answer(&told))
     }
 
-    /// Tributary j read by one reading: of the two ways of taking the border, the one with fewer
-    /// wrong digits.
-    fn read(&self, reading: Reading, j: usize) -> Read {
-        let quarter = self.buffer.len() / 4;
-        let sent = match self.stages {
-            0 => {
-                let quarter = &self.buffer[j * quarter..(j + 1) * quarter];
-                Sent::Digits(unpack(quarter, 8 * quarter.len()))
-            }
-            stages => Sent::Pattern(stages),
-        };
-        let votes = votes(self.row, &self.line);
-        let [zero, one] = [0b0000, 0b1111].map(|unknown| {
-            let acts = acting(self.row, self.earlier, &votes, reading, unknown);
-            Read::new(self.row, &self.line, &acts, &sent, j)
-        });
-        if one.wrong < zero.wrong {
-            return one;
-        }
-        zero
-    }
-
-    pub fn readings(&self, j: usize) -> [Read; 3] {
-        READINGS.map(|reading| self.read(reading, j))
-    }
-
-    pub fn verdict(&self, j: usize) -> Verdict {
+    pub fn verdict(&self, told: &Told, j: usize) -> Verdict {
+        let of = &told.reads[j];
+        let unjudged = of.iter().map(|read| read.unjudged).min().unwrap_or(0);
+        let cost = |read: Read| read.wrong + 16 * read.slips + read.unjudged - unjudged;
+        let costs = of.map(cost);
+        let [own, before, after] = costs;
+        let least = own.min(before).min(after);
+        let judged = of.iter().map(Read::judged).max().unwrap_or(0);
         if self.frames() == 0 {
             return Verdict::Empty;
         }
-        match self.readings(j).map(|read| read.wrong == 0) {
-            [true, ..] if self.still(j) => Verdict::Still,
+        if judged == 0 {
+            return Verdict::NotThere;
+        }
+        if self.stages != 0 && self.is_ones(j) {
+            return Verdict::Ones;
+        }
+        if least > judged / 4 {
+            return Verdict::Unlike;
+        }
+        if told.changes[j] == 0 && own - least <= 16 {
+            return Verdict::Still;
+        }
+        match [own, before, after].map(|cost| cost == least) {
             [true, false, false] => Verdict::Right,
             [false, true, false] => Verdict::Late,
             [false, false, true] => Verdict::Early,
             [false, true, true] => Verdict::LateOrEarly,
-            [false, false, false] => Verdict::Elsewhere,
-            [true, ..] => Verdict::Alike,
+            _ => Verdict::Alike,
         }
     }
 
-    pub fn sentence(&self, j: usize) -> String {
-        let verdict = self.verdict(j);
-        let said = self.readings(j).map(|read| read.said(self.stages));
-        let [own, before, after] = &said;
-        let rest = match verdict {
-            Verdict::Empty => ".".into(),
-            Verdict::Still => format!(
-                ": read by its own{own}, and so they are by that of the frame before and of the \
-                 frame after."
-            ),
-            Verdict::Late => {
-                format!(": read by the decision of the frame before{before}; read by its own{own}.")
+    /// Whether every digit that tributary j has by any reading is a one.
+    fn is_ones(&self, j: usize) -> bool {
+        let places = frame::layout(self.row);
+        self.line.chunks(self.row.frame_bytes()).all(|frame| {
+            let digits = unpack(frame, self.row.frame_digits);
+            let owned =
+                places.iter().zip(digits).filter(|(place, _)| **place == Place::Tributary(j));
+            owned.into_iter().all(|(_, digit)| digit == 1)
+        })
+    }
+
+    /// The reading that the verdict goes by, by its number.
+    fn best(&self, told: &Told, j: usize) -> usize {
+        match self.verdict(told, j) {
+            Verdict::Late | Verdict::LateOrEarly => 1,
+            Verdict::Early => 2,
+            Verdict::Unlike | Verdict::Still => {
+                let cost = |read: &Read| read.wrong + 16 * read.slips + read.unjudged;
+                let costs: Vec<u64> = told.reads[j].iter().map(cost).collect();
+                costs.iter().position(|cost| Some(cost) == costs.iter().min()).unwrap_or(0)
             }
-            Verdict::Early => {
-                format!(": read by the decision of the frame after{after}; read by its own{own}.")
+            _ => 0,
+        }
+    }
+
+    /// The slips of the tributary's clock: all but the wrong votes.
+    fn clock_slips(&self, told: &Told, j: usize) -> u64 {
+        match self.verdict(told, j) {
+            Verdict::Unlike | Verdict::NotThere | Verdict::Empty | Verdict::Ones => 0,
+            _ => {
+                let best = self.best(told, j);
+                let votes = told.slips[j][best].iter().take(200).filter(|slip| slip.vote);
+                told.reads[j][best].slips - votes.map(|slip| slip.slips).sum::<u64>()
             }
-            _ => format!(
-                ": read by its own decision{own}; by that of the frame before{before}; by that of \
-                 the frame after{after}."
+        }
+    }
+
+    pub fn head(&self, told: &Told, j: usize) -> String {
+        let slipped = if self.clock_slips(told, j) > 0 { ", and the clock slipped" } else { "" };
+        format!("{}{slipped}", self.verdict(told, j).head())
+    }
+
+    pub fn sentence(&self, told: &Told, j: usize) -> String {
+        self.head(told, j) + &self.rest(told, j)
+    }
+
+    pub fn rest(&self, told: &Told, j: usize) -> String {
+        let best = self.best(told, j);
+        let read = told.reads[j][best];
+        match self.verdict(told, j) {
+            Verdict::Empty => return ".".into(),
+            Verdict::NotThere => {
+                return format!(
+                    ": {}.",
+                    self.absence(j, &grouped(told.reads[j][0].digits as usize))
+                )
+            }
+            Verdict::Ones => return ", which meet every pattern: no signal, or an alarm.".into(),
+            Verdict::Unlike => {
+                return format!(
+                    ": even read by the decision of {}, {} of {} digits are wrong ({}) and there are {} \
+                     slips. Another file, another order of tributaries, or a recording that begins \
+                     elsewhere in it.",
+                    WHOSE[best],
+                    grouped(read.wrong as usize),
+                    grouped(read.judged() as usize),
+                    ratio(read.wrong, read.judged()),
+                    grouped(read.slips as usize)
+                )
+            }
+            _ => {}
+        }
+        let others: Vec<usize> = (0..3).filter(|reading| *reading != best).collect();
+        let alike = |reading: &usize| told.reads[j][*reading].takes() == read.takes();
+        let same: Vec<&str> = others.iter().filter(|k| alike(k)).map(|k| WHOSE[*k]).collect();
+        let same = match same.is_empty() {
+            true => String::new(),
+            false => format!(", and so by that of {}", same.join(" and of ")),
+        };
+        let other: Vec<String> =
+            others.iter().filter(|k| !alike(k)).map(|k| would(*k, &told.reads[j][*k])).collect();
+        let other =
+            if other.is_empty() { String::new() } else { format!("; {}", other.join(", ")) };
+        format!(
+            ": read by the decision of {}, {}{same}{other}.{}",
+            WHOSE[best],
+            self.came(told, j, best),
+            narrow(&told.reads[j])
+        )
+    }
+
+    fn came(&self, told: &Told, j: usize, reading: usize) -> String {
+        let read = told.reads[j][reading];
+        let judged = grouped(read.judged() as usize);
+        let digits = match read.unjudged {
+            0 => format!("{judged} digits"),
+            from => format!(
+                "{judged} digits from digit {} on, where the pattern begins,",
+                grouped(from as usize)
             ),
         };
-        format!("{}{rest}", verdict.head())
+        let meant = if self.stages == 0 { "those sent" } else { "the pattern's" };
+        let wrong = match read.wrong {
+            0 if read.slips == 0 => return format!("all {digits} are {meant}"),
+            0 => format!("none of {digits} is wrong"),
+            1 => format!("1 of {digits} is wrong ({})", ratio(1, read.judged())),
+            wrong => format!(
+                "{} of {digits} are wrong ({})",
+                grouped(wrong as usize),
+                ratio(wrong, read.judged())
+            ),
+        };
+        let slipped = || self.slipped(&told.slips[j][reading], read.slips);
+        match read.slips {
+            0 => format!("{wrong} and there is no slip"),
+            1 => format!("{wrong} and there is 1 slip, {}", slipped()),
+            slips => {
+                format!("{wrong} and there are {} slips, {}", grouped(slips as usize), slipped())
+            }
+        }
     }
 
-    /// Whether tributary j's decision never changes, nor differs from the vote before.
-    fn still(&self, j: usize) -> bool {
-        let mut votes = votes(self.row, &self.line);
-        if self.row.negative_places {
-            votes.insert(0, self.earlier);
+    fn slipped(&self, slips: &[Slip], all: u64) -> String {
+        // No more of them are looked at.
+        let slips = &slips[..slips.len().min(200)];
+        let counted: u64 = slips.iter().map(|slip| slip.slips).sum();
+        let votes: u64 = slips.iter().filter(|slip| slip.vote).map(|slip| slip.slips).sum();
+        let first = match slips.iter().find(|slip| !slip.vote).or_else(|| slips.first()) {
+            Some(first) => self.place(first),
+            None => return "not followed one by one".into(),
+        };
+        let of = if counted < all {
+            format!("of the first {} ", grouped(counted as usize))
+        } else {
+            String::new()
+        };
+        match votes {
+            0 if all == 1 => first,
+            0 => format!("the first {first}"),
+            1 if all == 1 => format!("a wrong vote: {first}"),
+            votes if votes == all => format!("all of them wrong votes, the first {first}"),
+            votes if votes == counted => format!("{of}all wrong votes, the first {first}"),
+            1 => format!("{of}1 wrong vote, the first other {first}"),
+            votes => {
+                format!("{of}{} wrong votes, the first other {first}", grouped(votes as usize))
+            }
         }
-        votes.windows(2).all(|two| (two[0] ^ two[1]) >> j & 1 == 0)
+    }
+
+    fn place(&self, slip: &Slip) -> String {
+        let digits = match slip.step.unsigned_abs() {
+            0 | 1 => "a digit".into(),
+            digits => format!("{digits} digits"),
+        };
+        let way = if slip.step > 0 { "lost" } else { "doubled" };
+        format!(
+            "{digits} {way} at digit {}, frame {}, {}",
+            grouped(slip.digit as usize),
+            grouped(slip.frame),
+            time(self.row, slip.frame)
+        )
+    }
+
+    /// Why a pattern is not there.
+    fn absence(&self, j: usize, digits: &str) -> String {
+        let other = if self.stages == 15 { 23 } else { 15 };
+        let mut begun = Trial { stages: other, ..self.clone_of() };
+        begun.line.truncate(256 * self.row.frame_bytes());
+        if begun.told().reads[j].iter().any(|read| read.judged() > 0) {
+            return format!("it carries the pattern of 2^{other} - 1 digits, inverted");
+        }
+        let owned = |place: &Place| *place == Place::Tributary(j);
+        let places = frame::layout(self.row);
+        let zeros = begun.line.chunks(self.row.frame_bytes()).all(|frame| {
+            let digits = unpack(frame, self.row.frame_digits);
+            places.iter().zip(digits).all(|(place, digit)| !owned(place) || digit == 0)
+        });
+        if zeros {
+            return format!("its {digits} digits are zeros: no signal");
+        }
+        format!(
+            "in {digits} digits no {} in a row are the pattern's: another signal, or a line too worn \
+             to take it up",
+            64 + self.stages
+        )
+    }
+
+    fn clone_of(&self) -> Trial {
+        Trial {
+            row: self.row,
+            level: self.level.clone(),
+            earlier: self.earlier,
+            line: self.line.clone(),
+            buffer: self.buffer.clone(),
+            stages: self.stages,
+        }
+    }
+
+    /// The last line: what all tributaries say.
+    pub fn answer(&self, told: &Told) -> String {
+        let parts =
+            [self.answer_head(told), self.besides(told), self.wear(told), self.clocks_kept()];
+        parts.iter().filter(|part| !part.is_empty()).cloned().collect::<Vec<_>>().join(" ")
+    }
+
+    pub fn answer_head(&self, told: &Told) -> String {
+        let verdicts = [0, 1, 2, 3].map(|j| self.verdict(told, j));
+        let has = |verdict: Verdict| verdicts.contains(&verdict);
+        let slipped = self.numbers(|j| self.clock_slips(told, j) > 0);
+        let index = has(Verdict::Late) || has(Verdict::Early) || has(Verdict::LateOrEarly);
+        let head = match (has(Verdict::Late), has(Verdict::Early), has(Verdict::Right)) {
+            (_, _, true) if index => "The tributaries do not agree: see each of them.",
+            (true, true, _) => "The tributaries do not agree: see each of them.",
+            (true, ..) => "The frame index: the multiplexer acts a frame late.",
+            (_, true, _) => "The frame index: the multiplexer acts a frame early.",
+            _ if index => "The frame index: the multiplexer acts a frame late or a frame early.",
+            (_, _, true) if slipped.is_empty() => {
+                "Neither: the multiplexer acts in its own frame, and no clock slipped."
+            }
+            (_, _, true) => {
+                return format!(
+                    "The clock: {} slipped. The multiplexer acts in its own frame.",
+                    tributaries(&slipped)
+                )
+            }
+            _ if has(Verdict::NotThere) || has(Verdict::Unlike) => {
+                "Cannot be told: what was sent is not on this line."
+            }
+            _ if !slipped.is_empty() => {
+                return format!("The clock: {} slipped.", tributaries(&slipped))
+            }
+            _ => "Cannot be told from this recording.",
+        };
+        head.into()
+    }
+
+    fn numbers(&self, which: impl Fn(usize) -> bool) -> Vec<String> {
+        (0..4).filter(|j| which(*j)).map(|j| (j + 1).to_string()).collect()
+    }
+
+    /// Slips and absences that the head does not say.
+    fn besides(&self, told: &Told) -> String {
+        let head = self.answer_head(told);
+        let slipped = self.numbers(|j| self.clock_slips(told, j) > 0);
+        let absent =
+            self.numbers(|j| matches!(self.verdict(told, j), Verdict::NotThere | Verdict::Unlike));
+        let mut said = Vec::new();
+        if !slipped.is_empty() && !head.starts_with("The clock") {
+            said.push(format!("{} slipped besides.", tributaries(&slipped).replace('t', "T")));
+        }
+        if !absent.is_empty() && !head.ends_with("is not on this line.") {
+            let not = if absent.len() == 1 { "does not" } else { "do not" };
+            let who = tributaries(&absent);
+            said.push(format!("T{} {not} carry what was sent.", &who[1..]));
+        }
+        said.join(" ").replace("TribuTary", "Tributary").replace("TribuTaries", "Tributaries")
+    }
+
+    fn wear(&self, told: &Told) -> String {
+        let told_of = (0..4).filter(|j| {
+            !matches!(self.verdict(told, *j), Verdict::NotThere | Verdict::Unlike | Verdict::Empty)
+        });
+        let reads: Vec<Read> = told_of.map(|j| told.reads[j][self.best(told, j)]).collect();
+        let wrong: u64 = reads.iter().map(|read| read.wrong).sum();
+        let judged: u64 = reads.iter().map(Read::judged).sum();
+        match (wrong, judged) {
+            (_, 0) => String::new(),
+            (0, _) => format!("None of {} digits came wrong.", grouped(judged as usize)),
+            _ => format!(
+                "{} of {} digits came wrong, {}.",
+                grouped(wrong as usize),
+                grouped(judged as usize),
+                one_in(wrong, judged)
+            ),
+        }
+    }
+
+    fn clocks_kept(&self) -> String {
+        if self.frames() == 0 {
+            return String::new();
+        }
+        let outside = self.numbers(|j| self.kept(j) == Some(false));
+        match outside.len() {
+            0 if (0..4).any(|j| self.kept(j).is_none()) => format!(
+                "Whether every rate is within its tolerance cannot be told from {}.",
+                so_many_frames(self.frames())
+            ),
+            0 => "Every tributary's rate is within its tolerance.".into(),
+            1 => format!("The rate of tributary {} left its tolerance.", outside[0]),
+            _ => format!("The rates of tributaries {} left their tolerance.", listed(&outside)),
+        }
+    }
+
+    /// Whether tributary j's rate is within its tolerance, where it can be told.
+    pub fn kept(&self, j: usize) -> Option<bool> {
+        let carried = self.carried(j);
+        let clock = Clock { row: self.row, carried: &carried };
+        let frames = self.frames();
+        let (off, most) = (clock.off(0, frames).abs(), 10 * tolerance(self.row) as i128);
+        let one = clock.one_digit(frames);
+        if !clock.outside().is_empty() || off > most + one {
+            return Some(false);
+        }
+        Some(true).filter(|_| frames >= 512 || off + one <= most)
+    }
+
+    /// Whether it left its tolerance in a part of the recording.
+    pub fn left_parts(&self, j: usize) -> bool {
+        !Clock { row: self.row, carried: &self.carried(j) }.outside().is_empty()
+    }
+
+    /// The verdict as the table of a page has it.
+    pub fn short(&self, told: &Told, j: usize) -> String {
+        let slipped = self.clock_slips(told, j) > 0;
+        let text = match self.verdict(told, j) {
+            Verdict::Late => "index late",
+            Verdict::Early => "index early",
+            Verdict::LateOrEarly => "index late or early",
+            Verdict::NotThere => "pattern not there",
+            Verdict::Unlike => "not what was sent",
+            _ if slipped => return "clock slipped".into(),
+            Verdict::Right => "right",
+            Verdict::Ones => "all ones",
+            _ => "cannot be told",
+        };
+        format!("{text}{}", if slipped { ", clock slipped" } else { "" })
     }
 
     pub fn clock(&self, j: usize) -> String {
@@ -203,34 +657,23 @@ impl Trial {
         }
         let carried = self.carried(j);
         let clock = Clock { row: self.row, carried: &carried };
-        if frames < 512 {
-            let one = clock.one_digit(frames);
-            return format!(
-                "cannot be told from {}, in which one digit is {}.{} ppm; it takes 512.",
-                so_many_frames(frames),
-                grouped((one / 10) as usize),
-                one % 10
-            );
+        if frames >= 512 {
+            return clock.said();
         }
-        clock.said()
-    }
-
-    /// How far off tributary j's rate is in all, where it can be told.
-    pub fn mean(&self, j: usize) -> Option<String> {
-        let carried = self.carried(j);
-        let clock = Clock { row: self.row, carried: &carried };
-        Some(clock.mean()).filter(|_| !clock.parts().is_empty())
-    }
-
-    /// The parts in which it left its tolerance.
-    pub fn outside(&self, j: usize) -> Vec<(usize, usize)> {
-        Clock { row: self.row, carried: &self.carried(j) }.outside()
-    }
-
-    /// In how many frames its decision differs from the frame before.
-    pub fn changes(&self, j: usize) -> usize {
-        let votes = votes(self.row, &self.line);
-        votes.windows(2).filter(|two| (two[0] ^ two[1]) >> j & 1 == 1).count()
+        let one = clock.one_digit(frames);
+        let kept = match self.kept(j) {
+            Some(true) => format!("within {} ppm", tolerance(self.row)),
+            Some(false) => format!("outside {} ppm", tolerance(self.row)),
+            None => format!("which does not tell whether it is within {} ppm", tolerance(self.row)),
+        };
+        format!(
+            "{} from {} kbit/s, give or take {}.{} ppm, one digit in {}; {kept}.",
+            clock.mean(),
+            tributary_rate(self.row),
+            grouped((one / 10) as usize),
+            one % 10,
+            so_many_frames(frames)
+        )
     }
 
     /// The digits that each frame carries of tributary j.
@@ -249,8 +692,48 @@ impl Trial {
     }
 }
 
+/// Whose decision a reading goes by.
+const WHOSE: [&str; 3] = ["its own frame", "the frame before", "the frame after"];
+
+/// What another reading would take.
+fn would(reading: usize, read: &Read) -> String {
+    if read.judged() == 0 && read.digits > 0 {
+        return format!("by {} the pattern is not there", WHOSE[reading]);
+    }
+    let wrong = match read.wrong {
+        0 => "no wrong digit".into(),
+        wrong => format!(
+            "{} wrong digit{} ({})",
+            grouped(wrong as usize),
+            if wrong == 1 { "" } else { "s" },
+            ratio(wrong, read.judged())
+        ),
+    };
+    let slips = match read.slips {
+        0 => "no slip".into(),
+        1 => "1 slip".into(),
+        slips => format!("{} slips", grouped(slips as usize)),
+    };
+    format!("{} would need {wrong} and {slips}", WHOSE[reading])
+}
+
+/// A difference that one slip would make up for.
+fn narrow(reads: &[Read; 3]) -> String {
+    let unjudged = reads.iter().map(|read| read.unjudged).min().unwrap_or(0);
+    let cost = |read: &Read| read.wrong + 16 * read.slips + read.unjudged - unjudged;
+    let mut costs: Vec<u64> = reads.iter().map(cost).collect();
+    costs.sort_unstable();
+    match costs[1] - costs[0] {
+        0 => String::new(),
+        margin if margin <= 16 => {
+            format!(" That is a narrow difference: {margin}, where one slip counts 16.")
+        }
+        _ => String::new(),
+    }
+}
+
 /// What the readings of a tributary say.
-#[derive(Clone, Copy, PartialEq, Eq)]
+#[derive(Clone, Copy, Debug, PartialEq, Eq)]
 pub enum Verdict {
     Right,
     Late,
@@ -258,7 +741,9 @@ pub enum Verdict {
     LateOrEarly,
     Still,
     Alike,
-    Elsewhere,
+    Unlike,
+    NotThere,
+    Ones,
     Empty,
 }
 
@@ -273,87 +758,53 @@ impl Verdict {
             }
             Verdict::Still => "cannot be told, because its decision never changes",
             Verdict::Alike => {
-                "cannot be told from these digits, because more than one reading fits"
+                "cannot be told from these digits, because more than one reading needs as little"
             }
-            Verdict::Elsewhere => {
-                "no reading fits, and the fault is elsewhere (the clock slipped digits before the \
-                 multiplexer, or the line is worse than allowed)"
-            }
+            Verdict::Unlike => "none of the three readings is what was sent",
+            Verdict::NotThere => "the pattern is not there",
+            Verdict::Ones => "cannot be told, because the tributary is all ones",
             Verdict::Empty => "cannot be told, because there are no frames",
         }
     }
+}
 
-    /// As the table of a page has it.
-    pub fn short(self) -> &'static str {
-        match self {
-            Verdict::Right => "right",
-            Verdict::Late => "index late",
-            Verdict::Early => "index early",
-            Verdict::LateOrEarly => "index late or early",
-            Verdict::Elsewhere => "fault elsewhere",
-            Verdict::Still | Verdict::Alike | Verdict::Empty => "cannot be told",
-        }
+fn tributaries(numbers: &[String]) -> String {
+    let plural = if numbers.len() == 1 { "y" } else { "ies" };
+    format!("tributar{plural} {}", listed(numbers))
+}
+
+fn listed(items: &[String]) -> String {
+    match items {
+        [one] => one.clone(),
+        [first @ .., last] => format!("{} and {last}", first.join(", ")),
+        [] => String::new(),
     }
 }
 
-/// One reading of one tributary: its digits, the wrong ones, and where the first of these stands.
-pub struct Read {
-    pub digits: usize,
-    pub wrong: usize,
-    pub first: Option<(usize, usize)>,
+fn ratio(part: u64, all: u64) -> String {
+    format!("{:.2e}", part as f64 / all as f64)
 }
 
-impl Read {
-    fn new(row: &Row, line: &[u8], acts: &[(u8, u8)], sent: &Sent, j: usize) -> Read {
-        let digits = &read_by(row, line, acts)[j];
-        let all = sent.wrong(digits) as usize;
-        let first = if all == 0 { None } else { Some(first_wrong(sent, digits)) };
-        Read { digits: digits.len(), wrong: all, first: first.map(|i| place(row, acts, j, i)) }
-    }
-
-    fn said(&self, stages: u64) -> String {
-        match self.first {
-            None if stages == 0 => format!(", all {} digits are those sent", grouped(self.digits)),
-            None => format!(", all {} digits follow the pattern", grouped(self.digits)),
-            Some((frame, digit)) => format!(
-                ", {} of {} are wrong, from digit {digit} of frame {} on",
-                grouped(self.wrong),
-                grouped(self.digits),
-                grouped(frame)
-            ),
-        }
+fn one_in(part: u64, all: u64) -> String {
+    match (all + part / 2) / part {
+        0..=9 => format!("1 in {:.1}", all as f64 / part as f64),
+        many => format!("1 in {}", grouped(many as usize)),
     }
 }
 
-/// The number of the first wrong digit, by halving: the first so many digits have a wrong one or not.
-fn first_wrong(sent: &Sent, digits: &[u8]) -> usize {
-    let (mut right, mut end) = (0, digits.len());
-    while right + 1 < end {
-        let middle = (right + end) / 2;
-        if sent.wrong(&digits[..middle]) == 0 {
-            right = middle;
-        } else {
-            end = middle;
-        }
+/// The time of so many frames.
+pub fn time(row: &Row, frames: usize) -> String {
+    let ms = (frames * row.frame_digits) as f64 / line_rate(row) as f64;
+    if ms >= 60_000.0 {
+        return format!("{:.1} min", ms / 60_000.0);
     }
-    end - 1
-}
-
-/// In which frame digit i stands, and as which of its digits.
-fn place(row: &Row, acts: &[(u8, u8)], j: usize, i: usize) -> (usize, usize) {
-    let mut left = i;
-    for (frame, &(before, own)) in acts.iter().enumerate() {
-        let here = match frame::action(row, before, own, j) {
-            Action::Stuffed => row.tributary_digits - 1,
-            Action::Plain => row.tributary_digits,
-            Action::Negative => row.tributary_digits + 1,
-        };
-        if left < here {
-            return (frame, left);
-        }
-        left -= here;
+    if ms >= 1000.0 {
+        return format!("{:.3} s", ms / 1000.0);
     }
-    panic!("no such digit");
+    if ms >= 1.0 {
+        return format!("{ms:.2} ms");
+    }
+    format!("{ms:.3} ms")
 }
 
 /// A tributary's clock, by the digits of each frame.
@@ -382,8 +833,11 @@ impl Clock<'_> {
     /// The parts of the recording, each its first frame and the one after its last.
     fn parts(&self) -> Vec<(usize, usize)> {
         let frames = self.carried.len();
-        let each = 512 * ((frames + 32767) / 32768);
-        let count = frames / each.max(1);
+        let mut each = 512;
+        while frames / each > 64 {
+            each *= 2;
+        }
+        let count = frames / each;
         let ends = |i: usize| (i * each, if i + 1 == count { frames } else { (i + 1) * each });
         (0..count).map(ends).collect()
     }
@@ -486,13 +940,16 @@ fn of_level(row: &'static Row) -> Vec<Case> {
     let mut cases = Vec::new();
     let names = ["right", "late", "early"];
     for (name, reading) in names.into_iter().zip(READINGS) {
-        for frames in [1, 64, 65, 130] {
+        for frames in [1, 64, 130] {
             let trial = Trial::new(row, frames, reading, 0, seed + frames as u64);
             cases.push(trial.judged(&format!("{name}-{frames}-frames")));
         }
         let stages = if row.level % 2 == 0 { 15 } else { 23 };
         let trial = Trial::new(row, 70, reading, stages, seed);
         cases.push(trial.judged(&format!("{name}-pattern-{stages}")));
+        let mut worn = Trial::new(row, 100, reading, 0, seed + 20);
+        worn.line = spoilt(&worn.line, 1000, seed);
+        cases.push(worn.judged(&format!("{name}-1-in-1000-wrong")));
     }
     cases.push(Trial::new(row, 3, Reading::Before, 23, seed + 1).judged("late-pattern-23"));
     cases.push(Trial::new(row, 0, Reading::Own, 0, seed).judged("no-frames"));
@@ -504,6 +961,7 @@ fn of_level(row: &'static Row) -> Vec<Case> {
     random.line = Random::new(seed).bytes(random.line.len());
     cases.push(random.judged("random"));
     cases.push(slipped(row, seed).judged("slipped"));
+    cases.push(wrong_vote(row, seed).judged("wrong-vote"));
     cases.push(alternating(row, Reading::Before, seed).judged("late-alternating"));
     cases.push(alternating(row, Reading::After, seed).judged("early-alternating"));
     let mut ones = Trial::new(row, 66, Reading::Own, 15, seed + 8);
@@ -514,6 +972,18 @@ fn of_level(row: &'static Row) -> Vec<Case> {
         cases.push(Trial::new(row, 1, Reading::Before, 15, seed + 5).after(15).judged("late-vote"));
     }
     cases
+}
+
+/// A line in which one digit in so many is wrong.
+fn spoilt(line: &[u8], one_in: usize, seed: u64) -> Vec<u8> {
+    let mut random = Random::new(seed);
+    let mut digits = unpack(line, 8 * line.len());
+    for digit in &mut digits {
+        if random.index(one_in) == 0 {
+            *digit ^= 1;
+        }
+    }
+    pack(&digits)
 }
 
 /// Decisions that change in every frame: before and after are then alike.
@@ -536,10 +1006,177 @@ fn slipped(row: &'static Row, seed: u64) -> Trial {
     let mut trial = Trial::new(row, 66, Reading::Own, 0, seed + 6);
     let quarter = trial.buffer.len() / 4;
     let mut digits = unpack(&trial.buffer[quarter..2 * quarter], 8 * quarter);
-    digits.remove(3000);
-    digits.push(0);
-    trial.buffer[quarter..2 * quarter].copy_from_slice(&reference::digits::pack(&digits));
+    let doubled = digits[3000];
+    digits.insert(3000, doubled ^ 1);
+    digits.pop();
+    trial.buffer[quarter..2 * quarter].copy_from_slice(&pack(&digits));
     trial
+}
+
+/// Most control digits of tributary 3 are wrong in frame 20, but not all.
+fn wrong_vote(row: &'static Row, seed: u64) -> Trial {
+    let mut trial = Trial::new(row, 66, Reading::Own, 0, seed + 30);
+    let places = frame::layout(row).into_iter().enumerate();
+    let group: Vec<usize> =
+        places.filter(|(_, place)| *place == Place::Control(2)).map(|(k, _)| k).collect();
+    let mut digits = unpack(&trial.line, 8 * trial.line.len());
+    for k in &group[1..] {
+        digits[20 * row.frame_digits + k] ^= 1;
+    }
+    trial.line = pack(&digits);
+    trial
+}
+
+/// Lines of 5,000 frames, too long for all lanes of this package: what is known of them is known by how
+/// they were made. In each only ordinary digits of the tributaries are wrong, and far from each other.
+fn long(row: &'static Row) -> Vec<Case> {
+    let seed = 600 + row.level;
+    let frames = 5000;
+    let names = [("right", Reading::Own), ("late", Reading::Before), ("early", Reading::After)];
+    let mut cases = Vec::new();
+    for (name, reading) in names {
+        let trial = Trial::new(row, frames, reading, 0, seed);
+        let (line, wrong) = worn(row, &trial.line, seed);
+        let head = match reading {
+            Reading::Own => {
+                "the multiplexer acts in its own frame: read by the decision of its own frame"
+            }
+            Reading::Before => "the frame index is late: read by the decision of the frame before",
+            Reading::After => "the frame index is early: read by the decision of the frame after",
+        };
+        let said = |j: usize| {
+            let wrong = grouped(wrong[j]);
+            format!("^tributary {}: {head}, {wrong} of [0-9,]+ digits are wrong .* no slip;", j + 1)
+        };
+        let trial = Trial { line, ..trial };
+        let command = words(&format!("judge -l {} line sent", row.level));
+        let all = grouped(wrong.iter().sum());
+        let last =
+            format!("^(The frame index|Neither): .* {all} of [0-9,]+ digits came wrong, 1 in ");
+        let case = trial.case(&format!("{name}-5000-frames"));
+        cases.push(case.like(command, 0, &[said(1), said(2), said(3)], &last));
+    }
+    cases.push(long_slipped(row, seed));
+    cases
+}
+
+/// The line with a wrong digit of tributaries 2, 3 and 4 in about every third frame, and how many each has.
+fn worn(row: &Row, line: &[u8], seed: u64) -> (Vec<u8>, [usize; 4]) {
+    let mut random = Random::new(seed);
+    let mut digits = unpack(line, 8 * line.len());
+    let mut wrong = [0; 4];
+    let layout = frame::layout(row);
+    for frame in digits.chunks_mut(row.frame_digits) {
+        for j in 1..4 {
+            // Of the first set, where no decision moves anything.
+            let place = 40 + 4 * random.index(20) + j;
+            if random.index(3) == 0 && layout[place] == Place::Tributary(j) {
+                frame[place] ^= 1;
+                wrong[j] += 1;
+            }
+        }
+    }
+    (pack(&digits), wrong)
+}
+
+/// A late multiplexer, and a tributary that lost a digit before it after half of the recording.
+fn long_slipped(row: &'static Row, seed: u64) -> Case {
+    let mut trial = Trial::new(row, 5000, Reading::Before, 0, seed + 1);
+    let quarter = trial.buffer.len() / 4;
+    let at = 2500 * row.tributary_digits + 7;
+    let mut digits = unpack(&trial.buffer[3 * quarter..], 8 * quarter);
+    let digit = digits[at];
+    digits.insert(at, digit ^ 1);
+    digits.pop();
+    trial.buffer[3 * quarter..].copy_from_slice(&pack(&digits));
+    let said = format!(
+        "^tributary 4: the frame index is late, and the clock slipped: .* none of [0-9,]+ digits is wrong \
+         and there is 1 slip, a digit lost at digit {}, frame 250[0-9],",
+        grouped(at)
+    )
+    .replace("frame 250", "frame 2,50");
+    let command = words(&format!("judge -l {} line sent", row.level));
+    let last =
+        "^The frame index: the multiplexer acts a frame late\\. Tributary 4 slipped besides\\. ";
+    trial.case("slipped-5000-frames").like(command, 0, &[said], last)
+}
+
+/// Recordings begun anywhere: noise before them, the first frame cut, and where there are two stretches, a
+/// gap. Where each begins in what was sent is found.
+fn found(row: &'static Row) -> Vec<Case> {
+    let seed = 500 + row.level;
+    let trial = Trial::new(row, 60, Reading::Before, 0, seed);
+    let bytes = row.frame_bytes();
+    let noise = Random::new(seed + 1).bytes(bytes / 2);
+    let cut = 33;
+    let mut recording = [&noise[..], &trial.line[cut..]].concat();
+    let command = words(&format!("judge -l {} recording sent --find", row.level));
+    let case = |name: &str, recording: &[u8]| {
+        Case::new(&format!("judge-{}-{name}", row.level))
+            .file("recording", recording)
+            .file("sent", &trial.buffer)
+    };
+    let late = "The frame index: the multiplexer acts a frame late\\.";
+    let stretch =
+        "^stretch of [0-9]+ frames from digit [0-9,]+, .* where 0 of [0-9,]+ differ \\(0\\): ";
+    let one = case("found", &recording).like(
+        command.clone(),
+        0,
+        &[stretch.into(), "^tributary 2: the frame index is late: .*, all ".into()],
+        &format!("^{late} None of "),
+    );
+    // Ones in place of six frames: their words are wrong, and alignment is lost.
+    let gap = noise.len() + 30 * bytes - cut;
+    recording[gap..gap + 6 * bytes].fill(0xFF);
+    let two = case("found-with-a-gap", &recording).like(
+        command,
+        0,
+        &["^gap of [0-9,]+ digits$".into(), stretch.into()],
+        &format!("^{late} "),
+    );
+    let none = Case::new(&format!("judge-{}-none-found", row.level))
+        .file("recording", &vec![0; 10 * bytes])
+        .file("sent", &trial.buffer)
+        .like(
+            words(&format!("judge -l {} recording sent --find", row.level)),
+            0,
+            &["^no frame found in [0-9,]+ digits\\.$".into()],
+            "^Cannot be told from this recording\\.",
+        );
+    vec![one, two, none]
+}
+
+/// Patterns that are not those asked for, and why, where it can be told.
+fn patterns() -> Vec<Case> {
+    let mut cases = Vec::new();
+    for (number, stages, other) in [(2, 15, 23), (4, 23, 15), (12, 15, 23)] {
+        let mut trial = Trial::new(level(number), 20, Reading::Own, stages, 840 + number);
+        trial.stages = other;
+        cases.push(trial.judged(&format!("pattern-{stages}-for-{other}")));
+        let zeros = [0, 1, 2, 3].map(|_| vec![0; 20 * trial.row.most_digits()]);
+        trial.line = line_of(trial.row, 0, &notes(trial.row, 20, 9), &zeros, Reading::Own, 0);
+        cases.push(trial.judged(&format!("zeros-for-pattern-{other}")));
+        let noise = sent_digits(trial.row, 20, 0, 77);
+        trial.line = line_of(trial.row, 0, &notes(trial.row, 20, 9), &noise, Reading::Own, 0);
+        cases.push(trial.judged(&format!("noise-for-pattern-{other}")));
+    }
+    cases
+}
+
+/// `--check`: status 1 where the index is off, a clock slipped or nothing was found; else 0.
+fn checked() -> Vec<Case> {
+    let row = level(2);
+    let command = || words("judge -l 2 line sent --check");
+    let right = Trial::new(row, 66, Reading::Own, 0, 850);
+    let late = Trial::new(row, 66, Reading::Before, 0, 851);
+    let slipped = slipped(row, 852);
+    let voted = wrong_vote(row, 853);
+    vec![
+        right.case("checked-right").accepted(command(), &right.text()),
+        voted.case("checked-wrong-vote").accepted(command(), &voted.text()),
+        late.case("checked-late").checked(command(), &late.text()),
+        slipped.case("checked-slipped").checked(command(), &slipped.text()),
+    ]
 }
 
 /// Recordings long enough for their clocks, with tributaries that are slow, fast and drift.
@@ -585,14 +1222,11 @@ fn demo() -> Case {
     let notes = [0x25, 0x23, 0x2D, 0x2B].repeat(2);
     let line = line_of(row, 0, &notes, &sent, Reading::Before, 11);
     let trial = Trial { row, level: "2".into(), earlier: 0, line, buffer, stages: 0 };
+    let told = trial.told();
     let said = |j: usize| {
-        let [own, before, after] = trial.readings(j).map(|read| read.wrong);
-        format!(
-            "^tributary {}: {}: {own} digits wrong by its own frame, {before} by the frame before, \
-             {after} by the frame after\\.$",
-            j + 1,
-            trial.verdict(j).head()
-        )
+        let sentence = trial.sentence(&told, j);
+        let sentence = sentence.replace('.', "\\.").replace('(', "\\(").replace(')', "\\)");
+        format!("^tributary {}: {sentence}$", j + 1)
     };
     let said = [0, 1, 2, 3].map(said);
     Case::new("demo-ends-with-the-verdict").like(words("demo"), 0, &said, &said[3])
@@ -606,7 +1240,7 @@ pub fn captured(trial: &Trial) -> Vec<u8> {
     file
 }
 
-/// Captures, with a vote in the level's place and without one.
+/// Captures, with a vote before them and without one.
 fn of_captures() -> Vec<Case> {
     let mut cases = Vec::new();
     for (number, stages, vote, earlier) in [
@@ -614,7 +1248,7 @@ fn of_captures() -> Vec<Case> {
         (4, 15, "", 0),
         (12, 23, "", 0),
         (12, 0, ":5", 5),
-        (12, 15, ":0F", 15),
+        (12, 15, ":F", 15),
         (14, 0, ":a", 10),
         // Levels 2 to 4 do not look at the vote.
         (3, 0, ":ff", 0),
@@ -628,8 +1262,9 @@ fn of_captures() -> Vec<Case> {
             if stages == 0 {
                 case = case.file("sent", &trial.buffer);
             }
-            let command = words(&format!("judge {vote} capture {}", trial.sent()));
-            cases.push(case.accepted(command, &trial.text()));
+            let command = words(&format!("judge {} capture {}", at(vote), trial.sent()));
+            let text = format!("label: \"site 7\"\n{}", trial.text());
+            cases.push(case.accepted(command, &text));
         }
     }
     cases.extend(refused_captures());
@@ -648,22 +1283,23 @@ fn refused_captures() -> Vec<Case> {
     vec![
         given("none", &none).fails(judge("capture sent"), &no_capture("capture", &none)),
         given("none-and-no-vote", &none)
-            .fails(judge(":10 capture sent"), &no_capture("capture", &none)),
+            .fails(judge("--earlier 10 capture sent"), &no_capture("capture", &none)),
         given("none-and-no-pattern", &none)
-            .fails(judge(":5 capture pattern-7"), &no_pattern("pattern-7")),
-        given("no-vote", &good).fails(judge(":10 capture sent"), &no_vote(":10")),
-        given("no-vote-nothing-sent", &good).fails(judge(":ff capture none"), &no_vote(":ff")),
-        given("no-level", &good).fails(judge(":x capture sent"), &no_level(":x")),
+            .fails(judge("--earlier 5 capture --pattern 7"), &no_pattern("7")),
+        given("no-vote", &good).fails(judge("--earlier 16 capture sent"), &no_vote("16")),
+        given("no-vote-nothing-sent", &good)
+            .fails(judge("--earlier ff capture none"), &no_vote("ff")),
         given("after-a-vote-no-room", &good)
-            .fails(judge(":5 capture sent"), &no_room(level(14), "sent", 3, 2)),
+            .fails(judge("--earlier 5 capture sent"), &no_room(level(14), "sent", 3, 2)),
+        given("found", &good).fails(
+            judge("capture sent --find"),
+            "wrong call: --find wants --level: a recording does not say its own.",
+        ),
     ]
 }
 
 fn no_pattern(word: &str) -> String {
-    format!(
-        "refused 13: no pattern {word}; a pattern is pattern-15 or pattern-23, and any other word \
-         names the file of the digits sent."
-    )
+    format!("refused 13: no pattern {word}; --pattern is 15 or 23.")
 }
 
 fn refused() -> Vec<Case> {
@@ -673,24 +1309,27 @@ fn refused() -> Vec<Case> {
     };
     let judge = |rest: &str| words(&format!("judge {rest}"));
     vec![
-        given("judge-no-level", 106, 104).fails(judge("5 line sent"), &no_level("5")),
-        given("judge-no-level-no-pattern", 1, 0).fails(judge("5 line pattern-9"), &no_level("5")),
-        given("judge-no-pattern", 1, 0).fails(judge("2 line pattern-9"), &no_pattern("pattern-9")),
+        given("judge-no-level", 106, 104).fails(judge("-l 5 line sent"), &no_level("5")),
+        given("judge-no-level-no-pattern", 1, 0)
+            .fails(judge("-l 5 line --pattern 9"), &no_level("5")),
+        given("judge-no-pattern", 1, 0).fails(judge("-l 2 line --pattern 9"), &no_pattern("9")),
         given("judge-no-pattern-no-vote", 1, 0)
-            .fails(judge("12:10 line pattern-"), &no_pattern("pattern-")),
-        given("judge-no-vote", 1, 0).fails(judge("12:10 line sent"), &no_vote("12:10")),
+            .fails(judge("-l 12 --earlier 16 line --pattern 0"), &no_pattern("0")),
+        given("judge-no-vote", 1, 0).fails(judge("-l 12 --earlier 16 line sent"), &no_vote("16")),
         given("judge-no-whole-frames", 107, 3)
-            .fails(judge("2 line sent"), &no_whole_frames(row, "line", 107)),
+            .fails(judge("-l 2 line sent"), &no_whole_frames(row, "line", 107)),
         given("judge-no-room", 212, 4 * 51)
-            .fails(judge("2 line sent"), &no_room(row, "sent", 4 * 51, 2)),
+            .fails(judge("-l 2 line sent"), &no_room(row, "sent", 4 * 51, 2)),
         given("judge-no-quarters", 106, 105)
-            .fails(judge("2 line sent"), &no_room(row, "sent", 105, 1)),
-        Case::new("judge-no-line").fails(judge("2 line sent"), &cannot("line", "opened")),
+            .fails(judge("-l 2 line sent"), &no_room(row, "sent", 105, 1)),
+        given("judge-find-no-quarters", 106, 105)
+            .fails(judge("-l 2 line sent --find"), &no_room(row, "sent", 105, 0)),
+        Case::new("judge-no-line").fails(judge("-l 2 line sent"), &cannot("line", "opened")),
         Case::new("judge-no-sent")
             .file("line", &[0; 106])
-            .fails(judge("2 line sent"), &cannot("sent", "opened")),
+            .fails(judge("-l 2 line sent"), &cannot("sent", "opened")),
         Case::new("judge-line-is-a-folder")
             .folder("line")
-            .fails(judge("2 line pattern-15"), &cannot("line", "read")),
+            .fails(judge("-l 2 line --pattern 15"), &cannot("line", "read")),
     ]
 }

@@ -31,8 +31,8 @@ pub fn frames(row: &Row, frames: usize) -> Vec<u8> {
 
 /// The command, with the label as one word.
 fn command(level: impl ToString, label: Option<&str>) -> Vec<String> {
-    let mut command = words(&format!("keep {} line capture", level.to_string()));
-    command.extend(label.map(String::from));
+    let mut command = words(&format!("keep -l {} line capture", level.to_string()));
+    command.extend(label.map(|label| format!("--label={label}")));
     command
 }
 
@@ -85,7 +85,7 @@ fn wrong_labels() -> Vec<Case> {
             .fails(command(2, Some(label)), &long_label("capture", bytes))
     };
     let long = "x".repeat(33);
-    let nowhere = [words("keep 2 line none/capture"), vec![long.clone()]].concat();
+    let nowhere = [words("keep -l 2 line none/capture"), vec![format!("--label={long}")]].concat();
     vec![
         refused("of-33-bytes", &long, 33),
         refused("of-17-letters", &"\u{E9}".repeat(17), 34),
@@ -108,7 +108,9 @@ fn wrong_levels() -> Vec<Case> {
     };
     let mut cases: Vec<Case> = ["0", "5", "02"].into_iter().map(refused).collect();
     // Refusal 1 comes before all others.
-    let all_wrong = [words("keep 5 line none/capture"), vec!["x".repeat(33)]].concat();
+    let all_wrong =
+        [words("keep -l 5 line none/capture"), vec![format!("--label={}", "x".repeat(33))]]
+            .concat();
     let case = Case::new("keep-no-level-all-wrong").file("line", &[0; 105]);
     cases.push(case.fails(all_wrong.clone(), &no_level("5")));
     cases.push(Case::new("keep-no-level-no-file").fails(all_wrong, &no_level("5")));
@@ -118,7 +120,7 @@ fn wrong_levels() -> Vec<Case> {
 fn wrong_files() -> Vec<Case> {
     let fails = |case: Case, path, be| case.fails(command(2, None), &cannot(path, be));
     let given = |name| Case::new(name).file("line", &[0; 106]);
-    let nowhere = words("keep 2 line none/capture");
+    let nowhere = words("keep -l 2 line none/capture");
     [
         fails(Case::new("keep-no-line"), "line", "opened").twice(&["capture"]),
         fails(Case::new("keep-line-is-a-folder").folder("line"), "line", "read")

@@ -1,5 +1,5 @@
-//! `command_cases DIR` writes into DIR the cases on which the commands of the program are
-//! tried. What the program must print and write is worked out by this package alone.
+//! `command_cases DIR` writes into DIR the cases on which the commands of the program are tried. What the
+//! program must print and write is worked out by this package alone.
 //!
 //! A case is a folder, and the file `list` in DIR names every one of them, a line each:
 //!
@@ -8,15 +8,19 @@
 //! - `given`: the folder in which the commands are run, as it is before;
 //! - `after`: the same folder as it must be afterwards, with nothing more in it;
 //! - `expected.status`: the exit status of each command, a line each;
-//! - `expected.stdout`: all that the commands must print, one after the other. Where the
-//!   words are left to the program, there are instead `expected.has`, patterns each of
-//!   which some line must match, and `expected.last`, the pattern of the last line;
+//! - `expected.stdout` and `expected.stderr`: all that the commands must print, one after the
+//!   other. Where the words are left to the program, there are instead `expected.has`, patterns
+//!   each of which some line must match, and `expected.last`, the pattern of the last line; of
+//!   standard output where the status is 0, else of standard error;
 //! - `expected.svg`, where a picture is made: its name. Its bytes are left to the program;
 //! - `expected.page`, where a page is made: its name; then how many elements of a name or of
 //!   a class it has, as `8 svg`, six lines; then texts that stand in it, a line each.
 //!
 //! `case` writes such a folder. `inputs` and `stream` make what is read, `worked` says
 //! what comes of it and `texts` in which words. The others list the cases.
+
+// Tributaries are numbered, and what is theirs stands in arrays by that number.
+#![allow(clippy::needless_range_loop)]
 
 mod approving;
 mod calling;

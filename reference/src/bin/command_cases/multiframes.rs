@@ -1,7 +1,7 @@
 //! Cases of build, apart and multiframe: files of whole multiframes, both ways, and the picture.
 
 use crate::case::{in_turn, words, Case, OLD};
-use crate::texts::{cannot, written};
+use crate::texts::{cannot, time, written, written_over};
 use reference::random::Random;
 use reference::{build_multiframe, take_multiframe_apart};
 
@@ -95,10 +95,10 @@ fn built() -> Vec<Case> {
         builds("all-ones", &any),
         builds("second-channels-silent", &quiet),
         builds("over-an-older-file", &parts(3, 204)).had("multiframes", OLD),
-        // The output takes the name of an input, which is read whole before.
-        given("build-over-an-input", &over)
-            .accepted(words("build channels signalling spare spare"), &build_text(2, "spare"))
-            .makes("spare", &build(&over)),
+        given("build-over-an-input", &over).fails(
+            words("build channels signalling spare spare"),
+            &written_over("MULTIFRAMES", "spare", "SPARE"),
+        ),
     ]
 }
 
@@ -110,27 +110,39 @@ fn takes_apart(name: &str, multiframes: &[u8]) -> Case {
     INPUTS.iter().zip(&made).fold(case, |case, (path, bytes)| case.makes(path, bytes))
 }
 
+/// Multiframes found in a recording that begins 203 bytes late, with noise before it.
+fn found() -> Case {
+    let made = build(&parts(6, 216));
+    let recording = [&[0xFF; 5][..], &made[203..]].concat();
+    let made = apart(&made[512..]);
+    // Five multiframes are whole; the first begins behind the noise and what is left of the first.
+    let digit = 8 * (5 + 512 - 203);
+    let text = format!(
+        "5 multiframes from digit {digit} of the recording on ({})\n5 multiframes taken apart.\n",
+        time(2048, digit)
+    );
+    let case = Case::new("apart-found-in-a-recording").file("recording", &recording).accepted(
+        words("apart --find recording channels signalling spare"),
+        &(text + &written(&INPUTS)),
+    );
+    INPUTS.iter().zip(&made).fold(case, |case, (path, bytes)| case.makes(path, bytes))
+}
+
 /// Fixed digits are not looked at, so that any bytes can be taken apart.
 fn taken_apart() -> Vec<Case> {
     let older = takes_apart("over-older-files", &Random::new(213).bytes(2 * WHOLE));
     let bytes = Random::new(214).bytes(2 * WHOLE);
-    let over = apart(&bytes);
     vec![
         takes_apart("built", &build(&parts(5, 210))),
+        found(),
         takes_apart("random", &Random::new(211).bytes(140 * WHOLE)),
         takes_apart("none", &[]),
         takes_apart("zeros", &[0; WHOLE]),
         INPUTS.iter().fold(older, |case, path| case.had(path, OLD)),
-        Case::new("apart-over-its-input")
-            .had("multiframes", &bytes)
-            .accepted(
-                words("apart multiframes multiframes signalling spare"),
-                &("2 multiframes taken apart.\n".to_string()
-                    + &written(&["multiframes", "signalling", "spare"])),
-            )
-            .makes("multiframes", &over[0])
-            .makes("signalling", &over[1])
-            .makes("spare", &over[2]),
+        Case::new("apart-over-its-input").file("multiframes", &bytes).fails(
+            words("apart multiframes multiframes signalling spare"),
+            &written_over("CHANNELS", "multiframes", "MULTIFRAMES"),
+        ),
     ]
 }
 
@@ -280,9 +292,9 @@ fn wrong_outputs() -> Vec<Case> {
 }
 
 fn pictures() -> Vec<Case> {
-    let nowhere = words("multiframe none/picture.svg");
+    let nowhere = words("multiframe --svg none/picture.svg");
     let draws = |name| {
-        let command = words("multiframe picture.svg");
+        let command = words("multiframe --svg picture.svg");
         let text = picture() + &written(&["picture.svg"]);
         Case::new(name).accepted(command, &text).draws("picture.svg")
     };

@@ -15,7 +15,7 @@ pub fn cases() -> Vec<Case> {
 fn reads(name: &str, row: &Row, line: &[u8]) -> Vec<Case> {
     let text = texts::noted(row, line);
     let case = |more| Case::new(&format!("notes-{}-{name}{more}", row.level)).file("line", line);
-    let command = |more| words(&format!("notes {} line{more}", row.level));
+    let command = |more| words(&format!("notes -l {} line{more}", row.level));
     vec![
         case("").accepted(command(""), &text),
         case("-to-a-file")
@@ -44,7 +44,7 @@ fn read() -> Vec<Case> {
 }
 
 fn command(row: &Row) -> Vec<String> {
-    words(&format!("extract {} line notes tributaries", row.level))
+    words(&format!("extract -l {} line notes tributaries", row.level))
 }
 
 /// A line extracted by these notes.
@@ -94,14 +94,15 @@ fn shifted() -> Vec<Case> {
 fn unread() -> Vec<Case> {
     let row = level(2);
     let given = |name: &str| Case::new(name).file("line", &line(row, &[0x3F, 0], 180));
-    let plain = words("notes 2 line");
-    let to_a_file = words("notes 2 line notes");
+    let plain = words("notes -l 2 line");
+    let to_a_file = words("notes -l 2 line notes");
     let uneven = Case::new("notes-2-107-bytes").file("line", &[0; 107]);
     let uneven = uneven.fails(to_a_file.clone(), &no_whole_frames(row, "line", 107));
     let missing = Case::new("notes-no-line").fails(plain, &cannot("line", "opened"));
-    let wrong = given("notes-no-level").fails(words("notes 5 line notes"), &no_level("5"));
+    let wrong = given("notes-no-level").fails(words("notes -l 5 line notes"), &no_level("5"));
     let nowhere = given("notes-in-no-folder");
-    let nowhere = nowhere.fails(words("notes 2 line none/notes"), &cannot("none/notes", "written"));
+    let nowhere =
+        nowhere.fails(words("notes -l 2 line none/notes"), &cannot("none/notes", "written"));
     let folder = given("notes-are-a-folder").folder("notes");
     let folder = folder.fails(to_a_file, &cannot("notes", "written"));
     [uneven.twice(&["notes"]), wrong.twice(&["notes"]), vec![missing, nowhere, folder]].concat()
@@ -134,7 +135,7 @@ fn unextracted() -> Vec<Case> {
     let no_line = Case::new("extract-no-line").file("notes", &[0]);
     cases.push(no_line.fails(command(row), &cannot("line", "opened")));
     let wrong = given("extract-no-level", &[0, 0]);
-    cases.push(wrong.fails(words("extract 5 line notes tributaries"), &no_level("5")));
+    cases.push(wrong.fails(words("extract -l 5 line notes tributaries"), &no_level("5")));
     let folder = given("extract-tributaries-are-a-folder", &[0, 0]).folder("tributaries");
     cases.push(folder.fails(command(row), &cannot("tributaries", "written")));
     cases

@@ -2,7 +2,7 @@
 //! picture in a file. The text is made of the list of all places of a frame, and of the
 //! digits that a frame of that note has.
 
-use crate::case::{words, Case, OLD};
+use crate::case::{at, words, Case, OLD};
 use crate::inputs::{level, levels};
 use crate::texts;
 use crate::worked::NONE_BEFORE;
@@ -27,24 +27,22 @@ const DRAWN: [&str; 8] = ["2", "2 2A", "3 35", "4 e3", "12", "14", "12:3 05", "1
 pub fn cases() -> Vec<Case> {
     let mut cases = Vec::new();
     for row in levels() {
-        let command = format!("frame {}", row.level);
-        cases.push(
-            Case::new(&command.replace(' ', "-"))
-                .accepted(words(&command), &picture(row, NONE_BEFORE, None)),
-        );
+        let command = words(&format!("frame -l {}", row.level));
+        let text = picture(row, NONE_BEFORE, None);
+        cases.push(Case::new(&format!("frame-{}", row.level)).accepted(command, &text));
     }
     for (number, note) in NOTED {
-        let command = format!("frame {number} {note}");
+        let command = words(&format!("frame -l {number} --note {note}"));
         let value = u8::from_str_radix(note, 16).expect("two hexadecimal digits");
         let text = picture(level(number), NONE_BEFORE, Some(value));
-        cases.push(Case::new(&command.replace(' ', "-")).accepted(words(&command), &text));
+        cases.push(Case::new(&format!("frame-{number}-{note}")).accepted(command, &text));
     }
     for (number, vote, note) in VOTED {
-        let command = format!("frame {number}:{vote} {note}");
+        let command = words(&format!("frame -l {number} --earlier {vote} --note {note}"));
         let value = |word| u8::from_str_radix(word, 16).expect("hexadecimal digits");
         let text = picture(level(number), value(vote), Some(value(note)));
-        let name = command.replace(' ', "-").replace(':', "-after-");
-        cases.push(Case::new(&name).accepted(words(&command), &text));
+        let name = format!("frame-{number}-after-{vote}-{note}");
+        cases.push(Case::new(&name).accepted(command, &text));
     }
     for drawn in DRAWN {
         cases.push(draws(&format!("frame-{}-svg", drawn.replace([' ', ':'], "-")), drawn));
@@ -55,37 +53,66 @@ pub fn cases() -> Vec<Case> {
 }
 
 fn draws(name: &str, drawn: &str) -> Case {
-    let command = words(&format!("frame {drawn} picture.svg"));
+    let (of, note) = drawn.split_once(' ').unwrap_or((drawn, ""));
+    let note = if note.is_empty() { String::new() } else { format!("--note {note}") };
+    let command = words(&format!("frame {} {note} --svg picture.svg", at(of)));
     Case::new(name).like(command, 0, &[], r"^written: picture\.svg$").draws("picture.svg")
 }
 
 fn failing() -> Vec<Case> {
     let mut cases = vec![
-        Case::new("frame-no-level").fails(words("frame 5"), &texts::no_level("5")),
-        Case::new("frame-no-level-with-a-note").fails(words("frame 1 3F"), &texts::no_level("1")),
+        Case::new("frame-no-level").fails(words("frame -l 5"), &texts::no_level("5")),
+        Case::new("frame-no-level-with-a-note")
+            .fails(words("frame -l 1 --note 3F"), &texts::no_level("1")),
         // The words of this refusal are left to the program: no file is named here.
-        Case::new("frame-2-no-such-digit").like(words("frame 2 40"), 1, &[], "^refused 5: "),
-        Case::new("frame-3-no-such-digit").like(words("frame 3 80"), 1, &[], "^refused 5: "),
-        Case::new("frame-2-national").like(words("frame 2 1F"), 1, &[], "^refused 10: "),
-        Case::new("frame-3-national").like(words("frame 3 00"), 1, &[], "^refused 10: "),
-        Case::new("frame-4-national").like(words("frame 4 BF"), 1, &[], "^refused 10: "),
-        Case::new("frame-12-no-such-bit").like(words("frame 12 10"), 1, &[], "^refused 5: "),
-        Case::new("frame-14-no-such-bit").like(words("frame 14 80"), 1, &[], "^refused 5: "),
-        Case::new("frame-14-no-such-vote").fails(words("frame 14:10 00"), &texts::no_vote("14:10")),
+        Case::new("frame-2-no-such-digit").like(
+            words("frame -l 2 --note 40"),
+            1,
+            &[],
+            "^refused 5: ",
+        ),
+        Case::new("frame-3-no-such-digit").like(
+            words("frame -l 3 --note 80"),
+            1,
+            &[],
+            "^refused 5: ",
+        ),
+        Case::new("frame-2-national").like(words("frame -l 2 --note 1F"), 1, &[], "^refused 10: "),
+        Case::new("frame-3-national").like(words("frame -l 3 --note 00"), 1, &[], "^refused 10: "),
+        Case::new("frame-4-national").like(words("frame -l 4 --note BF"), 1, &[], "^refused 10: "),
+        Case::new("frame-12-no-such-bit").like(
+            words("frame -l 12 --note 10"),
+            1,
+            &[],
+            "^refused 5: ",
+        ),
+        Case::new("frame-14-no-such-bit").like(
+            words("frame -l 14 --note 80"),
+            1,
+            &[],
+            "^refused 5: ",
+        ),
+        Case::new("frame-14-no-such-vote")
+            .fails(words("frame -l 14 --earlier 16 --note 00"), &texts::no_vote("16")),
         Case::new("frame-svg-in-no-folder").fails(
-            words("frame 2 none/picture.svg"),
+            words("frame -l 2 --svg none/picture.svg"),
             &texts::cannot("none/picture.svg", "written"),
         ),
         Case::new("frame-svg-is-a-folder")
             .folder("picture.svg")
-            .fails(words("frame 3 picture.svg"), &texts::cannot("picture.svg", "written")),
+            .fails(words("frame -l 3 --svg picture.svg"), &texts::cannot("picture.svg", "written")),
     ];
     let svg = ["picture.svg"];
     let no_level = Case::new("frame-svg-no-level");
-    cases.extend(no_level.fails(words("frame 6 picture.svg"), &texts::no_level("6")).twice(&svg));
+    cases.extend(
+        no_level.fails(words("frame -l 6 --svg picture.svg"), &texts::no_level("6")).twice(&svg),
+    );
     let no_digit = Case::new("frame-svg-no-such-digit");
-    cases
-        .extend(no_digit.like(words("frame 3 C1 picture.svg"), 1, &[], "^refused 5: ").twice(&svg));
+    cases.extend(
+        no_digit
+            .like(words("frame -l 3 --note C1 --svg picture.svg"), 1, &[], "^refused 5: ")
+            .twice(&svg),
+    );
     cases
 }
 

@@ -3,11 +3,13 @@
 //! counted: no repair is asked for that. Of a random line the separate program says both, frame
 //! by frame.
 
-use crate::case::{in_turn, words, Case, OLD};
+use crate::case::{at, in_turn, words, Case, OLD};
 use crate::inputs::{level, levels, notes, tributaries_after};
 use crate::keeping::{capture, frames};
 use crate::showing::no_captures;
-use crate::texts::{self, cannot, no_capture, no_level, no_vote, no_whole_frames, written};
+use crate::texts::{
+    self, cannot, no_capture, no_level, no_vote, no_whole_frames, written, written_over, REPAIRED,
+};
 use crate::worked;
 use reference::digits::{pack, unpack};
 use reference::frame::{self, layout, Place};
@@ -95,10 +97,10 @@ impl Worn {
         Worn { row, line, new, changed, national }
     }
 
-    /// The command's name.
+    /// The command's name and its option.
     fn command(&self) -> &'static str {
         if self.national {
-            "repair-national"
+            "repair --national"
         } else {
             "repair"
         }
@@ -114,11 +116,12 @@ impl Worn {
     fn of_line(&self, name: &str, vote: &str) -> Case {
         let word = format!("{}{vote}", self.row.level);
         let command = self.command();
-        Case::new(&format!("{command}-{}-{name}", word.replace(':', "-after-")))
+        let case = command.replace(' ', "-");
+        Case::new(&format!("{case}-{}-{name}", word.replace(':', "-after-")))
             .file("line", &self.line)
             .had("new", OLD)
             .accepted(
-                words(&format!("{command} {word} line new")),
+                words(&format!("{command} {} line new", at(&word))),
                 &(self.text() + &written(&OUTPUT)),
             )
             .makes("new", &self.new)
@@ -129,18 +132,25 @@ impl Worn {
             texts::capture(self.row, &self.line, label) + &table(&self.changed, self.national);
         let command = self.command();
         let vote_name = vote.replace(':', "-after-");
-        Case::new(&format!("{command}-capture-{}{vote_name}-{name}", self.row.level))
+        let case = command.replace(' ', "-");
+        Case::new(&format!("{case}-capture-{}{vote_name}-{name}", self.row.level))
             .file("capture", &capture(self.row, &self.line, label))
-            .accepted(words(&format!("{command} {vote} capture new")), &(said + &written(&OUTPUT)))
+            .accepted(
+                words(&format!("{command} {} capture new", at(vote))),
+                &(said + &written(&OUTPUT)),
+            )
             .makes("new", &capture(self.row, &self.new, label))
     }
 
     /// What was repaired is repaired again: nothing is changed, and nothing counted.
     fn again(&self, case: Case, label: Option<&[u8]>, vote: &str) -> Case {
-        let said = texts::capture(self.row, &self.new, label) + "digits repaired: 0\n";
+        let said = texts::capture(self.row, &self.new, label) + "digits repaired: 0\n" + REPAIRED;
         let command = self.command();
-        case.accepted(words(&format!("{command} {vote} new again")), &(said + &written(&["again"])))
-            .makes("again", &capture(self.row, &self.new, label))
+        case.accepted(
+            words(&format!("{command} {} new again", at(vote))),
+            &(said + &written(&["again"])),
+        )
+        .makes("again", &capture(self.row, &self.new, label))
     }
 }
 
@@ -185,7 +195,7 @@ fn table(changed: &Repaired, national: bool) -> String {
     let all = changed.word + changed.national + sum(&changed.control) + sum(&changed.stuffing);
     let mut text = format!("digits repaired: {all}\n");
     if all == 0 {
-        return text;
+        return text + REPAIRED;
     }
     text += &format!("\n  alignment word  {:>6}", changed.word);
     if national {
@@ -196,7 +206,7 @@ fn table(changed: &Repaired, national: bool) -> String {
         let (control, stuffing) = (changed.control[j], changed.stuffing[j]);
         text += &format!("  tributary {}     {control:>7}{stuffing:>10}\n", j + 1);
     }
-    text
+    text + REPAIRED
 }
 
 fn lines() -> Vec<Case> {
@@ -215,14 +225,11 @@ fn lines() -> Vec<Case> {
     }
     // Levels 2 to 4 do not look at the vote.
     cases.push(Worn::sent(3, 0, 2).of_line("2-frames", ":ff"));
-    // The new line takes the old one's name.
-    let own = Worn::sent(2, 0, 130);
-    let text = own.text() + &written(&["line"]);
+    // A file that is read is evidence, and never written over.
     cases.push(
         Case::new("repair-2-by-its-own-name")
-            .had("line", &own.line)
-            .accepted(words("repair 2 line line"), &text)
-            .makes("line", &own.new),
+            .file("line", &Worn::sent(2, 0, 130).line)
+            .fails(words("repair -l 2 line line"), &written_over("NEW", "line", "LINE")),
     );
     cases
 }
@@ -248,15 +255,19 @@ fn captures() -> Vec<Case> {
         cases.push(Worn::random(number, before, 5, true).of_capture("random", None, vote));
     }
     cases.push(Worn::sent(4, 0, 2).of_capture("two-frames", None, ":ff"));
-    // Told to by the same name, it takes the place of the one that it reads.
+    // By another spelling of the name too.
     let own = Worn::sent(14, 0, 64);
-    let said = texts::capture(own.row, &own.line, most) + &table(&own.changed, false);
-    cases.push(
-        Case::new("repair-capture-14-by-its-own-name")
-            .had("capture", &capture(own.row, &own.line, most))
-            .accepted(words("repair capture capture"), &(said + &written(&["capture"])))
-            .makes("capture", &capture(own.row, &own.new, most)),
-    );
+    for path in ["capture", "./capture", "deep/../capture"] {
+        cases.push(
+            Case::new(&format!("repair-capture-14-by-its-own-name-{}", path.replace('/', "-")))
+                .folder("deep")
+                .file("capture", &capture(own.row, &own.line, most))
+                .fails(
+                    words(&format!("repair capture {path}")),
+                    &written_over("NEW", path, "LINE"),
+                ),
+        );
+    }
     cases
 }
 
@@ -264,20 +275,19 @@ fn refused_lines() -> Vec<Case> {
     let case = |name: &str, bytes: usize| {
         Case::new(&format!("repair-{name}")).file("line", &vec![0; bytes])
     };
-    let command = |word: &str| words(&format!("repair {word} line new"));
+    let command = |word: &str| words(&format!("repair {} line new", at(word)));
     let mut cases = Vec::new();
-    for word in ["5", "02", "12:", "12:x"] {
-        let name = format!("no-level-{}", word.replace(':', "-"));
-        cases.push(case(&name, 105).fails(command(word), &no_level(word)));
+    for word in ["5", "02"] {
+        cases.push(case(&format!("no-level-{word}"), 105).fails(command(word), &no_level(word)));
     }
     for (number, bytes) in [(2, 105), (3, 65 * 192 + 1), (4, 1), (12, 131), (14, 273)] {
         let row = level(number);
         let case = case(&format!("{number}-{bytes}-bytes"), bytes);
         cases.push(case.fails(command(&number.to_string()), &no_whole_frames(row, "line", bytes)));
     }
-    for word in ["12:10", "14:ff"] {
+    for (word, vote) in [("12:16", "16"), ("14:ff", "ff"), ("12:x", "x")] {
         let name = format!("{}-no-vote", word.replace(':', "-after-"));
-        cases.push(case(&name, 1).fails(command(word), &no_vote(word)));
+        cases.push(case(&name, 1).fails(command(word), &no_vote(vote)));
     }
     cases
 }
@@ -288,20 +298,18 @@ fn refused_captures() -> Vec<Case> {
     let mut cases = Vec::new();
     for (k, (name, file)) in no_captures().into_iter().enumerate() {
         assert_ne!(read_capture(&file).refusal, 0, "{name}");
-        let vote = if k % 3 == 0 { ":10" } else { "" };
+        let vote = if k % 3 == 0 { ":16" } else { "" };
         let case = Case::new(&format!("repair-capture-{name}")).file("capture", &file);
-        let command = words(&format!("repair {vote} capture new"));
+        let command = words(&format!("repair {} capture new", at(vote)));
         cases.push(case.fails(command, &no_capture("capture", &file)));
     }
-    for (number, vote, count) in [(12, ":10", 2), (14, ":ff", 1), (12, ":1F", 0)] {
+    for (number, vote, count) in [(12, ":16", 2), (14, ":ff", 1), (12, ":1F", 0), (12, ":x", 1)] {
         let file = capture(level(number), &frames(level(number), count), Some(b"hop A"));
         let case = Case::new(&format!("repair-capture-{number}-no-vote-{count}"));
         let case = case.file("capture", &file);
-        cases.push(case.fails(words(&format!("repair {vote} capture new")), &no_vote(vote)));
+        let command = words(&format!("repair {} capture new", at(vote)));
+        cases.push(case.fails(command, &no_vote(&vote[1..])));
     }
-    let file = capture(level(12), &frames(level(12), 1), None);
-    let case = Case::new("repair-capture-no-level").file("capture", &file);
-    cases.push(case.fails(words("repair :x capture new"), &no_level(":x")));
     cases
 }
 
@@ -310,7 +318,7 @@ fn wrong_files() -> Vec<Case> {
     let kept = |name: &str| Case::new(name).file("capture", &file);
     let line = |name: &str| Case::new(name).file("line", &frames(level(2), 2));
     let fails = |case: Case, command, path, be| case.fails(words(command), &cannot(path, be));
-    let (on_line, on_capture) = ("repair 2 line new", "repair capture new");
+    let (on_line, on_capture) = ("repair -l 2 line new", "repair capture new");
     let none = |name: &str| Case::new(name);
     [
         fails(none("repair-no-line"), on_line, "line", "opened").twice(&OUTPUT),
@@ -320,7 +328,7 @@ fn wrong_files() -> Vec<Case> {
         fails(none("repair-capture-is-a-folder").folder("capture"), on_capture, "capture", "read")
             .twice(&OUTPUT),
         vec![
-            fails(line("repair-in-no-folder"), "repair 2 line none/new", "none/new", "written"),
+            fails(line("repair-in-no-folder"), "repair -l 2 line none/new", "none/new", "written"),
             fails(line("repair-in-a-folder").folder("new"), on_line, "new", "written"),
             fails(kept("repair-capture-nowhere"), "repair capture none/new", "none/new", "written"),
             fails(kept("repair-capture-in-a-folder").folder("new"), on_capture, "new", "written"),

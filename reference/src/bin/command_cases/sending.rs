@@ -26,7 +26,7 @@ fn given(name: &str, notes: &[u8], buffer: &[u8]) -> Case {
 }
 
 fn command(row: &Row) -> Vec<String> {
-    words(&format!("send {} notes tributaries line", row.level))
+    words(&format!("send -l {} notes tributaries line", row.level))
 }
 
 fn sends(name: &str, row: &Row, notes: &[u8], buffer: &[u8]) -> Case {
@@ -71,7 +71,7 @@ fn long_names() -> Case {
     let (notes, buffer) = (notes(row, 3, 7), vec![0x5A; 4 * room(row, 3)]);
     let sent = worked::send(row, &notes, &buffer);
     let text = texts::sent(row, 3, &sent.counts) + &written(&[&line]);
-    let command = ["send", "2", "notes of a day", "./deep/tributaries", &line];
+    let command = ["send", "-l", "2", "notes of a day", "./deep/tributaries", &line];
     Case::new("send-2-long-names")
         .folder("deep")
         .file("notes of a day", &notes)
@@ -178,12 +178,12 @@ fn wrong_levels() -> Vec<Case> {
     let mut cases = Vec::new();
     // The first word twice: without and with older files where the outputs go.
     for word in ["5", "5", "02", "2x", "two", "a-level-that-is-a-word-of-many-letters"] {
-        let command = words(&format!("send {word} notes tributaries line"));
+        let command = words(&format!("send -l {word} notes tributaries line"));
         let case = given(&format!("send-no-level-{word}"), &[0], &[0; 104]);
         cases.push(case.fails(command, &no_level(word)));
     }
     // Refusal 1 comes before all others.
-    let command = words("send 5 notes tributaries none/line");
+    let command = words("send -l 5 notes tributaries none/line");
     let case = given("send-no-level-all-wrong", &[0x40], &[0; 3]);
     cases.push(case.fails(command.clone(), &no_level("5")));
     cases.push(Case::new("send-no-level-no-files").fails(command, &no_level("5")));
@@ -205,7 +205,7 @@ fn wrong_inputs() -> Vec<Case> {
 }
 
 fn wrong_outputs() -> Vec<Case> {
-    let no_folder = words("send 2 notes tributaries none/line");
+    let no_folder = words("send -l 2 notes tributaries none/line");
     vec![
         given("send-line-in-no-folder", &[0x20], &[0; 104])
             .fails(no_folder, &cannot("none/line", "written")),

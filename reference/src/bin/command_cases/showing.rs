@@ -1,9 +1,9 @@
 //! Cases of show, and of take with a capture.
 
-use crate::case::{in_turn, words, Case, OLD};
+use crate::case::{at, in_turn, words, Case, OLD};
 use crate::inputs::{damaged, level, levels, notes, room, tributaries_after};
 use crate::keeping::{capture, frames};
-use crate::texts::{self, cannot, no_capture, no_level, no_vote, written};
+use crate::texts::{self, cannot, no_capture, no_vote, written};
 use crate::worked;
 use reference::level::Row;
 use reference::read_capture;
@@ -155,7 +155,7 @@ fn taken_after() -> Vec<Case> {
         Case::new(&format!("take-capture-{number}-after-{word}"))
             .file("capture", &capture(row, &line, Some(b"hop A")))
             .accepted(
-                words(&format!("take :{word} capture notes tributaries")),
+                words(&format!("take --earlier {word} capture notes tributaries")),
                 &(texts::taken(row, &taken) + &written(&OUTPUTS)),
             )
             .makes("notes", &list)
@@ -173,18 +173,15 @@ fn taken_after() -> Vec<Case> {
     // Answered as by the reader, and then the vote is judged.
     let file = |number| capture(level(number), &frames(level(number), 1), None);
     let given = |name: &str, file: &[u8]| Case::new(name).file("capture", file);
-    let command = |word: &str| words(&format!("take {word} capture notes tributaries"));
-    for (number, word) in [(12, ":10"), (14, ":1F")] {
-        let case = given(&format!("take-capture-{number}-no-vote"), &file(number));
-        cases.extend(case.fails(command(word), &no_vote(word)).twice(&OUTPUTS));
-    }
-    for word in [":", ":x", ":005", ":5:5", "5:"] {
-        let name = format!("take-capture-no-level-{}", word.replace(':', "-"));
-        cases.push(given(&name, &file(12)).fails(command(word), &no_level(word)));
+    let command = |word: &str| words(&format!("take {} capture notes tributaries", at(word)));
+    for (number, word) in [(12, ":16"), (14, ":1F"), (12, ":x"), (12, ":005"), (12, ":5:5")] {
+        let name = format!("take-capture-{number}-no-vote{}", word.replace(':', "-"));
+        let case = given(&name, &file(number));
+        cases.extend(case.fails(command(word), &no_vote(&word[1..])).twice(&OUTPUTS));
     }
     let bad = &file(12)[..9];
     let case = given("take-capture-cut-no-vote", bad);
-    cases.push(case.fails(command(":10"), &no_capture("capture", bad)));
+    cases.push(case.fails(command(":16"), &no_capture("capture", bad)));
     cases
 }
 
@@ -195,7 +192,8 @@ fn trips() -> Vec<Case> {
         let taken = worked::take(row, &line);
         let quarters = worked::quarters(&taken.tributaries, room(row, 7));
         let said = texts::capture(row, &line, Some(b"a site"));
-        let keep = [words(&format!("keep {} line capture", row.level)), vec!["a site".into()]];
+        let keep =
+            [words(&format!("keep -l {} line capture", row.level)), vec!["--label=a site".into()]];
         Case::new(&format!("keep-show-take-{}", row.level))
             .file("line", &line)
             .accepted(keep.concat(), &(said.clone() + &written(&["capture"])))

@@ -1,10 +1,12 @@
 //! Cases of swap, of a line and of a capture. What the line must be is not worked out by a swap: it is the line that is
 //! sent of the new four, by the new votes of the one tributary and the old notes of the rest.
 
-use crate::case::{in_turn, words, Case, OLD};
+use crate::case::{at, in_turn, words, Case, OLD};
 use crate::inputs::{level, levels, notes, room, tributaries_after};
 use crate::keeping::{capture, frames};
-use crate::texts::{cannot, no_capture, no_level, no_note_each, no_vote, no_whole_frames, written};
+use crate::texts::{
+    cannot, no_capture, no_level, no_note_each, no_vote, no_whole_frames, written, written_over,
+};
 use crate::worked;
 use reference::frame::Action;
 use reference::level::Row;
@@ -92,30 +94,22 @@ impl Swapped {
     }
 }
 
-/// The new line takes the old one's name: it is read whole before it is gone.
+/// The new line must not take the old one's name.
 fn over_its_own_line() -> Case {
-    let row = level(2);
-    let (sent, buffer) = ([0; 2], [0; 4 * 52]);
-    let line = worked::send(row, &sent, &buffer).line;
-    let new = [&[0; 52][..], &[0xFF; 52], &[0; 2 * 52]].concat();
-    let text = "Level 2: 2 frames, 412 digits put into tributary 2.\n";
-    Case::new("swap-2-over-its-own-line")
-        .file("notes", &sent)
-        .file("digits", &[0xFF; 52])
-        .had("line", &line)
-        .accepted(
-            words("swap 2 2 line notes digits line"),
-            &(text.to_string() + &written(&["line"])),
-        )
-        .makes("line", &worked::send(row, &sent, &new).line)
+    given("swap-2-over-its-own-line", &[0; 212], &[0; 2], &[0xFF; 52]).fails(
+        words("swap -l 2 --tributary 2 line notes digits line"),
+        &written_over("NEW", "line", "LINE"),
+    )
 }
 
 fn given(name: &str, line: &[u8], notes: &[u8], digits: &[u8]) -> Case {
     Case::new(name).file("line", line).file("notes", notes).file("digits", digits)
 }
 
+/// By the level, with the vote, and the tributary, as `12:5 1`.
 fn command(level_and_tributary: &str) -> Vec<String> {
-    words(&format!("swap {level_and_tributary} line notes digits new"))
+    let (level, tributary) = level_and_tributary.split_once(' ').expect("two words");
+    words(&format!("swap {} --tributary {tributary} line notes digits new", at(level)))
 }
 
 /// Two frames of level 2, which want 52 bytes of digits, and what is wrong beside them.
@@ -139,7 +133,7 @@ fn refused() -> Vec<Case> {
     let line = "refused 4: digits has 51 bytes, and a tributary of 2 frames of level 2 wants 52 bytes or more.";
     let digits = given("swap-2-digits-too-few", &[0; 212], &[0xFF; 2], &[0; 51]);
     cases.push(digits.fails(command("2 1"), line));
-    cases.push(two("swap-12-no-vote").fails(command("12:10 1"), &no_vote("12:10")));
+    cases.push(two("swap-12-no-vote").fails(command("12:16 1"), &no_vote("16")));
     cases
 }
 
@@ -151,7 +145,7 @@ fn wrong_files() -> Vec<Case> {
     let line = |name: &str| Case::new(name).file("line", &[0; 106]);
     let noted = |name: &str| line(name).file("notes", &[0]);
     let all = |name: &str| given(name, &[0; 106], &[0], &[0; 26]);
-    let nowhere = words("swap 2 1 line notes digits none/new");
+    let nowhere = words("swap -l 2 --tributary 1 line notes digits none/new");
     [
         fails(none("swap-no-line"), "line", "opened").twice(&OUTPUT),
         fails(none("swap-line-is-a-folder").folder("line"), "line", "read").twice(&OUTPUT),
@@ -180,13 +174,13 @@ fn captures() -> Vec<Case> {
     cases.push(of_capture(level(14), 3, 7, None, ":0a", [0x5, 0xA]));
     cases.push(of_capture(level(3), 4, 2, None, ":ff", [0, 0]));
     let own = Swapped::new(level(4), 1, 5, [0, 0]);
-    let text = own.text().replace("written: new", "written: capture");
-    cases.push(
-        given_capture(&own.name("swap-capture-by-its-name", ""), &own, None)
-            .had("capture", &capture(own.row, &own.line, None))
-            .accepted(words("swap 1 capture notes digits capture"), &text)
-            .makes("capture", &capture(own.row, &own.new, None)),
-    );
+    for (path, input) in [("capture", "LINE"), ("notes", "NOTES"), ("./digits", "DIGITS")] {
+        let name = own.name(&format!("swap-capture-over-{input}"), "");
+        cases.push(given_capture(&name, &own, None).fails(
+            words(&format!("swap --tributary 1 capture notes digits {path}")),
+            &written_over("NEW", path, input),
+        ));
+    }
     cases
 }
 
@@ -201,7 +195,10 @@ fn of_capture(
     let one = Swapped::new(row, tributary, frames, votes);
     given_capture(&one.name("swap-capture", vote), &one, label)
         .had("new", OLD)
-        .accepted(words(&format!("swap {vote} {tributary} capture notes digits new")), &one.text())
+        .accepted(
+            words(&format!("swap {} --tributary {tributary} capture notes digits new", at(vote))),
+            &one.text(),
+        )
         .makes("new", &capture(row, &one.new, label))
 }
 
@@ -220,7 +217,10 @@ fn refused_captures() -> Vec<Case> {
         let case = Case::new(&format!("swap-capture-{name}")).file("capture", file);
         case.file("notes", &[0; 2]).file("digits", &[0; 68])
     };
-    let command = |first: &str| words(&format!("swap {first} capture notes digits new"));
+    let command = |first: &str| {
+        let (vote, tributary) = first.split_once(' ').unwrap_or(("", first));
+        words(&format!("swap {} --tributary {tributary} capture notes digits new", at(vote)))
+    };
     let (cut, other) = (&good(2)[..100], [&[1, 0, 1, 9][..], &good(2)[4..]].concat());
     let short = [1, 0, 1, 12, 2, 0, 1, 0];
     let no_tributary = "refused 12: no tributary 5; TRIBUTARY is 1, 2, 3 or 4.";
@@ -233,13 +233,13 @@ fn refused_captures() -> Vec<Case> {
     }
     cases.push(case("line-of-1", &short).fails(command("1"), &no_capture("capture", &short)));
     let voted = case("line-of-1-no-vote", &short);
-    cases.push(voted.fails(command(":10 1"), &no_capture("capture", &short)));
+    cases.push(voted.fails(command(":16 1"), &no_capture("capture", &short)));
     cases.push(case("line-of-1-no-tributary", &short).fails(command("5"), no_tributary));
     cases.push(case("no-tributary", &good(2)).fails(command("5"), no_tributary));
-    cases.push(case("no-tributary-no-vote", &good(12)).fails(command(":10 5"), no_tributary));
-    cases.push(case("no-vote", &good(12)).fails(command(":10 1"), &no_vote(":10")));
-    cases.push(case("no-vote-of-14", &good(14)).fails(command(":ff 1"), &no_vote(":ff")));
-    cases.push(case("no-level", &good(12)).fails(command(":x 1"), &no_level(":x")));
+    cases.push(case("no-tributary-no-vote", &good(12)).fails(command(":16 5"), no_tributary));
+    cases.push(case("no-vote", &good(12)).fails(command(":16 1"), &no_vote("16")));
+    cases.push(case("no-vote-of-14", &good(14)).fails(command(":ff 1"), &no_vote("ff")));
+    cases.push(case("vote-x", &good(12)).fails(command(":x 1"), &no_vote("x")));
     let notes = case("notes-too-few", &good(2)).file("notes", &[0]);
     cases.push(notes.fails(command("1"), &no_note_each("notes", 1, "capture", 2)));
     let digits = case("digits-too-few", &good(12)).file("digits", &[0; 64]);

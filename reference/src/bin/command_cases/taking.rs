@@ -19,7 +19,7 @@ pub fn cases() -> Vec<Case> {
 }
 
 fn command(row: &Row) -> Vec<String> {
-    words(&format!("take {} line notes tributaries", row.level))
+    words(&format!("take -l {} line notes tributaries", row.level))
 }
 
 fn takes(name: &str, row: &Row, line: &[u8]) -> Case {
@@ -76,12 +76,12 @@ fn wrong_levels() -> Vec<Case> {
     let mut cases = Vec::new();
     // The first word twice: without and with older files where the outputs go.
     for word in ["5", "5", "22", "level-2"] {
-        let command = words(&format!("take {word} line notes tributaries"));
+        let command = words(&format!("take -l {word} line notes tributaries"));
         let case = Case::new(&format!("take-no-level-{word}")).file("line", &[0; 106]);
         cases.push(case.fails(command, &no_level(word)));
     }
     // Refusal 1 comes before all others.
-    let command = words("take 5 line none/notes none/tributaries");
+    let command = words("take -l 5 line none/notes none/tributaries");
     let no_file = Case::new("take-no-level-no-file");
     let short = Case::new("take-no-level-all-wrong").file("line", &[0; 105]);
     cases.push(no_file.fails(command.clone(), &no_level("5")));
@@ -105,9 +105,9 @@ fn wrong_outputs() -> Vec<Case> {
         |case: Case, command, path| case.fails(words(command), &cannot(path, "written"));
     let is_a_folder =
         |case: Case, path| case.folder(path).fails(command(level(2)), &cannot(path, "written"));
-    let notes = "take 2 line none/notes tributaries";
+    let notes = "take -l 2 line none/notes tributaries";
     let notes = in_no_folder(given("take-notes-in-no-folder"), notes, "none/notes");
-    let tributaries = "take 2 line notes none/tributaries";
+    let tributaries = "take -l 2 line notes none/tributaries";
     let case = given("take-tributaries-in-no-folder");
     let tributaries = in_no_folder(case, tributaries, "none/tributaries");
     [

@@ -36,7 +36,20 @@ pub fn written(paths: &[&str]) -> String {
 }
 
 pub fn sent(row: &Row, frames: usize, counts: &Counts) -> String {
-    format!("Level {}: {} frames sent.\n", row.level, frames) + &table(row, counts)
+    format!("Level {}: {} frames sent.\n", row.level, frames)
+        + &table(row, counts)
+        + "This line was made here: it is no evidence of what a multiplexer sent.\n"
+}
+
+/// What is said of a file that was repaired.
+pub const REPAIRED: &str = "What is repaired is no evidence: keep the file that was read.\n";
+
+/// An output with the name of an input.
+pub fn written_over(output: &str, path: &str, input: &str) -> String {
+    format!(
+        "wrong call: {output} is {path}, which is {input} too, and a file that is read is never \
+         written over: give {output} another name."
+    )
 }
 
 pub fn taken(row: &Row, taken: &Taken) -> String {
@@ -116,7 +129,7 @@ pub fn found(row: &Row, bytes: usize, found: &Found, taken: &Taken) -> String {
     let digits = 8 * bytes;
     let mut text =
         format!("Level {}: {bytes} bytes, {digits} digits, numbered from 0.\n", row.level);
-    text += &found.events.iter().map(event).collect::<String>();
+    text += &found.events.iter().map(|one| event(row, one)).collect::<String>();
     if found.alignment().is_empty() {
         text += &not_found(row);
     }
@@ -134,25 +147,50 @@ fn not_found(row: &Row) -> String {
     )
 }
 
-fn event(event: &Event) -> String {
-    match event {
-        Event::Found(digit) => format!(
-            "found at digit {digit}: the third good word in a row, and the first frame \
-             handed over\n"
+fn event(row: &Row, event: &Event) -> String {
+    let (what, digit, why) = match event {
+        Event::Found(digit) => {
+            ("found", digit, "the third good word in a row, and the first frame handed over")
+        }
+        Event::Lost(digit) => {
+            ("lost", digit, "the fourth wrong word in a row, and its frame is not handed over")
+        }
+        Event::AlarmBegins(digit) => (
+            "alarm indication begins",
+            digit,
+            "the second stretch in a row with few zeros ends there",
         ),
-        Event::Lost(digit) => format!(
-            "lost at digit {digit}: the fourth wrong word in a row, and its frame is not \
-             handed over\n"
+        Event::AlarmEnds(digit) => (
+            "alarm indication ends",
+            digit,
+            "the second stretch in a row with more zeros ends there",
         ),
-        Event::AlarmBegins(digit) => format!(
-            "alarm indication begins at digit {digit}: the second stretch in a row with few \
-             zeros ends there\n"
-        ),
-        Event::AlarmEnds(digit) => format!(
-            "alarm indication ends at digit {digit}: the second stretch in a row with more \
-             zeros ends there\n"
-        ),
+    };
+    format!("{what} at digit {digit} ({}): {why}\n", time(row.rate, *digit))
+}
+
+/// When a digit comes at the nominal rate in kbit/s, in whole microseconds.
+pub fn time(rate: u64, digit: usize) -> String {
+    let microseconds = 1000 * digit as u64 / rate;
+    format!("{}.{:06} s", microseconds / 1_000_000, microseconds % 1_000_000)
+}
+
+/// Where the frames handed over were in the recording, a line for each stretch without a gap.
+pub fn stretches(row: &Row, found: &Found) -> String {
+    let begins: Vec<usize> = found.frames.iter().map(|one| one.after - row.frame_digits).collect();
+    let mut text = String::new();
+    let mut first = 0;
+    for last in 0..begins.len() {
+        if begins.get(last + 1) != Some(&(begins[last] + row.frame_digits)) {
+            text += &format!(
+                "frames {first} to {last}: from digit {} of the recording on ({})\n",
+                begins[first],
+                time(row.rate, begins[first])
+            );
+            first = last + 1;
+        }
     }
+    text
 }
 
 fn mode(mode: u64) -> String {
@@ -165,7 +203,10 @@ fn mode(mode: u64) -> String {
 }
 
 pub fn no_level(word: &str) -> String {
-    format!("refused 1: no level {word}; LEVEL is 2, 3, 4, 12 or 14, and 12:5 is level 12 after the vote 5.")
+    format!(
+        "refused 1: no level {word}; LEVEL is 2, 3, 4, 12 or 14, or the rate: 8448, 34368, 139264, \
+         8448pzn or 139264pzn."
+    )
 }
 
 pub fn no_whole_frames(row: &Row, path: &str, bytes: usize) -> String {
@@ -205,8 +246,8 @@ pub fn no_such_bits(path: &str, frame: usize) -> String {
 /// A vote before the first frame that is none.
 pub fn no_vote(word: &str) -> String {
     format!(
-        "refused 5: {word} says a vote over F for the frame before the first; it has a bit for \
-         each tributary, as 12:5."
+        "refused 5: {word} is no vote of the frame before the first; it has a bit for each \
+         tributary, 0 to 15 or 0 to F."
     )
 }
 
@@ -227,9 +268,12 @@ pub fn no_national(path: &str, row: &Row, frame: usize) -> String {
     )
 }
 
-/// What cannot be done with a path: that it be opened, read or written.
+/// What cannot be done with a path, that it be opened, read or written, and the system's reason: it
+/// is not there, its folder is not, or it is a folder.
 pub fn cannot(path: &str, be: &str) -> String {
-    format!("failed: {path} cannot be {be}.")
+    let missing = be == "opened" || path.starts_with("none/");
+    let why = if missing { "No such file or directory" } else { "Is a directory" };
+    format!("failed: {path} cannot be {be}: {why}.")
 }
 
 /// What a capture holds, as keep and show say it.
@@ -239,14 +283,25 @@ pub fn capture(row: &Row, line: &[u8], label: Option<&[u8]>) -> String {
     format!("Level {}, {} kbit/s\nframes: {frames}\nlabel: {label}\n", row.level, row.rate)
 }
 
-/// A label in characters that can be printed, between quotation marks.
+/// A label between quotation marks: letters of UTF-8 as they are, any other byte that cannot be
+/// printed by its number.
 fn quoted(label: &[u8]) -> String {
-    let shown = |&byte: &u8| match byte {
-        b'"' | b'\\' => format!("\\{}", char::from(byte)),
-        b' '..=b'~' => char::from(byte).to_string(),
-        _ => format!("\\x{byte:02x}"),
-    };
-    format!("\"{}\"", label.iter().map(shown).collect::<String>())
+    let mut text = String::new();
+    let mut rest = label;
+    while let Some(&byte) = rest.first() {
+        let letter = (2..=4).filter_map(|long| std::str::from_utf8(rest.get(..long)?).ok()).next();
+        match (byte, letter) {
+            (b'"' | b'\\', _) => text += &format!("\\{}", char::from(byte)),
+            (b' '..=b'~', _) => text.push(char::from(byte)),
+            (0x80.., Some(letter)) if !letter.chars().all(char::is_control) => {
+                text += letter;
+                rest = &rest[letter.len() - 1..];
+            }
+            _ => text += &format!("\\x{byte:02x}"),
+        }
+        rest = &rest[1..];
+    }
+    format!("\"{text}\"")
 }
 
 /// A line that no capture can have.
@@ -259,10 +314,9 @@ fn frames(row: &Row) -> String {
     format!("0 to {MOST_FRAMES} frames of level {}, {} bytes each", row.level, row.frame_bytes())
 }
 
-/// A label over 32 bytes. One that is longer than the longest path is not counted.
+/// A label over 32 bytes.
 pub fn long_label(path: &str, bytes: usize) -> String {
-    let found = if bytes > 4096 { "more than 4096".into() } else { bytes.to_string() };
-    format!("refused 9: {path}, byte 0: expected a label of at most 32 bytes; found {found} bytes.")
+    format!("refused 9: {path}, byte 0: expected a label of at most 32 bytes; found {bytes} bytes.")
 }
 
 /// Why a file is refused that is no capture.

@@ -30,8 +30,8 @@ fn send_take(row: &Row, frames: usize) -> Case {
     Case::new(&format!("send-take-{}-{frames}-frames", row.level))
         .file("notes", &list)
         .file("tributaries", &buffer)
-        .accepted(words(&format!("send {} notes tributaries line", row.level)), &send)
-        .accepted(words(&format!("take {} line {}", row.level, outputs.join(" "))), &take)
+        .accepted(words(&format!("send -l {} notes tributaries line", row.level)), &send)
+        .accepted(words(&format!("take -l {} line {}", row.level, outputs.join(" "))), &take)
         .makes("line", &sent.line)
         .makes(outputs[0], &list)
         .makes(outputs[1], &buffer)
@@ -44,15 +44,17 @@ fn find_send(row: &'static Row) -> Case {
     let sent = worked::send(row, &done.notes, &done.tributaries);
     assert!(done.notes.len() > 64 && sent.line == done.found.line(row));
     let prefix = format!("deep/{}", "a-long-name-".repeat(12));
-    let (notes, tributaries) = (format!("{prefix}.notes"), format!("{prefix}.tributaries"));
-    let find = done.text + &written(&[&notes, &tributaries]);
+    let [as_it_came, notes, tributaries] =
+        ["line", "notes", "tributaries"].map(|ending| format!("{prefix}.{ending}"));
+    let find = done.text_and_stretches() + &written(&[&as_it_came, &notes, &tributaries]);
     let send = texts::sent(row, done.notes.len(), &sent.counts) + &written(&["line"]);
-    let again = format!("send {} {notes} {tributaries} line", row.level);
+    let again = format!("send -l {} {notes} {tributaries} line", row.level);
     Case::new(&format!("find-send-{}", row.level))
         .folder("deep")
         .file("stream", &stream)
-        .accepted(words(&format!("find {} stream {prefix}", row.level)), &find)
+        .accepted(words(&format!("find -l {} stream --out {prefix}", row.level)), &find)
         .accepted(words(&again), &send)
+        .makes(&as_it_came, &sent.line)
         .makes(&notes, &done.notes)
         .makes(&tributaries, &done.tributaries)
         .makes("line", &sent.line)

@@ -2,7 +2,7 @@
 //! multiplexes, extracts or reads notes, over several runs of 64 frames.
 
 use crate::approving;
-use crate::case::{words, Case};
+use crate::case::{at, words, Case};
 use crate::inputs::{level, notes, room, tributaries_after};
 use crate::texts::{self, no_level, no_such_bits, no_vote, written};
 use crate::worked::{self, Sent, Taken};
@@ -20,9 +20,9 @@ pub fn cases() -> Vec<Case> {
         let frames = [1, 64, 65, 130][k % 4];
         let one = Voted::new(number, word, before, frames);
         cases.push(one.sends("send"));
-        cases.push(one.sends("plain-send"));
+        cases.push(one.sends("send --engine plain"));
         cases.push(one.takes("take"));
-        cases.push(one.takes("plain-take"));
+        cases.push(one.takes("take --engine plain"));
         cases.push(one.extracts());
         cases.push(one.noted());
         cases.push(one.agrees());
@@ -55,6 +55,7 @@ impl Voted {
 
     fn case(&self, command: &str) -> Case {
         let word = self.word.replace(':', "-after-");
+        let command = command.replace(' ', "-");
         Case::new(&format!("{command}-{word}-{}-frames", self.notes.len()))
     }
 
@@ -71,7 +72,7 @@ impl Voted {
             .file("notes", &self.notes)
             .file("tributaries", &self.buffer)
             .accepted(
-                words(&format!("{command} {} notes tributaries line", self.word)),
+                words(&format!("{command} {} notes tributaries line", at(&self.word))),
                 &(text + &written(&["line"])),
             )
             .makes("line", &self.sent.line)
@@ -82,7 +83,7 @@ impl Voted {
         self.case(command)
             .file("line", &self.sent.line)
             .accepted(
-                words(&format!("{command} {} line notes tributaries", self.word)),
+                words(&format!("{command} {} line notes tributaries", at(&self.word))),
                 &(text + &written(&["notes", "tributaries"])),
             )
             .makes("notes", &self.notes)
@@ -95,7 +96,7 @@ impl Voted {
             .file("line", &self.sent.line)
             .file("notes", &self.notes)
             .accepted(
-                words(&format!("extract {} line notes tributaries", self.word)),
+                words(&format!("extract {} line notes tributaries", at(&self.word))),
                 &(text + &written(&["tributaries"])),
             )
             .makes("tributaries", &self.buffer)
@@ -103,13 +104,13 @@ impl Voted {
 
     fn noted(&self) -> Case {
         let text = texts::noted_after(self.row, self.before, &self.sent.line);
-        let command = words(&format!("notes {} line", self.word));
+        let command = words(&format!("notes {} line", at(&self.word)));
         self.case("notes").file("line", &self.sent.line).accepted(command, &text)
     }
 
     fn agrees(&self) -> Case {
         let compared = approving::compared(self.row, &self.sent.line);
-        let command = words(&format!("agree {} line", self.word));
+        let command = words(&format!("agree {} line", at(&self.word)));
         let text = texts::agree(self.row, compared);
         self.case("agree").file("line", &self.sent.line).accepted(command, &text)
     }
@@ -119,20 +120,30 @@ impl Voted {
 fn refused() -> Vec<Case> {
     let given =
         |name: &str| Case::new(name).file("notes", &[0, 0]).file("tributaries", &[0; 4 * 68 * 2]);
-    let command = |word: &str| words(&format!("send {word} notes tributaries line"));
+    let command = |word: &str| words(&format!("send {} notes tributaries line", at(word)));
     let mut cases = Vec::new();
-    for word in ["12:10", "14:10", "12:ff", "14:1F"] {
+    for (word, vote) in [
+        ("12:16", "16"),
+        ("14:16", "16"),
+        ("12:ff", "ff"),
+        ("14:1F", "1F"),
+        ("12:x", "x"),
+        ("12:005", "005"),
+        ("12:+5", "+5"),
+        ("12:5:5", "5:5"),
+        ("3:x", "x"),
+    ] {
         let case = given(&format!("send-{}", word.replace(':', "-after-")));
-        cases.push(case.fails(command(word), &no_vote(word)));
+        cases.push(case.fails(command(word), &no_vote(vote)));
     }
-    for word in ["12:", "12:x", "12:005", "5:5", "13:0", "12;5", ":5", "112"] {
+    for (word, number) in [("5:5", "5"), ("13:0", "13"), ("12;5", "12;5"), ("112", "112")] {
         let case = given(&format!("send-no-level-{}", word.replace([':', ';'], "-")));
-        cases.push(case.fails(command(word), &no_level(word)));
+        cases.push(case.fails(command(word), &no_level(number)));
     }
     for (number, bits) in [(12, 0x10), (14, 0x80)] {
         let case = Case::new(&format!("send-{number}-no-such-bits"));
         let case = case.file("notes", &[0, bits]).file("tributaries", &[0; 4 * 68 * 2]);
-        let command = words(&format!("send {number} notes tributaries line"));
+        let command = words(&format!("send -l {number} notes tributaries line"));
         cases.push(case.fails(command, &no_such_bits("notes", 1)));
     }
     cases

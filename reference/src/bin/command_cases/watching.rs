@@ -42,7 +42,7 @@ fn watched(name: &str, recordings: &[(&'static Row, Vec<u8>)]) -> Case {
     let (mut command, mut text, mut aligned) = (String::from("watch"), HEADING.to_string(), 0);
     for (line, (row, stream)) in recordings.iter().enumerate() {
         let file = format!("r{line}");
-        command += &format!(" {} {file}", row.level);
+        command += &format!(" {}={file}", row.level);
         let (one, is_aligned) = row_of(line, row, stream, &file);
         text += &one;
         aligned += usize::from(is_aligned);
@@ -99,13 +99,15 @@ fn long() -> Case {
 fn wrong() -> Vec<Case> {
     let given = |name: &str| Case::new(name).file("stream", &[0xF4; 200]);
     vec![
-        given("watch-no-level").fails(words("watch 2 stream 5 stream"), &no_level("5")),
-        given("watch-sixty-five").like(
-            words(&format!("watch{}", " 2 stream".repeat(65))),
-            1,
-            &["^The right forms are:$".into()],
-            "^failed: watch takes",
+        given("watch-no-level").fails(words("watch 2=stream 5=stream"), &no_level("5")),
+        given("watch-sixty-five").fails(
+            words(&format!("watch{}", " 2=stream".repeat(65))),
+            "wrong call: 65 recordings are too many: watch takes up to 64.",
         ),
-        given("watch-no-file").fails(words("watch 2 stream 3 none"), &cannot("none", "opened")),
+        given("watch-no-sign").fails(
+            words("watch 2=stream stream"),
+            "wrong call: stream is no LEVEL=RECORDING, as 2=north.",
+        ),
+        given("watch-no-file").fails(words("watch 2=stream 3=none"), &cannot("none", "opened")),
     ]
 }

@@ -131,7 +131,7 @@ pub enum Call {
 }
 
 /// The names of the calls, in the order of their numbers.
-pub const NAMES: [&str; 28] = [
+pub const NAMES: [&str; 30] = [
     "multiplex",
     "read_notes",
     "receiver_fresh",
@@ -160,6 +160,8 @@ pub const NAMES: [&str; 28] = [
     "late_multiplex",
     "begins",
     "multiframe_start",
+    "verdict_fresh",
+    "verdict_feed",
 ];
 
 /// All that a call answers and leaves: two outcomes are equal or there is a disagreement.

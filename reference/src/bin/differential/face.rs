@@ -91,6 +91,13 @@ extern "C" {
         level: u64, earlier: u64, line: *const u8, line_bytes: usize, pattern: u64,
         buffer: *const u8, buffer_bytes: usize, answer: *mut u64,
     ) -> u64;
+    pub fn spritbobbin_verdict_fresh(
+        level: u64, earlier: u64, pattern: u64, state: *mut u64,
+    ) -> u64;
+    pub fn spritbobbin_verdict_feed(
+        state: *mut u64, line: *const u8, line_bytes: usize, next: u64,
+        sent: *const u8, sent_bytes: usize, first: u64, answer: *mut u64,
+    ) -> u64;
     pub fn spritbobbin_copy_digits(
         to: *mut u8, to_bytes: usize, at: u64, from: *const u8, from_bytes: usize,
         first: u64, count: u64,
@@ -137,6 +144,9 @@ type Extracting = unsafe extern "C" fn(
     usize,
     *mut u64,
 ) -> u64;
+
+/// The numbers of a verdict's state.
+pub const VERDICT_STATE: usize = 683;
 
 /// What stands in an array of numbers before the call, so that one left unwritten is seen.
 pub const UNWRITTEN: u64 = 0xA5A5_A5A5_A5A5_A5A5;

@@ -14,6 +14,7 @@ use crate::multiframes;
 use crate::rack;
 use crate::repairing;
 use crate::swapping;
+use crate::verdict;
 use crate::Run;
 use reference::judge;
 use reference::read_notes;
@@ -406,6 +407,7 @@ fn null_pointers(run: &mut Run) {
             repairing::by_length(run, level, earlier, 0);
             for pattern in [0, 15, 23, 1, u64::MAX] {
                 judging::by_lengths(run, level, earlier, pattern, [0; 2]);
+                verdict::by_lengths(run, level, pattern, earlier, [0; 2]);
             }
             for tributary in [0, 1, 4, 5] {
                 swapping::by_lengths(run, level, earlier, tributary, [0; 3]);
@@ -482,6 +484,7 @@ fn false_lengths(run: &mut Run) {
                 for earlier in [0, 16] {
                     for lengths in [[long, long], [long, 4 * frame], [frame, long], [0, long]] {
                         judging::by_lengths(run, level, earlier, pattern, lengths);
+                        verdict::by_lengths(run, level, pattern, 17 * earlier, lengths);
                     }
                 }
             }

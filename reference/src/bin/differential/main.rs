@@ -29,8 +29,6 @@ mod rack;
 mod receiver;
 mod repairing;
 mod swapping;
-// The library's two calls on a worn line are still to come: with them the feature goes, and their part stands with the others.
-#[cfg(feature = "verdict")]
 mod verdict;
 
 use call::{Call, Outcome, NAMES};
@@ -159,7 +157,7 @@ fn arguments() -> Run {
 type Part = (&'static str, fn(&mut Run));
 
 /// The parts of a run by name, in their order.
-const PARTS: [Part; 13] = [
+const PARTS: [Part; 14] = [
     ("multiplexing", multiplexing::part),
     ("receiver", receiver::part),
     ("captures", captures::part),
@@ -170,6 +168,7 @@ const PARTS: [Part; 13] = [
     ("swapping", swapping::part),
     ("repairing", repairing::part),
     ("judging", judging::part),
+    ("verdict", verdict::part),
     ("copying", copying::part),
     ("naming", naming::part),
     ("beginnings", beginnings::part),
@@ -185,8 +184,6 @@ fn main() {
             }
         }
     }
-    #[cfg(feature = "verdict")]
-    verdict::part(&mut run);
     if run.part.is_none() {
         lengths::part(&mut run);
     }

@@ -4,7 +4,7 @@ use Prim.Native.Nat.{_+_, _-_, _*_, _≤_}
 use native.Mathlib.Omega.{arith}
 use lib.ListN.{length, take, drop, length-drop}
 use lib.Seq.{length-take-le}
-use Rattle.verdict.proofs.Kept.{take-all}
+use Rattle.verdict_blocks.proofs.Kept.{take-all}
 use Rattle.verdict.proofs.Telling.{toldTo, told-none, told-next, told-all}
 use Rattle.verdict.proofs.answer.tell_all.Statement.{statement}
 use Rattle.verdict.proofs.answer.tell_all.Tie as tie

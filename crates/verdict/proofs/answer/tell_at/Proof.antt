@@ -5,7 +5,7 @@ use Prim.Native.Nat.{ℕ, _+_, _-_, _*_}
 use native.Mathlib.Omega.{arith}
 use lib.ListN.{take, drop, length-drop}
 use lib.Seq.{length-take-le}
-use Rattle.verdict.specs.Keeping.{blockFrom}
+use Rattle.verdict_blocks.specs.Keeping.{blockFrom}
 use borrow.Author.Needs.{needs}
 use Rattle.verdict.proofs.answer.tell_at.Statement.{statement}
 use Rattle.verdict.proofs.answer.tell_at.Tie as tie

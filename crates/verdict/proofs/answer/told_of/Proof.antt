@@ -1,6 +1,6 @@
 -- `told_of`: what was sent is known, or not yet.
 use borrow.Author.Tests.{ne-eqb}
-use Rattle.verdict.specs.Keeping.{blockFrom}
+use Rattle.verdict_blocks.specs.Keeping.{blockFrom}
 use Rattle.verdict.specs.Feed.{toldOf}
 use borrow.Author.Needs.{needs}
 use Rattle.verdict.proofs.answer.told_of.Statement.{statement}

@@ -3,7 +3,7 @@ use mathlib.Core.Path.{_≡_, sym, _∙_, ap}
 use mathlib.Core.List.{List, _++_}
 use Prim.Native.Nat.{ℕ}
 use borrow.Author.Tests.{ne-eqb}
-use Rattle.verdict.specs.Blocks.{freshBlock}
+use Rattle.verdict_blocks.specs.Blocks.{freshBlock}
 use Rattle.verdict.specs.Feed.{blocksNumbers, numbersOf, freshState, freshFault}
 use borrow.Author.Needs.{needs}
 use Rattle.verdict.proofs.fresh.fresh_on.Statement.{statement}

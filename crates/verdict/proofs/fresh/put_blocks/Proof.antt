@@ -4,10 +4,10 @@ use mathlib.Core.List.{_++_, append-nil}
 use Prim.Native.Nat.{ℕ, _+_, _-_, _*_, _≤_}
 use native.Mathlib.Omega.{arith}
 use lib.ListN.{length, take}
-use Rattle.verdict.specs.Blocks.{freshBlock}
+use Rattle.verdict_blocks.specs.Blocks.{freshBlock}
 use Rattle.verdict.specs.Feed.{blocksNumbers}
-use Rattle.verdict.proofs.Kept.{take-all}
-use Rattle.verdict.proofs.Waying.{with-length}
+use Rattle.verdict_blocks.proofs.Kept.{take-all}
+use Rattle.verdict_blocks.proofs.Waying.{with-length}
 use Rattle.verdict.proofs.Made.{fresh-whole, blocks-more}
 use Rattle.verdict.proofs.fresh.put_blocks.Statement.{statement}
 use Rattle.verdict.proofs.fresh.put_blocks.Tie as tie

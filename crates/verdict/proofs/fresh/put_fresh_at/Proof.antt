@@ -4,7 +4,7 @@ use mathlib.Core.List.{List, _++_}
 use Prim.Native.Nat.{ℕ, _+_, _-_, _*_}
 use native.Mathlib.Omega.{arith}
 use lib.ListN.{take, drop}
-use Rattle.verdict.specs.Keeping.{withBlock}
+use Rattle.verdict_blocks.specs.Keeping.{withBlock}
 use borrow.Author.Needs.{needs}
 use Rattle.verdict.proofs.fresh.put_fresh_at.Statement.{statement}
 use Rattle.verdict.proofs.fresh.put_fresh_at.Tie as tie

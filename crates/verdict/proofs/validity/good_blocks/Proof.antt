@@ -6,7 +6,7 @@ use native.Mathlib.Omega.{arith}
 use borrow.Author.Tests.{not-true, not-false}
 use Rattle.verdict.proofs.validity.good_blocks.Statement.{statement}
 use Rattle.verdict.proofs.validity.good_blocks.Tie as tie
-use Rattle.verdict.specs.Keeping.{blockAt}
+use Rattle.verdict_blocks.specs.Keeping.{blockAt}
 use Rattle.verdict.specs.Feed.{goodBlocks}
 use Rattle.verdict.proofs.Good.{blocks-none, blocks-next, blocks-bad}
 

@@ -1,3 +1,0 @@
-// The command agree: both engines beside each other on a line.
-pub mod agree;
-mod pair;

@@ -1,3 +1,0 @@
-// The command demo.
-pub mod demo;
-mod verdict;

@@ -1,3 +1,0 @@
-pub mod Finding
-pub mod Division
-pub mod Answers

@@ -1,2 +1,0 @@
-// The command find: the frames in a recording begun anywhere.
-pub mod find;

@@ -1,2 +1,0 @@
-// The command hunt: the frames of a 2048 kbit/s recording begun anywhere.
-pub mod hunt;

@@ -1,4 +1,0 @@
-pub mod Carry
-pub mod Labels
-pub mod Lengths
-pub mod Watch

@@ -1,0 +1,5 @@
+pub mod Patterns
+pub mod Blocks
+pub mod Keeping
+pub mod Readings
+pub mod Going
