@@ -74,6 +74,23 @@ class Crate:
         return found.pop() if len(found) == 1 and found <= self.functions else None
 
 
+def copy_of(function, k):
+    return f'{function}_edit{k}'
+
+
+def copied(crate, function, k, code):
+    """A function under another name, from the lines of its code, and its proof, if it has one: the lines, and {path: text}."""
+    short, new = function.split('::')[-1], copy_of(function, k).split('::')[-1]
+    code = [code[0].replace(f'fn {short}(', f'fn {new}(', 1), *code[1:], '}']
+    proof = crate.texts.get(f'proofs/{function.replace("::", "/")}/Proof.antt')
+    if proof is None:
+        return code, {}
+    inside = 'proofs.' + function.replace('::', '.')
+    proof = proof.replace(inside + '.', copy_of(inside, k) + '.')
+    proof = re.sub(rf'(?<![\w-]){short.replace("_", "-")}-spec\b', new.replace('_', '-') + '-spec', proof)
+    return code, {f'proofs/{copy_of(function, k).replace("::", "/")}/Proof.antt': proof}
+
+
 def crates_below():
     """What each crate of crates.txt stands on."""
     lines = [line.split('#')[0].split(':') for line in open('crates.txt', encoding='utf-8')]
