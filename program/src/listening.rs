@@ -137,16 +137,3 @@ pub fn found(
     })?;
     Ok((Line::of_input(frames.read_again()?, level, earlier)?, stretches))
 }
-
-/// A time of a recording at the level's nominal rate, in microseconds.
-pub fn microseconds(kilobits: u32, digit: u64) -> u64 {
-    let time = u128::from(digit).saturating_mul(1000) / u128::from(kilobits.max(1));
-    u64::try_from(time).unwrap_or(u64::MAX)
-}
-
-/// The same in seconds, as it is said.
-pub fn seconds(kilobits: u32, digit: u64) -> String {
-    let time = microseconds(kilobits, digit);
-    let (whole, rest) = (time / 1_000_000, time % 1_000_000);
-    format!("{whole}.{rest:06} s")
-}

@@ -29,6 +29,7 @@ mod quarters;
 mod report;
 mod runs;
 mod stretches;
+mod times;
 mod totals;
 mod verdict;
 

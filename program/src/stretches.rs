@@ -2,7 +2,8 @@
 
 use spritbobbin::Level;
 
-use crate::listening::{seconds, Stretch};
+use crate::listening::Stretch;
+use crate::times::time;
 
 /// A line for each stretch; nothing where no recording was looked through.
 pub fn text(level: Level, found: Option<&[Stretch]>) -> String {
@@ -19,6 +20,6 @@ pub fn text(level: Level, found: Option<&[Stretch]>) -> String {
 fn one(level: Level, stretch: &Stretch) -> String {
     let Stretch { digit, first, frames } = *stretch;
     let last = first.saturating_add(frames).saturating_sub(1);
-    let time = seconds(level.kilobits(), digit);
+    let time = time(level.kilobits(), digit);
     format!("frames {first} to {last}: from digit {digit} of the recording on ({time})\n")
 }

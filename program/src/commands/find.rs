@@ -12,9 +12,10 @@ use crate::commands::send::quarter;
 use crate::failure::Failure;
 use crate::files::{self, Output, Stream};
 use crate::level;
-use crate::listening::{add_frame, listen, microseconds, seconds, Heard, Stretch};
+use crate::listening::{add_frame, listen, Heard, Stretch};
 use crate::report::{written, Report, Saying, Telling};
 use crate::stretches;
+use crate::times::{microseconds, time};
 use crate::totals::Counted;
 
 /// Where something changes.
@@ -175,7 +176,7 @@ fn say(telling: &mut Telling, of: Level, heard: &Heard) -> Result<(), Failure> {
         ),
         Heard::Frame { .. } => return Ok(()),
     };
-    let time = seconds(of.kilobits(), digit);
+    let time = time(of.kilobits(), digit);
     telling.text(&format!("{event} at digit {digit} ({time}): {why}\n"))?;
     telling.item(&Turn { event, digit, microseconds: microseconds(of.kilobits(), digit) })
 }

@@ -5,8 +5,9 @@
 use std::fmt::Write as _;
 
 use super::{reading_name, Page};
+use crate::times::time;
 use crate::verdict::clock::Clock;
-use crate::verdict::numbers::{grouped, ppm, ratio, so_many, time};
+use crate::verdict::numbers::{grouped, ppm, ratio, so_many};
 use crate::verdict::timeline::{Cell, Mark};
 use crate::verdict::words::Known;
 use crate::verdict::{Finding, Reading, READINGS};
@@ -361,6 +362,6 @@ fn ends(page: &Page<'_>) -> String {
         "<div class=\"row ends\"><div></div><div></div><div class=\"axis\"><span>frame 0</span>{middle}\
          <span>frame {}, {}</span></div></div>\n",
         grouped(frames.saturating_sub(1)),
-        time(digits(frames), page.level.kilobits())
+        time(page.level.kilobits(), digits(frames))
     )
 }

@@ -11,8 +11,9 @@ use std::fmt::Write as _;
 use spritbobbin::Level;
 
 use crate::pictures::svg::escaped;
+use crate::times::time;
 use crate::verdict::clock::{Clock, Kept};
-use crate::verdict::numbers::{grouped, ppm, ratio, so_many, tenths, time};
+use crate::verdict::numbers::{grouped, ppm, ratio, so_many, tenths};
 use crate::verdict::timeline::Timeline;
 use crate::verdict::words::{Answer, Known};
 use crate::verdict::{Against, Finding, Reading, READINGS};
@@ -109,7 +110,7 @@ fn opening(page: &Page<'_>) -> String {
         page.level.number(),
         page.level.kilobits(),
         so_many(frames, "frame"),
-        time(digits, page.level.kilobits()),
+        time(page.level.kilobits(), digits),
         escaped(of),
         against(&page.against),
         escaped(&page.date)

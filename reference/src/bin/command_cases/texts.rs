@@ -169,10 +169,15 @@ fn event(row: &Row, event: &Event) -> String {
     format!("{what} at digit {digit} ({}): {why}\n", time(row.rate, *digit))
 }
 
-/// When a digit comes at the nominal rate in kbit/s, in whole microseconds.
+/// When a digit comes at the nominal rate in kbit/s, to the nearest microsecond.
 pub fn time(rate: u64, digit: usize) -> String {
-    let microseconds = 1000 * digit as u64 / rate;
-    format!("{}.{:06} s", microseconds / 1_000_000, microseconds % 1_000_000)
+    let microseconds = (2000 * digit as u64 + rate) / (2 * rate);
+    let seconds = microseconds / 1_000_000;
+    if seconds == 0 {
+        return format!("{}.{:03} ms", microseconds / 1000, microseconds % 1000);
+    }
+    let minutes = if seconds < 60 { String::new() } else { format!("{} min ", seconds / 60) };
+    format!("{minutes}{}.{:06} s", seconds % 60, microseconds % 1_000_000)
 }
 
 /// Where the frames handed over were in the recording, a line for each stretch without a gap.
