@@ -61,7 +61,7 @@ pub struct Page<'a> {
 
 /// The page.
 pub fn html(page: &Page<'_>) -> String {
-    let mut out = style::head(&title(page));
+    let mut out = style::head(&title(page), drawings::longest_label(page));
     out.push_str("<body>\n<main>\n");
     out.push_str(&top(page));
     out.push_str(&figures::tables(page));
