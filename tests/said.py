@@ -43,6 +43,15 @@ def stretches(said):
     return text
 
 
+def unknown_votes(said):
+    frames = said.get("votes_unknown", [])
+    if not frames:
+        return ""
+    which = f"frame {frames[0]}" if len(frames) == 1 else "the first frame of each stretch" + " but the first" * (frames[0] > 0)
+    assert set(frames) <= {one["first"] for one in said["stretches"]}
+    return f"The vote before {which} is not known and taken as 0: there a tributary that voted 1 has a digit too many.\n"
+
+
 def send(said):
     assert said["evidence"] is False
     head = f"Level {said['level']}: {said['frames']} frames sent.\n"
@@ -50,7 +59,7 @@ def send(said):
 
 
 def take(said):
-    return stretches(said) + f"Level {said['level']}: {said['frames']} frames taken apart.\n" + table(said) + written(said)
+    return stretches(said) + unknown_votes(said) + f"Level {said['level']}: {said['frames']} frames taken apart.\n" + table(said) + written(said)
 
 
 def extract(said):
@@ -59,7 +68,7 @@ def extract(said):
 
 def notes(said):
     signed = said["level"] > 4
-    text = stretches(said)
+    text = stretches(said) + unknown_votes(said)
     text += f"    frame  {'  votes  acts   ' if signed else 'stuffed  service'}  dissent 1 2 3 4  alignment\n"
     for row in said["rows"]:
         decided = "".join(str(j) if j in row["decided"] else "-" for j in (1, 2, 3, 4))
@@ -115,7 +124,7 @@ def find(said):
     if not said["found"]:
         text += f"alignment was not found: three good words in a row, {FRAMES[said['level']]} digits apart, did not come\n"
     text += f"frames handed over: {said['frames']}\n" + table(said) + f"words tested: {said['words_tested']}\n" + mode(said)
-    return text + (stretches(said) if said["written"] else "") + written(said)
+    return text + (stretches(said) if said["written"] else "") + unknown_votes(said) + written(said)
 
 
 def watch(said):

@@ -106,16 +106,17 @@ pub struct Stretch {
     pub frames: u64,
 }
 
-/// Adds a frame that begins at this digit to the stretches.
-pub fn add_frame(stretches: &mut Vec<Stretch>, level: Level, digit: u64) {
+/// Adds a frame that begins at this digit to the stretches, and answers whether it is behind a gap.
+pub fn add_frame(stretches: &mut Vec<Stretch>, level: Level, digit: u64) -> bool {
     let frame = level.frame_digits() as u64;
     let next = |one: &Stretch| one.digit.saturating_add(frame.saturating_mul(one.frames));
     if let Some(last) = stretches.last_mut().filter(|last| next(last) == digit) {
         last.frames = last.frames.saturating_add(1);
-        return;
+        return false;
     }
     let first = stretches.last().map_or(0, |last| last.first.saturating_add(last.frames));
     stretches.push(Stretch { digit, first, frames: 1 });
+    first > 0
 }
 
 /// The frames of a recording as a line, and where they were.
@@ -135,5 +136,6 @@ pub fn found(
         }
         Ok(())
     })?;
-    Ok((Line::of_input(frames.read_again()?, level, earlier)?, stretches))
+    let line = Line::of_input(frames.read_again()?, level, earlier)?;
+    Ok((line.in_stretches(&stretches), stretches))
 }
