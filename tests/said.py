@@ -171,6 +171,7 @@ def compare(said):
     text = f"Level {said['level']}, {said['kilobits']} kbit/s\nframes compared: {said['frames']}\n"
     if "offset" in said:
         text += offset(said)
+    text += overlaps(said)
     text += f"differing digits: {said['differing']}\n"
     if said["differing"]:
         for name, key in (("alignment word", "word"), ("remote alarm", "remote_alarm"), ("national", "national")):
@@ -185,6 +186,19 @@ def compare(said):
             whose = f", tributary {one['tributary']}" if one["tributary"] else ""
             text += f"{one['frame']:>7}{one['place']:>7}  {one['kind']}{whose}\n"
     return text + written(said)
+
+
+def overlaps(said):
+    text = ""
+    for one in said.get("overlaps", []):
+        last, last_other = (one[name] + one["frames"] - 1 for name in ("first", "first_other"))
+        text += f"frames {one['first']} to {last} of the first file are frames {one['first_other']} to {last_other} of the second, "
+        text += f"differing digits: {one['differing']}\n"
+    if "not_compared" in said:
+        assert said["frames"] == sum(one["frames"] for one in said["overlaps"])
+        one, other = said["not_compared"]
+        text += f"frames not compared: {one} of the first file, {other} of the second\n"
+    return text
 
 
 def offset(said):

@@ -21,6 +21,7 @@ mod files;
 mod level;
 mod listening;
 mod made;
+mod overlaps;
 mod page;
 mod pictures;
 mod places;
