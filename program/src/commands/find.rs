@@ -162,7 +162,7 @@ fn length(of: Level, bytes: u64) -> String {
 }
 
 /// Says where alignment is found and lost, and where the alarm begins and ends.
-fn say(telling: &mut Telling, of: Level, heard: &Heard) -> Result<(), Failure> {
+fn say(telling: &mut Telling, of: Level, heard: &Heard<'_>) -> Result<(), Failure> {
     let (event, digit, why) = match *heard {
         Heard::Found { digit } => {
             ("found", digit, "the third good word in a row, and the first frame handed over")

@@ -157,7 +157,7 @@ fn at_its_end(line: usize, level: Level, mut stream: Stream) -> Result<AtItsEnd,
             }
             first = first.saturating_add(taken.digits);
             end.words_tested = end.words_tested.saturating_add(taken.words as u64);
-            if let Some(frame) = taken.frame {
+            if let Some(frame) = &taken.frame {
                 end.frames = end.frames.saturating_add(1);
                 end.dissent = end.dissent.saturating_add(dissent(&frame)?);
             }
