@@ -33,6 +33,15 @@ type Written<'a> = (&'a str, PathBuf, Option<(u64, u64)>);
 /// Looks at the names of a call before anything is read: no output may be a file that is read, by whatever name, and no
 /// file may be written twice. Each name comes with the word that the call has for it.
 pub fn distinct(inputs: &[(&str, &Path)], outputs: &[(&str, &Path)]) -> Result<(), Failure> {
+    let standard: Vec<_> = inputs.iter().filter(|(_, name)| is_standard(name)).collect();
+    if let [(one, name), (other, _), ..] = standard.as_slice() {
+        // A file that stands behind it can be read twice.
+        if regular(name, true).is_none() {
+            return Err(Failure::Call(format!(
+                "{one} and {other} are both standard input, which is read once: give one of them a name."
+            )));
+        }
+    }
     let read: Vec<_> =
         inputs.iter().filter_map(|(word, name)| Some((*word, regular(name, true)?))).collect();
     let mut written: Vec<Written<'_>> = Vec::new();

@@ -66,10 +66,9 @@ struct Compared {
 }
 
 pub fn run(call: Compare, mut saying: Saying) -> Result<u8, Failure> {
-    if let Some(svg) = &call.svg {
-        files::distinct(&[("ONE", &call.one), ("OTHER", &call.other)], &[("FILE", svg)])?;
-        saying.aside = files::any_standard(&[svg]);
-    }
+    let outputs: Vec<_> = call.svg.as_deref().map(|svg| ("FILE", svg)).into_iter().collect();
+    files::distinct(&[("ONE", &call.one), ("OTHER", &call.other)], &outputs)?;
+    saying.aside = outputs.iter().any(|(_, svg)| files::any_standard(&[svg]));
     let Opened { one, other, found } = opened(&call, saying)?;
     // What cannot be written is found out before it is all compared.
     let picture = call.svg.as_deref().map(Output::create).transpose()?;
@@ -80,7 +79,9 @@ pub fn run(call: Compare, mut saying: Saying) -> Result<u8, Failure> {
     let gaps = [&found.0, &found.1].iter().any(|found| found.as_ref().map_or(0, Vec::len) > 1);
     let pair = Pair { one: &one, other: &other, overlaps: all };
     let mut compared = pair.compared(saying)?;
-    if gaps {
+    // Where nothing is compared there is no offset.
+    let nothing = call.find && compared.frames == 0;
+    if gaps || nothing {
         let left = |line: &Line| line.frames.saturating_sub(compared.frames);
         compared.not_compared = Some([left(&one), left(&other)]);
     } else {
@@ -93,7 +94,7 @@ pub fn run(call: Compare, mut saying: Saying) -> Result<u8, Failure> {
         compared.written = files::keep(vec![picture])?;
     }
     saying.say(&compared)?;
-    Ok(u8::from(call.check && compared.differing > 0))
+    Ok(u8::from(call.check && (compared.differing > 0 || nothing)))
 }
 
 /// Where the frames of a recording were.
@@ -109,12 +110,11 @@ struct Opened {
 /// Both lines: of two captures of one level and length, or of two files of the level that is said.
 fn opened(call: &Compare, saying: Saying) -> Result<Opened, Failure> {
     if let Some(word) = call.of.level.as_deref() {
-        let open =
-            |name: &Path| Line::open_or_find(name, Some(word), None, call.finding.find, saying);
+        let open = |name: &Path| Line::open_or_find(name, Some(word), None, call.find, saying);
         let ((one, found), (other, found_other)) = (open(&call.one)?, open(&call.other)?);
         return Ok(Opened { one, other, found: (found, found_other) });
     }
-    if call.finding.find {
+    if call.find {
         return Err(Failure::Call(
             "--find wants --level: a recording does not say its own.".into(),
         ));

@@ -14,6 +14,7 @@ use reference::digits::{pack, unpack};
 use reference::frame::{layout, Place};
 use reference::history::HandedOver;
 use reference::level::Row;
+use reference::random::Random;
 use reference::MOST_LISTED;
 
 pub fn cases() -> Vec<Case> {
@@ -227,6 +228,17 @@ fn found(row: &'static Row) -> Vec<Case> {
         compares(&sent, "two-gaps-and-one", &two, &gap(0, 2, 40, 0)),
         compares(&sent, "gaps-at-one-time", &gap(1, 0, 50, 1), &gap(4, 9, 50, 0)),
     ];
+    // Nothing is the same, and with --check that is not good.
+    let noise = Random::new(row.level).bytes(500);
+    for (name, one, frames) in
+        [("noise", noise.clone(), 0), ("noise-and-a-line", pack(&whole(0, 0).digits), 88)]
+    {
+        let call = words(&format!("compare -l {} --find --check one other", row.level));
+        let which = format!("frames not compared: {frames} of the first file, 0 of the second\n");
+        let text = head(row, 0, &which) + &differing(row, &[0; 15], &[]);
+        let case = Case::new(&format!("compare-find-{}-{name}", row.level));
+        cases.push(case.file("one", &one).file("other", &noise).checked(call, &text));
+    }
     if row.level == 2 {
         let long = Sent::new(row, 1300);
         let one = long.recorded(0, 2, &[], &[], 0);
