@@ -86,10 +86,16 @@ impl Line {
         let (bytes, frame) = (input.bytes(), level.frame_bytes() as u64);
         let name = input.name().to_path_buf();
         if bytes.checked_rem(frame) != Some(0) {
+            let todo = match captures::is_one(&input)? {
+                true => "It is a capture: leave --level out, or write its line with show.",
+                false => {
+                    "In a recording begun anywhere find the frames first, with find or --find."
+                }
+            };
             return Err(Failure::refused(
                 2,
                 format!(
-                    "{} has {bytes} bytes, no whole number of frames; a frame of {level} has {frame} bytes.",
+                    "{} has {bytes} bytes, no whole number of frames; a frame of {level} has {frame} bytes. {todo}",
                     shown(&name)
                 ),
             ));

@@ -98,6 +98,13 @@ fn room_for(name: &Path, level: Level, frames: u64) -> Result<SentFile, Failure>
     let input = Input::open(name)?;
     let wanted = spritbobbin::span(0, frames.saturating_mul(level.room_digits() as u64)).bytes.end;
     let (bytes, quarter) = (input.bytes(), input.bytes() / 4);
+    if bytes % 4 != 0 && frames == 0 {
+        let name = shown(name);
+        return Err(Failure::refused(
+            4,
+            format!("{name} has {bytes} bytes, no four equal quarters."),
+        ));
+    }
     if bytes % 4 != 0 || quarter < wanted {
         return Err(Failure::refused(
             4,

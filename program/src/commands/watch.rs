@@ -162,7 +162,7 @@ fn at_its_end(line: usize, level: Level, mut stream: Stream) -> Result<AtItsEnd,
             end.words_tested = end.words_tested.saturating_add(taken.words as u64);
             if let Some(frame) = &taken.frame {
                 end.frames = end.frames.saturating_add(1);
-                end.dissent = end.dissent.saturating_add(dissent(&frame)?);
+                end.dissent = end.dissent.saturating_add(dissent(frame)?);
             }
         }
     }

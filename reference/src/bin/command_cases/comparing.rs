@@ -2,6 +2,7 @@
 //! that do not fit each other, and bad ones, the first before the second.
 
 use std::ops::Range;
+use std::slice::from_ref;
 
 use crate::case::{words, Case, OLD};
 use crate::inputs::{damaged, level, levels};
@@ -215,7 +216,8 @@ fn found(row: &'static Row) -> Vec<Case> {
     let sent = Sent::new(row, 90);
     let whole = |from, zeros| sent.recorded(from, zeros, &[], &[], 0);
     let gap = |from, zeros, first: usize, more| {
-        sent.recorded(from, zeros, &[first..first + 4], &[], more)
+        let broken = first..first + 4;
+        sent.recorded(from, zeros, from_ref(&broken), &[], more)
     };
     let two = sent.recorded(3, 11, &[20..24, 60..64], &[], 3);
     let mut cases = vec![
@@ -242,9 +244,19 @@ fn found(row: &'static Row) -> Vec<Case> {
     if row.level == 2 {
         let long = Sent::new(row, 1300);
         let one = long.recorded(0, 2, &[], &[], 0);
-        let away = [40..1240];
-        cases.push(compares(&long, "long-gap", &one, &long.recorded(3, 0, &[], &away, 2)));
-        cases.push(compares(&long, "long-gap-first", &long.recorded(3, 0, &[], &away, 0), &one));
+        let away = 40..1240;
+        cases.push(compares(
+            &long,
+            "long-gap",
+            &one,
+            &long.recorded(3, 0, &[], from_ref(&away), 2),
+        ));
+        cases.push(compares(
+            &long,
+            "long-gap-first",
+            &long.recorded(3, 0, &[], from_ref(&away), 0),
+            &one,
+        ));
     }
     cases
 }

@@ -1312,8 +1312,10 @@ fn refused() -> Vec<Case> {
             .fails(judge("-l 2 line sent"), &no_room(row, "sent", 4 * 51, 2)),
         given("judge-no-quarters", 106, 105)
             .fails(judge("-l 2 line sent"), &no_room(row, "sent", 105, 1)),
-        given("judge-find-no-quarters", 106, 105)
-            .fails(judge("-l 2 line sent --find"), &no_room(row, "sent", 105, 0)),
+        given("judge-find-no-quarters", 106, 105).fails(
+            judge("-l 2 line sent --find"),
+            "refused 4: sent has 105 bytes, no four equal quarters.",
+        ),
         Case::new("judge-no-line").fails(judge("-l 2 line sent"), &cannot("line", "opened")),
         Case::new("judge-no-sent")
             .file("line", &[0; 106])

@@ -250,10 +250,17 @@ pub fn no_level(word: &str) -> String {
 pub fn no_whole_frames(row: &Row, path: &str, bytes: usize) -> String {
     format!(
         "refused 2: {path} has {bytes} bytes, no whole number of frames; a frame of level {} \
-         has {} bytes.",
+         has {} bytes. In a recording begun anywhere find the frames first, with find or --find.",
         row.level,
         row.frame_bytes()
     )
+}
+
+/// A capture where a line is asked for.
+pub fn no_line_but_a_capture(row: &Row, path: &str, bytes: usize) -> String {
+    let line = no_whole_frames(row, path, bytes);
+    let (frames, _) = line.split_once(" In a recording").expect("two sentences");
+    frames.to_string() + " It is a capture: leave --level out, or write its line with show."
 }
 
 /// Notes of so many bytes for a line of so many frames.
