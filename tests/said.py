@@ -18,8 +18,17 @@ def table(said):
     return text
 
 
-def seconds(microseconds):
-    return f"{microseconds // 1000000}.{microseconds % 1000000:06} s"
+def time(microseconds):
+    """A time as every command says it."""
+    seconds = microseconds // 1000000
+    if not seconds:
+        return f"{microseconds // 1000}.{microseconds % 1000:03} ms"
+    return f"{seconds // 60} min " * (seconds > 59) + f"{seconds % 60}.{microseconds % 1000000:06} s"
+
+
+def of_digits(digits, kilobits):
+    """The time of a digit, or of so many, to the nearest microsecond."""
+    return time((2000 * digits + kilobits) // (2 * kilobits))
 
 
 RATES = {2: 8448, 3: 34368, 4: 139264, 12: 8448, 14: 139264}
@@ -29,9 +38,18 @@ FRAMES = {2: 848, 3: 1536, 4: 2928, 12: 1056, 14: 2176}
 def stretches(said):
     text = ""
     for one in said.get("stretches", []):
-        last, time = one["first"] + one["frames"] - 1, seconds(one["digit"] * 1000 // RATES[said["level"]])
-        text += f"frames {one['first']} to {last}: from digit {one['digit']} of the recording on ({time})\n"
+        last, when = one["first"] + one["frames"] - 1, of_digits(one["digit"], RATES[said["level"]])
+        text += f"frames {one['first']} to {last}: from digit {one['digit']} of the recording on ({when})\n"
     return text
+
+
+def unknown_votes(said):
+    frames = said.get("votes_unknown", [])
+    if not frames:
+        return ""
+    which = f"frame {frames[0]}" if len(frames) == 1 else "the first frame of each stretch" + " but the first" * (frames[0] > 0)
+    assert set(frames) <= {one["first"] for one in said["stretches"]}
+    return f"The vote before {which} is not known and taken as 0: there a tributary that voted 1 has a digit too many.\n"
 
 
 def send(said):
@@ -41,7 +59,7 @@ def send(said):
 
 
 def take(said):
-    return stretches(said) + f"Level {said['level']}: {said['frames']} frames taken apart.\n" + table(said) + written(said)
+    return stretches(said) + unknown_votes(said) + f"Level {said['level']}: {said['frames']} frames taken apart.\n" + table(said) + written(said)
 
 
 def extract(said):
@@ -50,7 +68,7 @@ def extract(said):
 
 def notes(said):
     signed = said["level"] > 4
-    text = stretches(said)
+    text = stretches(said) + unknown_votes(said)
     text += f"    frame  {'  votes  acts   ' if signed else 'stuffed  service'}  dissent 1 2 3 4  alignment\n"
     for row in said["rows"]:
         decided = "".join(str(j) if j in row["decided"] else "-" for j in (1, 2, 3, 4))
@@ -83,7 +101,7 @@ def agree(said):
 
 
 def events(said, why):
-    return "".join(f"{one['event']} at digit {one['digit']} ({seconds(one['microseconds'])}): {why[one['event']]}\n" for one in said["events"])
+    return "".join(f"{one['event']} at digit {one['digit']} ({time(one['microseconds'])}): {why[one['event']]}\n" for one in said["events"])
 
 
 def mode(said):
@@ -106,7 +124,7 @@ def find(said):
     if not said["found"]:
         text += f"alignment was not found: three good words in a row, {FRAMES[said['level']]} digits apart, did not come\n"
     text += f"frames handed over: {said['frames']}\n" + table(said) + f"words tested: {said['words_tested']}\n" + mode(said)
-    return text + (stretches(said) if said["written"] else "") + written(said)
+    return text + (stretches(said) if said["written"] else "") + unknown_votes(said) + written(said)
 
 
 def watch(said):
@@ -153,6 +171,7 @@ def compare(said):
     text = f"Level {said['level']}, {said['kilobits']} kbit/s\nframes compared: {said['frames']}\n"
     if "offset" in said:
         text += offset(said)
+    text += overlaps(said)
     text += f"differing digits: {said['differing']}\n"
     if said["differing"]:
         for name, key in (("alignment word", "word"), ("remote alarm", "remote_alarm"), ("national", "national")):
@@ -167,6 +186,19 @@ def compare(said):
             whose = f", tributary {one['tributary']}" if one["tributary"] else ""
             text += f"{one['frame']:>7}{one['place']:>7}  {one['kind']}{whose}\n"
     return text + written(said)
+
+
+def overlaps(said):
+    text = ""
+    for one in said.get("overlaps", []):
+        last, last_other = (one[name] + one["frames"] - 1 for name in ("first", "first_other"))
+        text += f"frames {one['first']} to {last} of the first file are frames {one['first_other']} to {last_other} of the second, "
+        text += f"differing digits: {one['differing']}\n"
+    if "not_compared" in said:
+        assert said["frames"] == sum(one["frames"] for one in said["overlaps"])
+        one, other = said["not_compared"]
+        text += f"frames not compared: {one} of the first file, {other} of the second\n"
+    return text
 
 
 def offset(said):
@@ -184,8 +216,7 @@ def build(said):
 def apart(said):
     text = ""
     for one in said.get("stretches", []):
-        time = seconds(one["digit"] * 1000 // 2048)
-        text += f"{one['multiframes']} multiframes from digit {one['digit']} of the recording on ({time})\n"
+        text += f"{one['multiframes']} multiframes from digit {one['digit']} of the recording on ({of_digits(one['digit'], 2048)})\n"
     return text + f"{said['multiframes']} multiframes taken apart.\n" + written(said)
 
 
@@ -198,16 +229,6 @@ def hunt(said):
     if not said["times_found"]:
         text += "alignment was not found: two good words 512 digits apart, with a second digit of 1 between them, did not come\n"
     return text + f"times found: {said['times_found']}\ntimes lost: {said['times_lost']}\n" + mode(said)
-
-
-def lasting(digits, kilobits):
-    """A time as judge says it."""
-    ms = digits / kilobits
-    if ms >= 60000:
-        return f"{ms / 60000:.1f} min"
-    if ms >= 1000:
-        return f"{ms / 1000:.3f} s"
-    return f"{ms:.2f} ms" if ms >= 1 else f"{ms:.3f} ms"
 
 
 def share(part, every):
@@ -223,7 +244,7 @@ def judge(said):
     against = said["against"].get("sent") or f"the pattern of 2^{said['against'].get('pattern')} - 1 digits, inverted"
     kilobits, frame = said["kilobits"], FRAMES[said["level"]]
     text = f'label: "{said["label"]}"\n' if "label" in said else ""
-    text += f"Level {said['level']}, {kilobits} kbit/s: {many(said['frames'], 'frame')}, {lasting(frame * said['frames'], kilobits)}, held against {against}. "
+    text += f"Level {said['level']}, {kilobits} kbit/s: {many(said['frames'], 'frame')}, {of_digits(frame * said['frames'], kilobits)}, held against {against}. "
     text += f"Clocks: taking the line at {kilobits} kbit/s.\n"
     if said["found"] and not said["stretches"]:
         text += f"no frame found in {many(said['digits'], 'digit')}.\n"
@@ -231,7 +252,7 @@ def judge(said):
     for one in said["stretches"] if said["found"] else []:
         if 0 < end < one["digit"]:
             text += f"gap of {many(one['digit'] - end, 'digit')}\n"
-        text += f"stretch of {many(one['frames'], 'frame')} from digit {one['digit']:,}, {lasting(one['digit'], kilobits)}"
+        text += f"stretch of {many(one['frames'], 'frame')} from digit {one['digit']:,}, {of_digits(one['digit'], kilobits)}"
         if "begins" in one:
             begins = ", ".join(f"{digit:,}" for digit in one["begins"])
             text += f"; begins in what was sent at digits {begins}, where {one['differ']:,} of {one['looked']:,} differ ({share(one['differ'], one['looked'])})"
@@ -283,7 +304,7 @@ def multiframe(said):
 
 def cut(said):
     text = stretches(said) + f"Level {said['level']}, {said['kilobits']} kbit/s\n"
-    text += f"frames cut out: {said['frames']}, from frame {said['first']} on ({seconds(said['microseconds'])})\n"
+    text += f"frames cut out: {said['frames']}, from frame {said['first']} on ({time(said['microseconds'])})\n"
     return text + written(said)
 
 

@@ -5,6 +5,7 @@ use spritbobbin::{vote_after, Level, MOST_FRAMES};
 use crate::cli::Engine;
 use crate::failure::Failure;
 use crate::files::Output;
+use crate::level::UNKNOWN_VOTE;
 use crate::quarters::QuartersOut;
 use crate::totals::Totals;
 
@@ -46,6 +47,11 @@ impl Apart {
         self.notes = Some(notes);
         self.tributaries = Some(QuartersOut::new(tributaries, quarter)?);
         Ok(self)
+    }
+
+    /// The frames of the next run do not follow those before: what was voted before them is not known.
+    pub fn behind_gap(&mut self) {
+        self.earlier = UNKNOWN_VOTE;
     }
 
     /// Takes a run of at most 64 frames apart.

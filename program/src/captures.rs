@@ -34,6 +34,11 @@ pub fn open(name: &Path) -> Result<Captured, Failure> {
     }
 }
 
+/// Whether a file is a capture.
+pub fn is_one(input: &Input) -> Result<bool, Failure> {
+    Ok(read_capture(&input.all(MOST)?).is_ok())
+}
+
 /// Why a file is no capture: the byte, what was expected there and what stands there.
 pub fn refused(name: &Path, refusal: Refusal, file: &[u8], bytes: u64) -> Failure {
     let (byte, expected, found) = match refusal {

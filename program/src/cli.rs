@@ -10,17 +10,44 @@ const VERSION: &str =
 const AFTER: &str = "\
 LEVEL is 2, 3 or 4 (8448, 34368, 139264 kbit/s), 12 or 14 (8448 and 139264 with positive/zero/negative
 justification), or the rate: 8448, 34368, 139264, 8448pzn, 139264pzn. A file without --level is a capture, which
-says its own level. The file - is standard input or output; what is said then goes to standard error.
+says its own level.
 
-Exit status: 0 accepted, 1 refused (with the refusal's number on standard error), 2 wrong call, 3 a file could not
-be read or written.";
+- in place of a file that is read is standard input, in place of one that is written standard output; a file of that
+name is ./-. What a command says goes to standard output, or to standard error where an output is -. Refusals,
+failures and, on a terminal, how far it is go to standard error.
+
+Exit status: 0 done, 1 refused (with the refusal's number on standard error) or, with --check, an answer that is not
+good, 2 wrong call, 3 a file could not be read or written.";
+
+/// What stands below the help of a command: which of its files may be standard input or output, and an example.
+macro_rules! below {
+    (none, $words:literal) => {
+        concat!("Example:\n  spritbobbin ", $words)
+    };
+    (input, $words:literal) => {
+        concat!("- in place of the file is standard input.\n\n", below!(none, $words))
+    };
+    (svg, $words:literal) => {
+        concat!(
+            "--svg - draws to standard output; what is said then goes to standard error.\n\n",
+            below!(none, $words)
+        )
+    };
+    (both, $words:literal) => {
+        concat!(
+            "- in place of a file that is read is standard input, in place of one that is written standard\n\
+             output; what is said goes to standard error where an output is -.\n\n",
+            below!(none, $words)
+        )
+    };
+}
 
 /// Recordings of plesiochronous multiplexers taken apart, judged and compared.
 #[derive(Debug, Parser)]
 #[command(name = "spritbobbin", version = VERSION, after_help = AFTER, max_term_width = 100)]
 #[command(subcommand_required = true, arg_required_else_help = true)]
 pub struct Cli {
-    /// Says what was found as one JSON object
+    /// Says all as one JSON object in place of text
     #[arg(long, global = true)]
     pub json: bool,
     /// Says nothing but refusals and failures
@@ -33,79 +60,79 @@ pub struct Cli {
 #[derive(Debug, Subcommand)]
 pub enum Command {
     /// A multiplexer that acts a frame late, on built-in data
-    #[command(after_help = "Example:\n  spritbobbin demo")]
+    #[command(after_help = below!(none, "demo"))]
     Demo(Demo),
     /// The frame of a level, place by place
-    #[command(after_help = "Example:\n  spritbobbin frame -l 2 --note 2D --svg frame.svg")]
+    #[command(after_help = below!(svg, "frame -l 2 --note 2D --svg frame.svg"))]
     Frame(Frame),
     /// Makes a line of notes and tributaries
-    #[command(after_help = "Example:\n  spritbobbin send -l 2 notes tributaries line")]
+    #[command(after_help = below!(both, "send -l 2 notes tributaries line"))]
     Send(Send),
-    /// Takes a line or a capture apart, from its first digit on
-    #[command(after_help = "Example:\n  spritbobbin take -l 2 line notes tributaries")]
+    /// Takes a line, a capture or a recording apart
+    #[command(after_help = below!(both, "take -l 2 line notes tributaries"))]
     Take(Take),
-    /// The notes of a line or a capture as a table
-    #[command(after_help = "Example:\n  spritbobbin notes -l 3 line notes")]
+    /// The notes of a line, a capture or a recording as a table
+    #[command(after_help = below!(both, "notes -l 3 line notes"))]
     Notes(Notes),
     /// Takes a line apart by the notes of a file
-    #[command(after_help = "Example:\n  spritbobbin extract -l 3 line notes tributaries")]
+    #[command(after_help = below!(both, "extract -l 3 line notes tributaries"))]
     Extract(Extract),
     /// Takes a line apart and makes it again by both engines, and compares
-    #[command(after_help = "Example:\n  spritbobbin agree -l 2 line")]
+    #[command(after_help = below!(input, "agree -l 2 line"))]
     Agree(Agree),
     /// Finds the frames in a recording begun anywhere
-    #[command(after_help = "Example:\n  spritbobbin find -l 2 recording --out seen")]
+    #[command(after_help = below!(input, "find -l 2 recording --out seen"))]
     Find(Find),
     /// Up to 64 recordings side by side
-    #[command(after_help = "Example:\n  spritbobbin watch 2=north 2=south 4=trunk")]
+    #[command(after_help = below!(input, "watch 2=north 2=south 4=trunk"))]
     Watch(Watch),
     /// Did the clock move, or the frame index?
     #[command(
-        after_help = "Example:\n  spritbobbin judge -l 2 recording --pattern 15 --find --page verdict.html"
+        after_help = below!(both, "judge -l 2 recording --pattern 15 --find --page verdict.html")
     )]
     Judge(Judge),
     /// Writes one tributary of a line or a capture anew
     #[command(
-        after_help = "Example:\n  spritbobbin swap -l 2 --tributary 3 line notes digits new"
+        after_help = below!(both, "swap -l 2 --tributary 3 line notes digits new")
     )]
     Swap(Swap),
     /// Sets worn digits right, in a new file
-    #[command(after_help = "Example:\n  spritbobbin repair worn.capture new.capture")]
+    #[command(after_help = below!(both, "repair worn.capture new.capture"))]
     Repair(Repair),
-    /// Keeps a line of up to 64 frames as a capture
-    #[command(after_help = "Example:\n  spritbobbin keep -l 2 line capture --label 'Hop A'")]
+    /// Keeps up to 64 frames as a capture
+    #[command(after_help = below!(both, "keep -l 2 line capture --label 'Hop A'"))]
     Keep(Keep),
     /// What a capture holds
-    #[command(after_help = "Example:\n  spritbobbin show capture line")]
+    #[command(after_help = below!(both, "show capture line"))]
     Show(Show),
     /// Where two captures, lines or recordings differ
     #[command(
-        after_help = "Example:\n  spritbobbin compare here.capture there.capture --svg d.svg"
+        after_help = below!(both, "compare here.capture there.capture --svg d.svg")
     )]
     Compare(Compare),
-    /// Some frames of a recording, as a line or a capture
-    #[command(after_help = "Example:\n  spritbobbin cut -l 2 line 100 164 part.capture --capture")]
+    /// Some frames of a line, a capture or a recording, as a line or a capture
+    #[command(after_help = below!(both, "cut -l 2 line 100 164 part.capture --capture"))]
     Cut(Cut),
     /// The quarters of a file of tributaries, each in a file of its own
-    #[command(after_help = "Example:\n  spritbobbin split tributaries one two three four")]
+    #[command(after_help = below!(both, "split tributaries one two three four"))]
     Split(Split),
     /// Four files, one to a tributary, as the quarters of one
-    #[command(after_help = "Example:\n  spritbobbin join one two three four tributaries")]
+    #[command(after_help = below!(both, "join one two three four tributaries"))]
     Join(Join),
     /// The multiframe of 2048 kbit/s, place by place
-    #[command(after_help = "Example:\n  spritbobbin multiframe --svg multiframe.svg")]
+    #[command(after_help = below!(svg, "multiframe --svg multiframe.svg"))]
     Multiframe(Multiframe),
     /// Makes multiframes of channels, signalling and spare digits
-    #[command(after_help = "Example:\n  spritbobbin build channels signalling spare multiframes")]
+    #[command(after_help = below!(both, "build channels signalling spare multiframes"))]
     Build(Build),
     /// Takes multiframes apart
-    #[command(after_help = "Example:\n  spritbobbin apart multiframes channels signalling spare")]
+    #[command(after_help = below!(both, "apart multiframes channels signalling spare"))]
     Apart(Apart),
     /// Finds the frames of 2048 kbit/s in a recording
-    #[command(after_help = "Example:\n  spritbobbin hunt recording")]
+    #[command(after_help = below!(input, "hunt recording"))]
     Hunt(Hunt),
     /// Writes the completions of a shell to standard output
-    #[command(after_help = "Example:\n  spritbobbin completions bash > spritbobbin.bash")]
+    #[command(after_help = below!(none, "completions bash > spritbobbin.bash"))]
     Completions(Completions),
     /// Writes the manual page to standard output
     #[command(hide = true)]
@@ -150,7 +177,7 @@ pub struct By {
 
 #[derive(Debug, Args)]
 pub struct Finding {
-    /// The file is a recording begun anywhere: its frames are found first
+    /// LINE is a recording begun anywhere, of the level that is said: its frames are found first
     #[arg(long)]
     pub find: bool,
 }
@@ -212,7 +239,7 @@ pub struct Notes {
     pub of: OfLevel,
     /// The line, or a capture without --level
     pub line: PathBuf,
-    /// Writes the notes that are read
+    /// A file for the notes, a byte to a frame
     pub notes: Option<PathBuf>,
     #[command(flatten)]
     pub after: After,
@@ -262,7 +289,7 @@ pub struct Find {
 
 #[derive(Debug, Args)]
 pub struct Watch {
-    /// A level and its recording, up to 64
+    /// A level and a recording, up to 64 of them; 2=- reads standard input
     #[arg(required = true, value_name = "LEVEL=RECORDING")]
     pub lines: Vec<std::ffi::OsString>,
     /// Status 1 where a line is not aligned at its end
@@ -289,10 +316,10 @@ pub struct Judge {
     /// Writes the verdict as one page
     #[arg(long, value_name = "FILE.html")]
     pub page: Option<PathBuf>,
-    /// The site, for the page
+    /// The site, said with the verdict and on its page
     #[arg(long, value_name = "TEXT")]
     pub label: Option<String>,
-    /// Status 1 where a tributary is late, early, slipped, or fits no reading
+    /// Status 1 where a tributary is late, early or slipped, what was sent is not there, or no frame is found
     #[arg(long)]
     pub check: bool,
 }
@@ -335,7 +362,7 @@ pub struct Repair {
 pub struct Keep {
     #[command(flatten)]
     pub of: AtLevel,
-    /// The line, of up to 64 frames
+    /// The line, of up to 64 frames; with --find the first ones that follow one another are kept
     pub line: PathBuf,
     /// The capture that is made
     pub capture: PathBuf,
@@ -350,7 +377,7 @@ pub struct Keep {
 pub struct Show {
     /// The capture
     pub capture: PathBuf,
-    /// Writes its line
+    /// A file for its line
     pub line: Option<PathBuf>,
 }
 
@@ -358,16 +385,17 @@ pub struct Show {
 pub struct Compare {
     #[command(flatten)]
     pub of: OfLevel,
-    /// A capture, or a line with --level
+    /// A capture, or with --level a line
     pub one: PathBuf,
-    /// The other
+    /// The other, of the same kind
     pub other: PathBuf,
     /// Draws where they differ
     #[arg(long, value_name = "FILE")]
     pub svg: Option<PathBuf>,
-    #[command(flatten)]
-    pub finding: Finding,
-    /// Status 1 where they differ
+    /// Both are recordings begun anywhere, of the level that is said: their frames are found first
+    #[arg(long)]
+    pub find: bool,
+    /// Status 1 where they differ, or where --find finds no frames that are in both
     #[arg(long)]
     pub check: bool,
 }
@@ -384,7 +412,7 @@ pub struct Cut {
     /// The frame after the last, or its time
     #[arg(value_name = "TO")]
     pub to: String,
-    /// The line that is made
+    /// The line or capture that is made
     pub part: PathBuf,
     /// Makes a capture, of up to 64 frames
     #[arg(long)]
@@ -445,7 +473,7 @@ pub struct Build {
 
 #[derive(Debug, Args)]
 pub struct Apart {
-    /// Whole multiframes
+    /// Whole multiframes, or with --find a recording
     pub multiframes: PathBuf,
     /// 480 bytes to a multiframe
     pub channels: PathBuf,
@@ -460,7 +488,7 @@ pub struct Apart {
 
 #[derive(Debug, Args)]
 pub struct Hunt {
-    /// Digits of a line of 2048 kbit/s, begun anywhere
+    /// Digits of a line of 2048 kbit/s, begun anywhere; where a multiframe begins is not said of a pipe
     pub recording: PathBuf,
     /// Status 1 where frames were not found, or were lost
     #[arg(long)]

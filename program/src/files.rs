@@ -9,6 +9,7 @@ use std::collections::HashSet;
 use std::ffi::OsString;
 use std::fs::{self, File, Metadata, OpenOptions};
 use std::io::{self, ErrorKind, Read, Seek, SeekFrom, Write};
+use std::ops::Range;
 use std::os::unix::fs::{FileExt, MetadataExt};
 use std::path::{Path, PathBuf};
 use std::sync::mpsc::{channel, sync_channel, Receiver, SyncSender};
@@ -32,6 +33,15 @@ type Written<'a> = (&'a str, PathBuf, Option<(u64, u64)>);
 /// Looks at the names of a call before anything is read: no output may be a file that is read, by whatever name, and no
 /// file may be written twice. Each name comes with the word that the call has for it.
 pub fn distinct(inputs: &[(&str, &Path)], outputs: &[(&str, &Path)]) -> Result<(), Failure> {
+    let standard: Vec<_> = inputs.iter().filter(|(_, name)| is_standard(name)).collect();
+    if let [(one, name), (other, _), ..] = standard.as_slice() {
+        // A file that stands behind it can be read twice.
+        if regular(name, true).is_none() {
+            return Err(Failure::Call(format!(
+                "{one} and {other} are both standard input, which is read once: give one of them a name."
+            )));
+        }
+    }
     let read: Vec<_> =
         inputs.iter().filter_map(|(word, name)| Some((*word, regular(name, true)?))).collect();
     let mut written: Vec<Written<'_>> = Vec::new();
@@ -169,8 +179,132 @@ fn no_room(name: &Path, why: &io::Error) -> Failure {
     ))
 }
 
-/// The bytes of an output that are kept until they are written at once.
-const WAITING: usize = 256 * 1024;
+/// The bytes of an output that are kept until they are written at once: so many that handing them over costs little.
+const WAITING: usize = 1024 * 1024;
+
+/// The bytes of an input that are read at once, and those of its end that are read again with the next: as many as are wanted at a time.
+const WINDOW: u64 = 1024 * 1024;
+const AGAIN: u64 = 8 * 1024;
+
+/// Some bytes of an input that are read on and on: those that come next are read while those at hand are used.
+#[derive(Debug)]
+pub struct Window<'a> {
+    from: &'a Input,
+    /// Where its bytes begin in the input, and how many there are.
+    start: u64,
+    bytes: u64,
+    held: Vec<u8>,
+    /// The first byte that is held.
+    at: u64,
+    ahead: Option<Ahead>,
+}
+
+impl<'a> Window<'a> {
+    /// So many bytes from a place on.
+    pub fn new(from: &'a Input, start: u64, bytes: u64) -> Window<'a> {
+        Window { from, start, bytes, held: Vec::new(), at: 0, ahead: None }
+    }
+
+    pub fn bytes(&self) -> u64 {
+        self.bytes
+    }
+
+    /// The bytes from one on up to another.
+    pub fn get(&mut self, wanted: Range<u64>) -> Result<&[u8], Failure> {
+        if !self.holds(&wanted) {
+            let used = self.next()?;
+            let used = if self.holds(&wanted) { used } else { self.read(&wanted)? };
+            self.read_ahead(used)?;
+        }
+        let within =
+            |byte: u64| usize::try_from(byte.saturating_sub(self.at)).unwrap_or(usize::MAX);
+        Ok(self.held.get(within(wanted.start)..within(wanted.end)).unwrap_or_default())
+    }
+
+    fn end(&self) -> u64 {
+        self.at.saturating_add(self.held.len() as u64)
+    }
+
+    fn holds(&self, wanted: &Range<u64>) -> bool {
+        self.at <= wanted.start && wanted.end <= self.end()
+    }
+
+    /// Takes what was read ahead, if anything was, and answers what it held before.
+    fn next(&mut self) -> Result<Vec<u8>, Failure> {
+        let read = self.ahead.as_mut().and_then(Ahead::next);
+        let (at, bytes) = match read {
+            Some(read) => read.map_err(|why| self.from.unread(&why))?,
+            None => return Ok(Vec::new()),
+        };
+        self.at = at.saturating_sub(self.start);
+        Ok(std::mem::replace(&mut self.held, bytes))
+    }
+
+    /// Reads what is wanted and what comes behind it.
+    fn read(&mut self, wanted: &Range<u64>) -> Result<Vec<u8>, Failure> {
+        let count = WINDOW.max(wanted.end.saturating_sub(wanted.start));
+        let count = count.min(self.bytes.saturating_sub(wanted.start));
+        self.held.resize(usize::try_from(count).unwrap_or(0), 0);
+        self.at = wanted.start;
+        self.from.read_at(self.start.saturating_add(self.at), &mut self.held)?;
+        Ok(Vec::new())
+    }
+
+    /// Has what comes behind the bytes at hand read, into a vector that is no longer used.
+    fn read_ahead(&mut self, mut used: Vec<u8>) -> Result<(), Failure> {
+        if self.bytes <= self.end() {
+            return Ok(());
+        }
+        let first = self.end().saturating_sub(AGAIN).max(self.at);
+        let count = WINDOW.min(self.bytes.saturating_sub(first));
+        used.resize(usize::try_from(count).unwrap_or(0), 0);
+        let ahead = match self.ahead.take() {
+            Some(ahead) => ahead,
+            None => Ahead::new(&self.from.file).map_err(|why| self.from.unread(&why))?,
+        };
+        self.ahead = Some(ahead.ask(self.start.saturating_add(first), used));
+        Ok(())
+    }
+}
+
+/// Where bytes are read, and a vector that is filled with them.
+type Reading = (u64, Vec<u8>);
+
+/// A thread that reads; it ends with the sender.
+#[derive(Debug)]
+struct Ahead {
+    to: SyncSender<Reading>,
+    back: Receiver<io::Result<Reading>>,
+    asked: bool,
+}
+
+impl Ahead {
+    fn new(file: &File) -> io::Result<Ahead> {
+        let file = file.try_clone()?;
+        let (to, from) = sync_channel::<Reading>(1);
+        let (done, back) = sync_channel(1);
+        thread::spawn(move || {
+            for (at, mut bytes) in from {
+                let read = file.read_exact_at(&mut bytes, at).map(|()| (at, bytes));
+                if done.send(read).is_err() {
+                    break;
+                }
+            }
+        });
+        Ok(Ahead { to, back, asked: false })
+    }
+
+    fn ask(mut self, at: u64, bytes: Vec<u8>) -> Ahead {
+        self.asked = self.to.send((at, bytes)).is_ok();
+        self
+    }
+
+    /// What was asked for, if anything was.
+    fn next(&mut self) -> Option<io::Result<Reading>> {
+        let asked = std::mem::take(&mut self.asked);
+        asked.then(|| self.back.recv().unwrap_or_else(|_| Err(ErrorKind::Other.into())))
+    }
+}
 
 /// The bytes that are read or poured at a time: the most of a piece of a stream.
 pub const CHUNK: usize = spritbobbin::MOST_BYTES;
@@ -254,8 +388,9 @@ pub struct Output {
     name: PathBuf,
     file: File,
     target: Target,
-    /// What is to be written behind the first `at` bytes.
+    /// What is to be written behind the first `at` bytes: so many bytes.
     waiting: Vec<u8>,
+    filled: usize,
     at: u64,
     behind: Option<Behind>,
 }
@@ -328,7 +463,7 @@ impl Output {
 
     fn new(name: &Path, file: File, target: Target) -> Output {
         let (waiting, behind) = (Vec::new(), None);
-        Output { name: name.into(), file, target, waiting, at: 0, behind }
+        Output { name: name.into(), file, target, waiting, filled: 0, at: 0, behind }
     }
 
     /// An output that is never kept: frames that are found and read again.
@@ -346,23 +481,36 @@ impl Output {
 
     /// Writes the slice behind all that was appended before.
     pub fn append(&mut self, slice: &[u8]) -> Result<(), Failure> {
-        self.waiting.extend_from_slice(slice);
-        if self.waiting.len() < WAITING {
-            return Ok(());
+        for piece in slice.chunks(WAITING) {
+            self.room(piece.len())?.copy_from_slice(piece);
         }
-        let waiting = std::mem::take(&mut self.waiting);
-        let bytes = waiting.len();
-        self.waiting = self.write_behind(self.at, waiting, bytes)?;
-        self.waiting.clear();
-        self.at = self.at.saturating_add(bytes as u64);
         Ok(())
+    }
+
+    /// So many bytes behind all that was appended before, to be filled: no other has to be copied for them.
+    pub fn room(&mut self, bytes: usize) -> Result<&mut [u8], Failure> {
+        if self.waiting.len() < self.filled.saturating_add(bytes) {
+            if self.filled > 0 {
+                let (waiting, filled) = (std::mem::take(&mut self.waiting), self.filled);
+                self.waiting = self.write_behind(self.at, waiting, filled)?;
+                self.at = self.at.saturating_add(filled as u64);
+                self.filled = 0;
+            }
+            if self.waiting.len() < bytes.max(WAITING) {
+                self.waiting = vec![0; bytes.max(WAITING)];
+            }
+        }
+        let first = self.filled;
+        self.filled = first.saturating_add(bytes);
+        Ok(self.waiting.get_mut(first..self.filled).unwrap_or_default())
     }
 
     /// Writes what waits, and ends the writing behind.
     fn flush(&mut self) -> Result<(), Failure> {
         let waiting = std::mem::take(&mut self.waiting);
-        self.write_at(self.at, &waiting)?;
-        self.at = self.at.saturating_add(waiting.len() as u64);
+        self.write_at(self.at, waiting.get(..self.filled).unwrap_or_default())?;
+        self.at = self.at.saturating_add(self.filled as u64);
+        self.filled = 0;
         match self.behind.take().map_or(Ok(()), Behind::end) {
             Ok(()) => Ok(()),
             Err(why) => Err(Failure::not_whole(&self.name, &why)),

@@ -25,9 +25,12 @@ fn rate(level: Level) -> String {
     format!("{}{}", level.kilobits(), if level.looks_at_earlier() { "pzn" } else { "" })
 }
 
+/// The vote that is taken where the frame before is not known: before a line, and behind each gap of a recording.
+pub const UNKNOWN_VOTE: u8 = 0;
+
 /// The vote of the frame before the first, one bit to a tributary: 0 to 15, or a hexadecimal digit as in a note.
 pub fn earlier(level: Level, word: Option<&str>) -> Result<u8, Failure> {
-    let Some(word) = word else { return Ok(0) };
+    let Some(word) = word else { return Ok(UNKNOWN_VOTE) };
     let short = word.len() < 3 && word.bytes().all(|byte| byte.is_ascii_hexdigit());
     // What is written in decimal digits alone is decimal: 10 is ten.
     let decimal = || word.parse::<u8>().ok();

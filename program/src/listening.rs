@@ -14,12 +14,12 @@ use crate::runs::Line;
 /// What was heard: alignment found and lost at the first digit of the word that decides it, the alarm at the last digit of the stretch
 /// that decides it, and a frame, which begins at this digit.
 #[derive(Debug)]
-pub enum Heard {
+pub enum Heard<'a> {
     Found { digit: u64 },
     Lost { digit: u64 },
     AlarmBegins { digit: u64 },
     AlarmEnds { digit: u64 },
-    Frame { frame: Box<Frame>, digit: u64 },
+    Frame { frame: &'a Frame, digit: u64 },
 }
 
 /// What a recording came to.
@@ -35,7 +35,7 @@ pub fn listen(
     stream: &mut Stream,
     level: Level,
     saying: Saying,
-    mut heard: impl FnMut(Heard) -> Result<(), Failure>,
+    mut heard: impl FnMut(Heard<'_>) -> Result<(), Failure>,
 ) -> Result<Listened, Failure> {
     let mut receiver = Receiver::new(level);
     let progress = Progress::of(stream.bytes(), saying);
@@ -53,44 +53,57 @@ pub fn listen(
     }
 }
 
-/// Feeds a piece whose first digit has this number, up to each digit at which something can change, and answers the words tested.
+/// Feeds a piece whose first digit has this number, up to each digit at which more than one thing could change, and answers the words
+/// tested. An aligned receiver is fed up to a frame's last digit: of so few digits one word is judged and one stretch ends.
 fn feed(
     receiver: &mut Receiver,
     piece: &[u8],
     number: u64,
-    heard: &mut impl FnMut(Heard) -> Result<(), Failure>,
+    heard: &mut impl FnMut(Heard<'_>) -> Result<(), Failure>,
 ) -> Result<u64, Failure> {
     let all = usize::try_from(digits_in(piece.len() as u64)).unwrap_or(0);
-    let level = receiver.level();
-    let (frame_digits, word_digits) = (level.frame_digits() as u64, level.word_digits() as u64);
+    let (frame, word) = (receiver.level().frame_digits(), receiver.level().word_digits() as u64);
     let mut first: usize = 0;
     let mut words: u64 = 0;
     while first < all {
         let (aligned, alarm) = (receiver.is_aligned(), receiver.has_alarm());
-        let share = receiver.until_change().min(all.saturating_sub(first));
-        let taken = receiver.take(piece, first, share)?;
+        let share = if aligned { frame } else { receiver.until_change() };
+        // Where the word ends that is judged next.
+        let due = frame.saturating_sub(receiver.place()).saturating_add(first);
+        let taken = receiver.take(piece, first, share.min(all.saturating_sub(first)));
+        // A frame is long, and is not moved.
+        let taken = taken.as_ref().map_err(|refusal| Failure::from(*refusal))?;
         if taken.digits == 0 {
             break;
         }
         first = first.saturating_add(taken.digits);
         words = words.saturating_add(taken.words as u64);
         let digits = number.saturating_add(first as u64);
-        match (aligned, receiver.is_aligned()) {
+        let turn = match (aligned, receiver.is_aligned()) {
             (false, true) => {
-                let since = word_digits.saturating_add(receiver.place() as u64);
-                heard(Heard::Found { digit: digits.saturating_sub(since) })?;
+                let since = word.saturating_add(receiver.place() as u64);
+                Some((digits, Heard::Found { digit: digits.saturating_sub(since) }))
             }
-            (true, false) => heard(Heard::Lost { digit: digits.saturating_sub(word_digits) })?,
-            _ => {}
-        }
-        match (alarm, taken.alarm) {
-            (false, true) => heard(Heard::AlarmBegins { digit: digits.saturating_sub(1) })?,
-            (true, false) => heard(Heard::AlarmEnds { digit: digits.saturating_sub(1) })?,
-            _ => {}
-        }
-        if let Some(frame) = taken.frame {
-            let digit = digits.saturating_sub(frame_digits);
-            heard(Heard::Frame { frame: Box::new(frame), digit })?;
+            (true, false) => {
+                let end = number.saturating_add(due as u64);
+                Some((end, Heard::Lost { digit: end.saturating_sub(word) }))
+            }
+            _ => None,
+        };
+        // Stretches are cut from the recording's first digit on.
+        let stretch = digits.saturating_sub(digits.checked_rem(frame as u64).unwrap_or(0));
+        let ends = stretch.saturating_sub(1);
+        let alarm = match (alarm, taken.alarm) {
+            (false, true) => Some((stretch, Heard::AlarmBegins { digit: ends })),
+            (true, false) => Some((stretch, Heard::AlarmEnds { digit: ends })),
+            _ => None,
+        };
+        let mut turns: Vec<(u64, Heard<'_>)> = turn.into_iter().chain(alarm).collect();
+        turns.sort_by_key(|(decided, _)| *decided);
+        turns.into_iter().try_for_each(|(_, turn)| heard(turn))?;
+        if let Some(complete) = &taken.frame {
+            let digit = digits.saturating_sub(frame as u64);
+            heard(Heard::Frame { frame: complete, digit })?;
         }
     }
     Ok(words)
@@ -106,16 +119,17 @@ pub struct Stretch {
     pub frames: u64,
 }
 
-/// Adds a frame that begins at this digit to the stretches.
-pub fn add_frame(stretches: &mut Vec<Stretch>, level: Level, digit: u64) {
+/// Adds a frame that begins at this digit to the stretches, and answers whether it is behind a gap.
+pub fn add_frame(stretches: &mut Vec<Stretch>, level: Level, digit: u64) -> bool {
     let frame = level.frame_digits() as u64;
     let next = |one: &Stretch| one.digit.saturating_add(frame.saturating_mul(one.frames));
     if let Some(last) = stretches.last_mut().filter(|last| next(last) == digit) {
         last.frames = last.frames.saturating_add(1);
-        return;
+        return false;
     }
     let first = stretches.last().map_or(0, |last| last.first.saturating_add(last.frames));
     stretches.push(Stretch { digit, first, frames: 1 });
+    first > 0
 }
 
 /// The frames of a recording as a line, and where they were.
@@ -135,18 +149,6 @@ pub fn found(
         }
         Ok(())
     })?;
-    Ok((Line::of_input(frames.read_again()?, level, earlier)?, stretches))
-}
-
-/// A time of a recording at the level's nominal rate, in microseconds.
-pub fn microseconds(kilobits: u32, digit: u64) -> u64 {
-    let time = u128::from(digit).saturating_mul(1000) / u128::from(kilobits.max(1));
-    u64::try_from(time).unwrap_or(u64::MAX)
-}
-
-/// The same in seconds, as it is said.
-pub fn seconds(kilobits: u32, digit: u64) -> String {
-    let time = microseconds(kilobits, digit);
-    let (whole, rest) = (time / 1_000_000, time % 1_000_000);
-    format!("{whole}.{rest:06} s")
+    let line = Line::of_input(frames.read_again()?, level, earlier)?;
+    Ok((line.in_stretches(&stretches), stretches))
 }

@@ -21,6 +21,7 @@ mod files;
 mod level;
 mod listening;
 mod made;
+mod overlaps;
 mod page;
 mod pictures;
 mod places;
@@ -29,6 +30,7 @@ mod quarters;
 mod report;
 mod runs;
 mod stretches;
+mod times;
 mod totals;
 mod verdict;
 

@@ -6,20 +6,15 @@ use std::os::unix::fs::FileExt;
 use spritbobbin::{copy_digits, digits_in, span, whole_bytes};
 
 use crate::failure::Failure;
-use crate::files::{Input, Output};
+use crate::files::{Input, Output, Window};
 
-/// The bytes that are read or written at once.
+/// The bytes of a quarter that are written at once.
 const WINDOW: u64 = 256 * 1024;
 
 /// Digits that are read from some bytes of a file.
 #[derive(Debug)]
 pub struct DigitsIn<'a> {
-    from: &'a Input,
-    start: u64,
-    bytes: u64,
-    window: Vec<u8>,
-    /// The byte with which the window begins.
-    at: u64,
+    window: Window<'a>,
     /// The digits that were used.
     used: u64,
 }
@@ -27,7 +22,7 @@ pub struct DigitsIn<'a> {
 impl<'a> DigitsIn<'a> {
     /// Those of so many bytes from a place on.
     pub fn new(from: &'a Input, start: u64, bytes: u64) -> DigitsIn<'a> {
-        DigitsIn { from, start, bytes, window: Vec::new(), at: 0, used: 0 }
+        DigitsIn { window: Window::new(from, start, bytes), used: 0 }
     }
 
     /// The four quarters of a file.
@@ -38,19 +33,10 @@ impl<'a> DigitsIn<'a> {
 
     /// Puts the next so many digits at the begin of a slice. They are used only as [`used`](Self::used) says.
     pub fn fill(&mut self, to: &mut [u8], count: usize) -> Result<(), Failure> {
-        let left = digits_in(self.bytes).saturating_sub(self.used);
+        let left = digits_in(self.window.bytes()).saturating_sub(self.used);
         let count = usize::try_from(left).unwrap_or(usize::MAX).min(count);
         let wanted = span(self.used, count as u64);
-        let end = self.at.saturating_add(self.window.len() as u64);
-        if wanted.bytes.start < self.at || end < wanted.bytes.end {
-            let bytes = WINDOW.max(wanted.bytes.end.saturating_sub(wanted.bytes.start));
-            let bytes = bytes.min(self.bytes.saturating_sub(wanted.bytes.start));
-            self.window.resize(usize::try_from(bytes).unwrap_or(0), 0);
-            self.at = wanted.bytes.start;
-            self.from.read_at(self.start.saturating_add(self.at), &mut self.window)?;
-        }
-        let skipped = usize::try_from(wanted.bytes.start.saturating_sub(self.at)).unwrap_or(0);
-        let from = self.window.get(skipped..).unwrap_or_default();
+        let from = self.window.get(wanted.bytes)?;
         copy_digits(to, 0, from, usize::try_from(wanted.first).unwrap_or(0), count)?;
         Ok(())
     }

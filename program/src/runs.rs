@@ -23,6 +23,8 @@ pub struct Line {
     /// The label of a capture.
     pub label: Option<Vec<u8>>,
     pub captured: bool,
+    /// The frames before which frames are missing, where they were found in a recording.
+    gaps: Vec<u64>,
     from: From,
 }
 
@@ -38,6 +40,8 @@ pub struct Run<'a> {
     /// The number of the first.
     pub first: u64,
     pub line: &'a [u8],
+    /// Frames are missing before it: the vote before its first frame is not known.
+    pub behind_gap: bool,
 }
 
 impl Line {
@@ -82,17 +86,24 @@ impl Line {
         let (bytes, frame) = (input.bytes(), level.frame_bytes() as u64);
         let name = input.name().to_path_buf();
         if bytes.checked_rem(frame) != Some(0) {
+            let todo = match captures::is_one(&input)? {
+                true => "It is a capture: leave --level out, or write its line with show.",
+                false => {
+                    "In a recording begun anywhere find the frames first, with find or --find."
+                }
+            };
             return Err(Failure::refused(
                 2,
                 format!(
-                    "{} has {bytes} bytes, no whole number of frames; a frame of {level} has {frame} bytes.",
+                    "{} has {bytes} bytes, no whole number of frames; a frame of {level} has {frame} bytes. {todo}",
                     shown(&name)
                 ),
             ));
         }
         let frames = bytes / frame.max(1);
         let from = From::File(input);
-        Ok(Line { name, level, earlier, frames, label: None, captured: false, from })
+        let gaps = Vec::new();
+        Ok(Line { name, level, earlier, frames, label: None, captured: false, gaps, from })
     }
 
     fn of_capture(name: &Path, earlier: Option<&str>) -> Result<Line, Failure> {
@@ -105,8 +116,14 @@ impl Line {
     pub fn of_captured(name: &Path, captured: Captured) -> Line {
         let Captured { level, line, label } = captured;
         let frames = (line.len() / level.frame_bytes()) as u64;
-        let (name, from) = (name.into(), From::Memory(line));
-        Line { name, level, earlier: 0, frames, label, captured: true, from }
+        let (name, gaps, from) = (name.into(), Vec::new(), From::Memory(line));
+        Line { name, level, earlier: 0, frames, label, captured: true, gaps, from }
+    }
+
+    /// The same line, of frames that were found in these stretches.
+    pub fn in_stretches(self, stretches: &[Stretch]) -> Line {
+        let gaps = stretches.iter().skip(1).map(|stretch| stretch.first).collect();
+        Line { gaps, ..self }
     }
 
     /// The frames from this number on, as many as the slice has room for.
@@ -125,7 +142,7 @@ impl Line {
         }
     }
 
-    /// Hands on every frame in order, 64 at a time, and says how far it is.
+    /// Hands on every frame in order, at most 64 at a time and none together with one behind a gap, and says how far it is.
     pub fn runs(
         &self,
         saying: Saying,
@@ -139,14 +156,25 @@ impl Line {
             let count = self.frames.saturating_sub(first).min(AT_ONCE);
             room.resize(usize::try_from(count).unwrap_or(0).saturating_mul(frame), 0);
             self.read(first, &mut room)?;
-            for (k, line) in (0_u64..).zip(room.chunks(frame.saturating_mul(MOST_FRAMES).max(1))) {
-                let past = k.saturating_mul(MOST_FRAMES as u64);
-                each(Run { first: first.saturating_add(past), line })?;
+            let mut rest = room.as_slice();
+            while !rest.is_empty() {
+                let (behind_gap, most) = self.without_gap(first);
+                let (line, more) = rest.split_at(frame.saturating_mul(most).min(rest.len()));
+                each(Run { first, line, behind_gap })?;
+                first = first.saturating_add((line.len() / frame) as u64);
+                rest = more;
             }
-            first = first.saturating_add(count);
             progress.at(first.saturating_mul(frame as u64));
         }
         Ok(())
+    }
+
+    /// Whether this frame stands behind a gap, and how many from it on stand together, at most 64.
+    fn without_gap(&self, frame: u64) -> (bool, usize) {
+        let passed = self.gaps.partition_point(|gap| *gap <= frame);
+        let (passed, later) = self.gaps.split_at(passed);
+        let together = later.first().map_or(u64::MAX, |gap| gap.saturating_sub(frame));
+        (passed.last() == Some(&frame), in_run(together))
     }
 
     /// The bytes of all frames.

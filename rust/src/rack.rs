@@ -189,7 +189,9 @@ impl Rack {
 
     fn taken(&self, line: usize, answer: [u64; 4]) -> Result<Taken, Refusal> {
         match (self.record(line), self.levels.get(line)) {
-            (Some(record), Some(level)) => Ok(Taken::of(answer, Frame::of(*level, record.frame))),
+            (Some(record), Some(level)) => {
+                Ok(Taken::of(answer, || Frame::of(*level, &record.frame)))
+            }
             _ => Err(Refusal::RackLine { line, lines: self.lines }),
         }
     }

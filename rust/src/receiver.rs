@@ -248,7 +248,7 @@ impl Receiver {
     }
 
     fn taken(&self, answer: [u64; 4]) -> Taken {
-        Taken::of(answer, Frame::of(self.level, self.store))
+        Taken::of(answer, || Frame::of(self.level, &self.store))
     }
 
     /// The next frame that a piece completes from a digit on, which is moved past what was taken;
@@ -303,11 +303,14 @@ impl State {
 }
 
 impl Taken {
-    /// What the library's answer says, where the frame in hand is this one.
-    pub(crate) fn of([digits, ready, alarm, words]: [u64; 4], in_hand: Frame) -> Taken {
+    /// What the library's answer says, with the frame in hand, which is copied only where it is complete.
+    pub(crate) fn of(
+        [digits, ready, alarm, words]: [u64; 4],
+        in_hand: impl FnOnce() -> Frame,
+    ) -> Taken {
         Taken {
             digits: count(digits),
-            frame: (ready == 1).then_some(in_hand),
+            frame: (ready == 1).then(in_hand),
             alarm: alarm == 1,
             words: count(words),
         }
@@ -315,8 +318,8 @@ impl Taken {
 }
 
 impl Frame {
-    pub(crate) fn of(level: Level, store: [u8; STORE]) -> Frame {
-        Frame { level, store }
+    pub(crate) fn of(level: Level, store: &[u8; STORE]) -> Frame {
+        Frame { level, store: *store }
     }
 
     /// Its level.

@@ -3,15 +3,15 @@
 use std::path::Path;
 
 use serde::Serialize;
-use spritbobbin::{
-    compare_lines, compare_stretch, Differences, Level, NotCompared, MOST_FRAMES, MOST_LISTED,
-};
+use spritbobbin::{compare_lines, compare_stretch, Differences, Level, MOST_LISTED};
 
 use crate::captures;
 use crate::cli::Compare;
 use crate::commands::frame::differing;
 use crate::failure::Failure;
 use crate::files::{self, Output};
+use crate::listening;
+use crate::overlaps::{overlaps, unfit, Overlap};
 use crate::pictures::comparison::{draw, Comparison, Side, Stretch, MOST_DRAWN};
 use crate::places;
 use crate::progress::Progress;
@@ -35,6 +35,14 @@ struct Listed {
     tributary: usize,
 }
 
+/// Frames that were compared with as many of the other file, and the digits that differ.
+#[derive(Clone, Copy, Debug, Serialize)]
+struct Overlapping {
+    #[serde(flatten)]
+    frames: Overlap,
+    differing: u64,
+}
+
 #[derive(Debug, Serialize)]
 struct Compared {
     level: u64,
@@ -43,6 +51,11 @@ struct Compared {
     /// Of lines: how many frames the other begins later in the first; less than 0 where the first begins later in the other.
     #[serde(skip_serializing_if = "Option::is_none")]
     offset: Option<i64>,
+    /// Of recordings with gaps, in its place: which frames were compared, and how many were not, of each.
+    #[serde(skip_serializing_if = "Option::is_none")]
+    overlaps: Option<Vec<Overlapping>>,
+    #[serde(skip_serializing_if = "Option::is_none")]
+    not_compared: Option<[u64; 2]>,
     differing: u64,
     word: u64,
     remote_alarm: u64,
@@ -53,36 +66,55 @@ struct Compared {
 }
 
 pub fn run(call: Compare, mut saying: Saying) -> Result<u8, Failure> {
-    if let Some(svg) = &call.svg {
-        files::distinct(&[("ONE", &call.one), ("OTHER", &call.other)], &[("FILE", svg)])?;
-        saying.aside = files::any_standard(&[svg]);
-    }
-    let (one, other) = opened(&call, saying)?;
+    let outputs: Vec<_> = call.svg.as_deref().map(|svg| ("FILE", svg)).into_iter().collect();
+    files::distinct(&[("ONE", &call.one), ("OTHER", &call.other)], &outputs)?;
+    saying.aside = outputs.iter().any(|(_, svg)| files::any_standard(&[svg]));
+    let Opened { one, other, found } = opened(&call, saying)?;
     // What cannot be written is found out before it is all compared.
     let picture = call.svg.as_deref().map(Output::create).transpose()?;
-    let offset = match call.of.level {
-        Some(_) => Some(offset(&one, &other)?),
-        None => None,
+    let all = match call.of.level {
+        Some(_) => overlaps(&one, found.0.as_deref(), &other, found.1.as_deref())?,
+        None => vec![Overlap { first: 0, first_other: 0, frames: one.frames }],
     };
-    let pair = Pair::new(&one, &other, offset.unwrap_or(0));
+    let gaps = [&found.0, &found.1].iter().any(|found| found.as_ref().map_or(0, Vec::len) > 1);
+    let pair = Pair { one: &one, other: &other, overlaps: all };
     let mut compared = pair.compared(saying)?;
-    compared.offset = offset;
+    // Where nothing is compared there is no offset.
+    let nothing = call.find && compared.frames == 0;
+    if gaps || nothing {
+        let left = |line: &Line| line.frames.saturating_sub(compared.frames);
+        compared.not_compared = Some([left(&one), left(&other)]);
+    } else {
+        compared.overlaps = None;
+        let offset = pair.overlaps.first().map_or(0, Overlap::offset);
+        compared.offset = call.of.level.as_ref().map(|_| offset);
+    }
     if let Some(mut picture) = picture {
         picture.append(pair.drawn(&compared)?.as_bytes())?;
         compared.written = files::keep(vec![picture])?;
     }
     saying.say(&compared)?;
-    Ok(u8::from(call.check && compared.differing > 0))
+    Ok(u8::from(call.check && (compared.differing > 0 || nothing)))
+}
+
+/// Where the frames of a recording were.
+type Found = Option<Vec<listening::Stretch>>;
+
+/// Both lines, and where their frames were found.
+struct Opened {
+    one: Line,
+    other: Line,
+    found: (Found, Found),
 }
 
 /// Both lines: of two captures of one level and length, or of two files of the level that is said.
-fn opened(call: &Compare, saying: Saying) -> Result<(Line, Line), Failure> {
+fn opened(call: &Compare, saying: Saying) -> Result<Opened, Failure> {
     if let Some(word) = call.of.level.as_deref() {
-        let open =
-            |name: &Path| Line::open_or_find(name, Some(word), None, call.finding.find, saying);
-        return Ok((open(&call.one)?.0, open(&call.other)?.0));
+        let open = |name: &Path| Line::open_or_find(name, Some(word), None, call.find, saying);
+        let ((one, found), (other, found_other)) = (open(&call.one)?, open(&call.other)?);
+        return Ok(Opened { one, other, found: (found, found_other) });
     }
-    if call.finding.find {
+    if call.find {
         return Err(Failure::Call(
             "--find wants --level: a recording does not say its own.".into(),
         ));
@@ -108,108 +140,54 @@ fn opened(call: &Compare, saying: Saying) -> Result<(Line, Line), Failure> {
             format!("the line of {first} has this many bytes: {a}, that of {second}: {b}; give two captures of as many frames.");
         return Err(Failure::refused(2, text));
     }
-    Ok((Line::of_captured(&call.one, one), Line::of_captured(&call.other, other)))
+    let (one, other) = (Line::of_captured(&call.one, one), Line::of_captured(&call.other, other));
+    Ok(Opened { one, other, found: (None, None) })
 }
 
-/// The most frames by which the lines are shifted against each other.
-const MOST_OFFSET: u64 = 1024;
-
-/// The offset in whole frames at which the fewest digits differ in as many frames as are compared for it, at most 64; of two offsets with as
-/// many the nearer one to none, and the first file's first.
-fn offset(one: &Line, other: &Line) -> Result<i64, Failure> {
-    let sample = one.frames.min(other.frames).min(MOST_FRAMES as u64);
-    let bytes = usize::try_from(sample).unwrap_or(0).saturating_mul(one.level.frame_bytes());
-    let (mut begin, mut begin_other) = (vec![0; bytes], vec![0; bytes]);
-    one.read(0, &mut begin)?;
-    other.read(0, &mut begin_other)?;
-    let mut best = (counted(one.level, &begin, &begin_other)?, 0);
-    let mut shifted = vec![0; bytes];
-    for frames in 1..=MOST_OFFSET {
-        if best.0 == 0 {
-            break;
-        }
-        let later = |line: &Line| frames.saturating_add(sample) <= line.frames;
-        let signed = i64::try_from(frames).unwrap_or(0);
-        if later(one) {
-            one.read(frames, &mut shifted)?;
-            best = least(best, (counted(one.level, &shifted, &begin_other)?, signed));
-        }
-        if later(other) {
-            other.read(frames, &mut shifted)?;
-            best = least(best, (counted(one.level, &begin, &shifted)?, signed.saturating_neg()));
-        }
-    }
-    Ok(best.1)
-}
-
-fn least(one: (u64, i64), other: (u64, i64)) -> (u64, i64) {
-    if other.0 < one.0 {
-        other
-    } else {
-        one
-    }
-}
-
-fn counted(level: Level, one: &[u8], other: &[u8]) -> Result<u64, Failure> {
-    Ok(compare_lines(level, one, other).map_err(unfit)?.all as u64)
-}
-
-fn unfit(why: NotCompared) -> Failure {
-    Failure::refused(2, format!("{why}."))
-}
-
-/// Two lines from the frames on that are held against each other.
+/// Two lines, and which frames are held against each other.
 struct Pair<'a> {
     one: &'a Line,
     other: &'a Line,
-    first: u64,
-    first_other: u64,
-    frames: u64,
+    overlaps: Vec<Overlap>,
 }
 
-impl<'a> Pair<'a> {
-    fn new(one: &'a Line, other: &'a Line, offset: i64) -> Pair<'a> {
-        let first = u64::try_from(offset).unwrap_or(0);
-        let first_other = u64::try_from(offset.saturating_neg()).unwrap_or(0);
-        let left = |line: &Line, first: u64| line.frames.saturating_sub(first);
-        let frames = left(one, first).min(left(other, first_other));
-        Pair { one, other, first, first_other, frames }
-    }
-
-    /// So many frames of both, from this one of the pair on.
-    fn read(&self, frame: u64, count: usize) -> Result<(Vec<u8>, Vec<u8>), Failure> {
+impl Pair<'_> {
+    /// So many frames of both, from this one of an overlap on.
+    fn read(
+        &self,
+        overlap: &Overlap,
+        frame: u64,
+        count: usize,
+    ) -> Result<(Vec<u8>, Vec<u8>), Failure> {
         let bytes = self.one.level.frame_bytes().saturating_mul(count);
         let (mut one, mut other) = (vec![0; bytes], vec![0; bytes]);
-        self.one.read(self.first.saturating_add(frame), &mut one)?;
-        self.other.read(self.first_other.saturating_add(frame), &mut other)?;
+        self.one.read(overlap.first.saturating_add(frame), &mut one)?;
+        self.other.read(overlap.first_other.saturating_add(frame), &mut other)?;
         Ok((one, other))
     }
 
     fn compared(&self, saying: Saying) -> Result<Compared, Failure> {
         let level = self.one.level;
-        let mut all = Compared {
-            level: level.number(),
-            kilobits: level.kilobits(),
-            frames: self.frames,
-            offset: None,
-            differing: 0,
-            word: 0,
-            remote_alarm: 0,
-            national: 0,
-            tributaries: [OfTributary::default(); 4],
-            first: Vec::new(),
-            written: Vec::new(),
-        };
+        let mut all = Compared::none(level);
+        let mut listed = Vec::new();
         let progress = Progress::of(Some(self.one.bytes()), saying);
-        let mut frame = 0;
-        while frame < self.frames {
-            let count = in_run(self.frames.saturating_sub(frame));
-            let (one, other) = self.read(frame, count)?;
-            let found = compare_lines(level, &one, &other).map_err(unfit)?;
-            all.add(level, self.first.saturating_add(frame), &found)?;
-            frame = frame.saturating_add(count as u64);
-            progress.at(frame.saturating_mul(level.frame_bytes() as u64));
+        for overlap in &self.overlaps {
+            let before = all.differing;
+            let mut frame = 0;
+            while frame < overlap.frames {
+                let count = in_run(overlap.frames.saturating_sub(frame));
+                let (one, other) = self.read(overlap, frame, count)?;
+                let found = compare_lines(level, &one, &other).map_err(unfit)?;
+                all.add(level, overlap.first.saturating_add(frame), &found)?;
+                frame = frame.saturating_add(count as u64);
+                let number = overlap.first.saturating_add(frame);
+                progress.at(number.saturating_mul(level.frame_bytes() as u64));
+            }
+            all.frames = all.frames.saturating_add(overlap.frames);
+            let differing = all.differing.saturating_sub(before);
+            listed.push(Overlapping { frames: *overlap, differing });
         }
+        all.overlaps = Some(listed);
         Ok(all)
     }
 
@@ -217,11 +195,13 @@ impl<'a> Pair<'a> {
     fn drawn(&self, compared: &Compared) -> Result<String, Failure> {
         let level = self.one.level;
         let named = places::all(level)?;
-        let drawn = self.frames.min(MOST_DRAWN);
-        let mut stretches = Vec::new();
-        for frame in 0..drawn {
-            let (one, other) = self.read(frame, 1)?;
-            let number = self.first.saturating_add(frame);
+        let (mut stretches, mut drawn) = (Vec::new(), Vec::new());
+        let frames =
+            self.overlaps.iter().flat_map(|one| (0..one.frames).map(move |frame| (one, frame)));
+        for (overlap, frame) in frames.take(MOST_DRAWN) {
+            let (one, other) = self.read(overlap, frame, 1)?;
+            let number = overlap.first.saturating_add(frame);
+            drawn.push(number);
             let mut put = |place: usize, count: usize| {
                 stretches.push(Stretch { frame: number, place: place as u64, count: count as u64 });
             };
@@ -234,10 +214,9 @@ impl<'a> Pair<'a> {
             places: &places,
             one: side(self.one),
             other: side(self.other),
-            frames: self.frames,
+            frames: compared.frames,
             differ: compared.differing,
-            first: self.first,
-            drawn,
+            drawn: &drawn,
             words: compared.word,
             alarms: compared.remote_alarm,
             services: compared.national,
@@ -277,6 +256,24 @@ fn halved(
 }
 
 impl Compared {
+    fn none(level: Level) -> Compared {
+        Compared {
+            level: level.number(),
+            kilobits: level.kilobits(),
+            frames: 0,
+            offset: None,
+            overlaps: None,
+            not_compared: None,
+            differing: 0,
+            word: 0,
+            remote_alarm: 0,
+            national: 0,
+            tributaries: [OfTributary::default(); 4],
+            first: Vec::new(),
+            written: Vec::new(),
+        }
+    }
+
     /// Adds the differences of frames from this one on.
     fn add(&mut self, level: Level, first: u64, found: &Differences) -> Result<(), Failure> {
         let add = |sum: &mut u64, more: usize| *sum = sum.saturating_add(more as u64);
@@ -313,6 +310,7 @@ impl Report for Compared {
                 format!("frame offset: frame {frame} of the {side} file is frame 0 of the other\n")
             }
         };
+        text += &self.overlaps_text();
         text += &format!("differing digits: {differing}\n");
         if *differing > 0 {
             text += &self.table();
@@ -322,6 +320,25 @@ impl Report for Compared {
 }
 
 impl Compared {
+    /// Which frames were compared, where there is more to say than one offset.
+    fn overlaps_text(&self) -> String {
+        let mut text = String::new();
+        for Overlapping { frames, differing } in self.overlaps.iter().flatten() {
+            let Overlap { first, first_other, frames } = frames;
+            let last = |first: &u64| first.saturating_add(*frames).saturating_sub(1);
+            let (end, end_other) = (last(first), last(first_other));
+            text += &format!(
+                "frames {first} to {end} of the first file are frames {first_other} to {end_other} of the second, \
+                 differing digits: {differing}\n"
+            );
+        }
+        if let Some([one, other]) = self.not_compared {
+            text +=
+                &format!("frames not compared: {one} of the first file, {other} of the second\n");
+        }
+        text
+    }
+
     /// The sums by kind, and the first places.
     fn table(&self) -> String {
         let mut text = format!(

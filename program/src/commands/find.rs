@@ -12,9 +12,10 @@ use crate::commands::send::quarter;
 use crate::failure::Failure;
 use crate::files::{self, Output, Stream};
 use crate::level;
-use crate::listening::{add_frame, listen, microseconds, seconds, Heard, Stretch};
+use crate::listening::{add_frame, listen, Heard, Stretch};
 use crate::report::{written, Report, Saying, Telling};
-use crate::stretches;
+use crate::stretches::{self, unknown_text, votes_unknown};
+use crate::times::{microseconds, time};
 use crate::totals::Counted;
 
 /// Where something changes.
@@ -38,6 +39,8 @@ struct Found {
     #[serde(skip_serializing_if = "Option::is_none")]
     words_missed: Option<u8>,
     stretches: Vec<Stretch>,
+    #[serde(skip_serializing_if = "Vec::is_empty")]
+    votes_unknown: Vec<u64>,
     written: Vec<String>,
     #[serde(skip)]
     level: Level,
@@ -113,6 +116,7 @@ pub fn run(call: Find, saying: Saying) -> Result<u8, Failure> {
         words_tested: listened.words,
         mode,
         words_missed,
+        votes_unknown: votes_unknown(of, Some(&held.stretches), call.after.earlier.is_some()),
         stretches: held.stretches,
         written,
         level: of,
@@ -131,7 +135,10 @@ fn ended(prefix: &Path, ending: &str) -> PathBuf {
 impl Held {
     /// Holds a frame; 64 frames are taken apart at once.
     fn hold(&mut self, of: Level, frame: &[u8], digit: u64) -> Result<(), Failure> {
-        add_frame(&mut self.stretches, of, digit);
+        if add_frame(&mut self.stretches, of, digit) {
+            self.flush()?;
+            self.apart.behind_gap();
+        }
         self.frames.extend_from_slice(frame);
         if self.frames.len() < of.frame_bytes().saturating_mul(MOST_FRAMES) {
             return Ok(());
@@ -155,7 +162,7 @@ fn length(of: Level, bytes: u64) -> String {
 }
 
 /// Says where alignment is found and lost, and where the alarm begins and ends.
-fn say(telling: &mut Telling, of: Level, heard: &Heard) -> Result<(), Failure> {
+fn say(telling: &mut Telling, of: Level, heard: &Heard<'_>) -> Result<(), Failure> {
     let (event, digit, why) = match *heard {
         Heard::Found { digit } => {
             ("found", digit, "the third good word in a row, and the first frame handed over")
@@ -175,7 +182,7 @@ fn say(telling: &mut Telling, of: Level, heard: &Heard) -> Result<(), Failure> {
         ),
         Heard::Frame { .. } => return Ok(()),
     };
-    let time = seconds(of.kilobits(), digit);
+    let time = time(of.kilobits(), digit);
     telling.text(&format!("{event} at digit {digit} ({time}): {why}\n"))?;
     telling.item(&Turn { event, digit, microseconds: microseconds(of.kilobits(), digit) })
 }
@@ -207,6 +214,6 @@ impl Report for Found {
         if !self.written.is_empty() && !self.stretches.is_empty() {
             text += &stretches::text(self.level, Some(&self.stretches));
         }
-        text + &written(&self.written)
+        text + &unknown_text(&self.votes_unknown) + &written(&self.written)
     }
 }

@@ -8,9 +8,9 @@ use spritbobbin::{
 use crate::cli::Hunt;
 use crate::failure::Failure;
 use crate::files::{Input, Stream, CHUNK};
-use crate::listening::{microseconds, seconds};
 use crate::progress::Progress;
 use crate::report::{Report, Saying, Telling};
+use crate::times::{microseconds, time};
 
 const KILOBITS: u32 = 2048;
 
@@ -103,7 +103,7 @@ fn say(telling: &mut Telling, before: u64, turn: Turn) -> Result<(), Failure> {
         Turn::Lost { digits } => ("lost", digits, "the third wrong word in a row"),
     };
     let digit = before.saturating_add(digits as u64).saturating_sub(WORD);
-    let time = seconds(KILOBITS, digit);
+    let time = time(KILOBITS, digit);
     telling.text(&format!("{event} at digit {digit} ({time}): {why}\n"))?;
     telling.item(&Event { event, digit, microseconds: microseconds(KILOBITS, digit) })
 }
@@ -121,7 +121,7 @@ fn say_start(telling: &mut Telling, input: &Input, first: u64) -> Result<(), Fai
             })
         }
         Start::At(digit) => {
-            let time = seconds(KILOBITS, digit);
+            let time = time(KILOBITS, digit);
             telling
                 .text(&format!("multiframe begins at digit {digit} ({time}): 0000 in byte 16\n"))?;
             telling.item(&Event {

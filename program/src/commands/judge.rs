@@ -16,10 +16,11 @@ use crate::page::{self, Named, Page};
 use crate::progress::Progress;
 use crate::report::{quoted, shown, written, Report, Saying};
 use crate::runs::Line;
+use crate::times::time;
 use crate::verdict::clock::Clock;
 use crate::verdict::engine::{Engine, Judged};
 use crate::verdict::finding::{Finding, Stretch};
-use crate::verdict::numbers::{grouped, ratio, so_many, time};
+use crate::verdict::numbers::{grouped, ratio, so_many};
 use crate::verdict::sent::SentFile;
 use crate::verdict::slips::Slip;
 use crate::verdict::words::{answer, Answer, Known};
@@ -97,6 +98,13 @@ fn room_for(name: &Path, level: Level, frames: u64) -> Result<SentFile, Failure>
     let input = Input::open(name)?;
     let wanted = spritbobbin::span(0, frames.saturating_mul(level.room_digits() as u64)).bytes.end;
     let (bytes, quarter) = (input.bytes(), input.bytes() / 4);
+    if bytes % 4 != 0 && frames == 0 {
+        let name = shown(name);
+        return Err(Failure::refused(
+            4,
+            format!("{name} has {bytes} bytes, no four equal quarters."),
+        ));
+    }
     if bytes % 4 != 0 || quarter < wanted {
         return Err(Failure::refused(
             4,
@@ -357,7 +365,7 @@ impl Verdict {
             self.level.number(),
             self.level.kilobits(),
             so_many(self.frames(), "frame"),
-            time(self.digits(self.frames()), self.level.kilobits()),
+            time(self.level.kilobits(), self.digits(self.frames())),
             self.level.kilobits()
         )
     }
@@ -386,7 +394,7 @@ impl Verdict {
                 "stretch of {} from digit {}, {}",
                 so_many(judged.frames, "frame"),
                 grouped(stretch.digit),
-                time(stretch.digit, self.level.kilobits())
+                time(self.level.kilobits(), stretch.digit)
             ));
             if let Some(begins) = stretch.begins {
                 text.push_str(&format!(

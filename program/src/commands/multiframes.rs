@@ -8,9 +8,9 @@ use crate::cli::{Apart, Build};
 use crate::commands::hunt::{multiframe_at, start, Start, WORD};
 use crate::failure::Failure;
 use crate::files::{self, Input, Output, CHUNK};
-use crate::listening::seconds;
 use crate::progress::Progress;
 use crate::report::{shown, written, Report, Saying};
+use crate::times::time;
 
 const CHANNELS: usize = 480;
 const SIGNALLING: usize = 15;
@@ -41,7 +41,7 @@ impl Report for Done {
             let Stretch { digit, multiframes } = one;
             format!(
                 "{multiframes} multiframes from digit {digit} of the recording on ({})\n",
-                seconds(2048, *digit)
+                time(2048, *digit)
             )
         };
         let stretches: String = self.stretches.iter().flatten().map(found).collect();

@@ -7,9 +7,10 @@ use crate::acts::{Act, Acts};
 use crate::cli::Notes;
 use crate::failure::Failure;
 use crate::files::{self, Output};
+use crate::level::UNKNOWN_VOTE;
 use crate::report::{written, Report, Saying, Telling};
 use crate::runs::Line;
-use crate::stretches;
+use crate::stretches::{self, unknown_text};
 use crate::totals::{Counted, Totals};
 
 /// The row of a frame.
@@ -56,6 +57,11 @@ pub fn run(call: Notes, mut saying: Saying) -> Result<u8, Failure> {
     if let Some(found) = &found {
         telling.field("stretches", found)?;
     }
+    let votes_unknown = stretches::votes_unknown(line.level, found.as_deref(), earlier.is_some());
+    if !votes_unknown.is_empty() {
+        telling.text(&unknown_text(&votes_unknown))?;
+        telling.field("votes_unknown", &votes_unknown)?;
+    }
     telling.text(head(line.level))?;
     telling.list("rows")?;
     let mut totals = Totals::of_level(line.level);
@@ -64,6 +70,9 @@ pub fn run(call: Notes, mut saying: Saying) -> Result<u8, Failure> {
     // The table itself says how far it is.
     let silent = Saying { quiet: true, ..saying };
     line.runs(silent, |run| {
+        if run.behind_gap {
+            before = UNKNOWN_VOTE;
+        }
         for (frame, one) in (run.first..).zip(run.line.chunks(line.level.frame_bytes())) {
             let mut note = [0];
             let noted = read_notes(line.level, one, &mut note)?;

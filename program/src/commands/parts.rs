@@ -9,11 +9,12 @@ use crate::captures;
 use crate::cli::{Cut, Join, Split};
 use crate::failure::Failure;
 use crate::files::{self, Input, Output, CHUNK};
-use crate::listening::{microseconds, seconds, Stretch};
+use crate::listening::Stretch;
 use crate::made::Made;
 use crate::report::{shown, written, Report, Saying};
 use crate::runs::Line;
 use crate::stretches;
+use crate::times::{microseconds, time};
 
 #[derive(Serialize)]
 struct CutOut {
@@ -84,7 +85,7 @@ pub fn cut(call: Cut, mut saying: Saying) -> Result<u8, Failure> {
     let (level, kilobits) = (line.level.number(), line.level.kilobits());
     let digit = from.saturating_mul(line.level.frame_digits() as u64);
     let text = stretches::text(line.level, found.as_deref());
-    let (microseconds, time) = (microseconds(kilobits, digit), seconds(kilobits, digit));
+    let (microseconds, time) = (microseconds(kilobits, digit), time(kilobits, digit));
     saying.say(&CutOut {
         level,
         kilobits,
@@ -116,6 +117,8 @@ fn place(word: &str, level: Level) -> Result<u64, Failure> {
         return Err(wrong());
     }
     let nanoseconds: u128 = format!("{whole}{rest:0<9}").parse().map_err(|_| wrong())?;
+    // Times are said to the nearest microsecond: one that was rounded up is still that of its frame.
+    let nanoseconds = nanoseconds.saturating_sub(500);
     // kbit/s are digits in a millisecond.
     let digits = nanoseconds.saturating_mul(u128::from(level.kilobits())) / 1_000_000;
     let frame = level.frame_digits() as u128;
@@ -204,4 +207,23 @@ fn copied(
         at = at.saturating_add(count);
     }
     Ok(())
+}
+
+#[cfg(test)]
+mod tests {
+    use super::*;
+
+    #[test]
+    fn a_time_that_was_said_is_that_of_its_frame() {
+        for level in Level::ALL {
+            for frame in [0, 1, 2, 100, 101, 12_345, 1_234_567] {
+                let digit = frame * level.frame_digits() as u64;
+                let said = microseconds(level.kilobits(), digit);
+                let word = format!("{}.{:06}s", said / 1_000_000, said % 1_000_000);
+                assert_eq!(place(&word, level).ok(), Some(frame), "{word} at {level}");
+                let later = format!("{}.{:06}s", (said + 1) / 1_000_000, (said + 1) % 1_000_000);
+                assert_eq!(place(&later, level).ok(), Some(frame + 1), "{later} at {level}");
+            }
+        }
+    }
 }

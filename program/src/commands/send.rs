@@ -5,7 +5,7 @@ use spritbobbin::{vote_after, whole_bytes, Level, Refusal, MOST_FRAMES};
 
 use crate::cli::Send;
 use crate::failure::Failure;
-use crate::files::{self, Input, Output};
+use crate::files::{self, Input, Output, Window};
 use crate::level;
 use crate::progress::Progress;
 use crate::quarters::DigitsIn;
@@ -85,24 +85,21 @@ fn frames(
 ) -> Result<(), Stopped> {
     let mut quarters = DigitsIn::quarters(tributaries);
     let mut buffer = vec![0; of.buffer_bytes(MOST_FRAMES)];
-    let mut made = vec![0; of.frame_bytes().saturating_mul(MOST_FRAMES)];
-    let mut few = [0; MOST_FRAMES];
+    let mut window = Window::new(notes, 0, notes.bytes());
     let progress = Progress::of(Some(tributaries.bytes()), saying);
     let mut first: u64 = 0;
     while first < notes.bytes() {
         let count = in_run(notes.bytes().saturating_sub(first));
-        let few = few.get_mut(..count).unwrap_or_default();
-        notes.read_at(first, few)?;
+        let few = window.get(first..first.saturating_add(count as u64))?;
         let buffer = buffer.get_mut(..of.buffer_bytes(count)).unwrap_or_default();
         let wanted = of.room_digits().saturating_mul(count);
         for (digits, to) in quarters.iter_mut().zip(buffer.chunks_mut(of.quarter_bytes(count))) {
             digits.fill(to, wanted)?;
         }
-        let made = made.get_mut(..of.frame_bytes().saturating_mul(count)).unwrap_or_default();
+        let made = line.room(of.frame_bytes().saturating_mul(count))?;
         let sent = call.by.engine.multiplex(of, earlier, made, few, buffer);
         let sent = sent.map_err(|refusal| Stopped::Refused(refusal, first))?;
         quarters.iter_mut().zip(sent.digits).for_each(|(digits, count)| digits.used(count));
-        line.append(made)?;
         totals.add(earlier, few, sent.digits);
         earlier = vote_after(earlier, few);
         first = first.saturating_add(count as u64);

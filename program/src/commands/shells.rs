@@ -38,8 +38,10 @@ fn page(program: &mut Command) -> String {
          the multiframe of 2048 kbit/s.\n\
          No digit is read, moved or judged outside a library\n\
          whose every answer is proved.\n.Pp\n\
-         A file without\n.Fl -level\nis a capture, which says its own level.\nThe file\n.Ar \\-\n\
-         is standard input or output; what is said then goes to standard error.\n.Sh COMMANDS\n",
+         A file without\n.Fl -level\nis a capture, which says its own level.\n.Pp\n\
+         .Sq \\-\nin place of a file that is read is standard input, in place of one that is\nwritten standard output.\n\
+         What a command says goes to standard output, or to standard error where an\noutput is\n.Sq \\- .\n\
+         Refusals, failures and, on a terminal, how far it is go to standard error.\n.Sh COMMANDS\n",
     );
     page = page.replace("$Mdocdate$", "November 17, 2026");
     for command in program.get_subcommands().filter(|one| !one.is_hide_set()) {
@@ -47,8 +49,8 @@ fn page(program: &mut Command) -> String {
             page += &section(command);
         }
     }
-    page + ".Sh EXIT STATUS\n.Bl -tag -width 3n\n.It 0\naccepted\n.It 1\nrefused, with the refusal's number on standard error; with\n\
-            .Fl -check ,\nlate, slipped, differing or not found\n.It 2\nwrong call\n.It 3\na file could not be read or written\n.El\n"
+    page + ".Sh EXIT STATUS\n.Bl -tag -width 3n\n.It 0\ndone\n.It 1\nrefused, with the refusal's number on standard error; with\n\
+            .Fl -check ,\nan answer that is not good\n.It 2\nwrong call\n.It 3\na file could not be read or written\n.El\n"
 }
 
 fn section(command: &Command) -> String {

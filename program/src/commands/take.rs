@@ -10,7 +10,7 @@ use crate::files::{self, Output};
 use crate::listening::Stretch;
 use crate::report::{written, Report, Saying};
 use crate::runs::Line;
-use crate::stretches;
+use crate::stretches::{self, unknown_text};
 use crate::totals::Counted;
 
 #[derive(Serialize)]
@@ -19,6 +19,8 @@ struct Taken {
     counted: Counted,
     #[serde(skip_serializing_if = "Option::is_none")]
     stretches: Option<Vec<Stretch>>,
+    #[serde(skip_serializing_if = "Vec::is_empty")]
+    votes_unknown: Vec<u64>,
     written: Vec<String>,
     #[serde(skip)]
     found: String,
@@ -49,10 +51,17 @@ pub fn run(call: Take, mut saying: Saying) -> Result<u8, Failure> {
     let bytes = quarter(line.level, line.frames);
     let apart = Apart::new(line.level, line.earlier, call.by.engine);
     let mut apart = apart.into(notes, tributaries, Some(bytes))?;
-    line.runs(saying, |run| apart.run(run.line))?;
+    line.runs(saying, |run| {
+        if run.behind_gap {
+            apart.behind_gap();
+        }
+        apart.run(run.line)
+    })?;
     let (totals, outputs) = apart.outputs(bytes)?;
     let written = files::keep(outputs)?;
-    let text = stretches::text(line.level, found.as_deref());
-    saying.say(&Taken { counted: totals.taken(), stretches: found, written, found: text })?;
+    let votes_unknown = stretches::votes_unknown(line.level, found.as_deref(), earlier.is_some());
+    let text = stretches::text(line.level, found.as_deref()) + &unknown_text(&votes_unknown);
+    let counted = totals.taken();
+    saying.say(&Taken { counted, stretches: found, votes_unknown, written, found: text })?;
     Ok(0)
 }

@@ -13,7 +13,7 @@ use spritbobbin::{digits_in, read_notes, Frame, Level, Receiver, MOST_LINES};
 
 use crate::cli::Watch;
 use crate::failure::Failure;
-use crate::files::{Stream, CHUNK};
+use crate::files::{self, Stream, CHUNK};
 use crate::level;
 use crate::report::{shown, Report, Saying};
 
@@ -68,8 +68,11 @@ pub fn run(call: Watch, saying: Saying) -> Result<u8, Failure> {
     }
     let asked: Result<Vec<(Level, PathBuf)>, Failure> =
         call.lines.iter().map(|word| asked(word)).collect();
+    let asked = asked?;
+    let names: Vec<_> = asked.iter().map(|(_, name)| ("RECORDING", name.as_path())).collect();
+    files::distinct(&names, &[])?;
     let mut streams = Vec::new();
-    for (line, (level, name)) in asked?.into_iter().enumerate() {
+    for (line, (level, name)) in asked.into_iter().enumerate() {
         streams.push((line, level, Stream::open(&name)?));
     }
     let mut lines = all(streams)?;
@@ -157,9 +160,9 @@ fn at_its_end(line: usize, level: Level, mut stream: Stream) -> Result<AtItsEnd,
             }
             first = first.saturating_add(taken.digits);
             end.words_tested = end.words_tested.saturating_add(taken.words as u64);
-            if let Some(frame) = taken.frame {
+            if let Some(frame) = &taken.frame {
                 end.frames = end.frames.saturating_add(1);
-                end.dissent = end.dissent.saturating_add(dissent(&frame)?);
+                end.dissent = end.dissent.saturating_add(dissent(frame)?);
             }
         }
     }

@@ -5,8 +5,9 @@
 use std::fmt::Write as _;
 
 use super::{reading_name, Page};
+use crate::times::time;
 use crate::verdict::clock::Clock;
-use crate::verdict::numbers::{grouped, ppm, ratio, so_many, time};
+use crate::verdict::numbers::{grouped, ppm, ratio, so_many};
 use crate::verdict::timeline::{Cell, Mark};
 use crate::verdict::words::Known;
 use crate::verdict::{Finding, Reading, READINGS};
@@ -79,6 +80,25 @@ fn name(known: &Known<'_>, reading: Reading) -> String {
         false => "",
     };
     format!("<b>{}</b><small>{takes}</small>{best}", reading_name(reading))
+}
+
+/// The letters of the longest label beside a drawing.
+pub fn longest_label(page: &Page<'_>) -> usize {
+    let shifts = (0..page.known.len()).map(|j| shifts(page, j));
+    let shifts = shifts.flat_map(|(low, high)| [signed(low), signed(high)]);
+    let rates = page
+        .clocks
+        .iter()
+        .filter(|clock| !clock.parts.is_empty())
+        .map(|clock| ppm(most_off(clock)));
+    shifts.chain(rates).map(|label| label.chars().count()).max().unwrap_or(0)
+}
+
+/// How far the drawing of a rate goes to either side: to the farthest part, and to twice the tolerance at least.
+fn most_off(clock: &Clock) -> i64 {
+    let parts = clock.parts.iter().map(|part| part.off.unsigned_abs());
+    let most = parts.max().unwrap_or(0).max(20 * clock.tolerance);
+    i64::try_from(most).unwrap_or(i64::MAX)
 }
 
 fn signed(shift: i64) -> String {
@@ -297,13 +317,7 @@ pub fn rate(page: &Page<'_>, clock: &Clock) -> String {
         Some(part) => part,
         None => return String::new(),
     };
-    let most = clock
-        .parts
-        .iter()
-        .map(|part| part.off.unsigned_abs())
-        .max()
-        .unwrap_or(0)
-        .max(20 * clock.tolerance);
+    let most = most_off(clock);
     let y = |off: i64| RATE / 2.0 * (1.0 - off as f64 / most as f64);
     let tolerance = 10 * clock.tolerance as i64;
     let left = clock.left().count();
@@ -320,8 +334,8 @@ pub fn rate(page: &Page<'_>, clock: &Clock) -> String {
             _ => "; <span class=\"key out\"></span> a part in which it left that.",
         },
         ppm(clock.off).replace('-', "\u{2212}"),
-        ppm(most as i64),
-        ppm(-(most as i64)).replace('-', "\u{2212}"),
+        ppm(most),
+        ppm(-most).replace('-', "\u{2212}"),
     );
     out.push_str(&begin(page, "rates", RATE, "its rate over the recording, part by part"));
     let (top, bottom) = (y(tolerance), y(-tolerance));
@@ -361,6 +375,6 @@ fn ends(page: &Page<'_>) -> String {
         "<div class=\"row ends\"><div></div><div></div><div class=\"axis\"><span>frame 0</span>{middle}\
          <span>frame {}, {}</span></div></div>\n",
         grouped(frames.saturating_sub(1)),
-        time(digits(frames), page.level.kilobits())
+        time(page.level.kilobits(), digits(frames))
     )
 }

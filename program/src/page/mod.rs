@@ -11,8 +11,9 @@ use std::fmt::Write as _;
 use spritbobbin::Level;
 
 use crate::pictures::svg::escaped;
+use crate::times::time;
 use crate::verdict::clock::{Clock, Kept};
-use crate::verdict::numbers::{grouped, ppm, ratio, so_many, tenths, time};
+use crate::verdict::numbers::{grouped, ppm, ratio, so_many, tenths};
 use crate::verdict::timeline::Timeline;
 use crate::verdict::words::{Answer, Known};
 use crate::verdict::{Against, Finding, Reading, READINGS};
@@ -60,7 +61,7 @@ pub struct Page<'a> {
 
 /// The page.
 pub fn html(page: &Page<'_>) -> String {
-    let mut out = style::head(&title(page));
+    let mut out = style::head(&title(page), drawings::longest_label(page));
     out.push_str("<body>\n<main>\n");
     out.push_str(&top(page));
     out.push_str(&figures::tables(page));
@@ -109,7 +110,7 @@ fn opening(page: &Page<'_>) -> String {
         page.level.number(),
         page.level.kilobits(),
         so_many(frames, "frame"),
-        time(digits, page.level.kilobits()),
+        time(page.level.kilobits(), digits),
         escaped(of),
         against(&page.against),
         escaped(&page.date)

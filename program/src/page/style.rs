@@ -2,16 +2,24 @@
 
 use crate::pictures::svg::escaped;
 
-/// The page's head, with its own title.
-pub fn head(title: &str) -> String {
+/// The page's head, with its own title. Beside every drawing there is room for labels of so many letters.
+pub fn head(title: &str, letters: usize) -> String {
+    let scale = scale(letters);
     format!(
         "<!DOCTYPE html>\n<html lang=\"en\">\n<head>\n<meta charset=\"utf-8\">\n<meta \
          http-equiv=\"Content-Security-Policy\" content=\"default-src 'none'; style-src \
          'unsafe-inline'\">\n<meta name=\"viewport\" content=\"width=device-width, \
          initial-scale=1\">\n<meta name=\"color-scheme\" content=\"light dark\">\n<title>{}</title>\n\
-         <style>\n{COLOURS}{LAYOUT}{TABLES}{DRAWINGS}{NARROW}{PRINT}</style>\n</head>\n",
+         <style>\n{COLOURS}{scale}{LAYOUT}{TABLES}{DRAWINGS}{NARROW}{PRINT}</style>\n</head>\n",
         escaped(title)
     )
+}
+
+/// The width of the labels beside the drawings, of which no letter may touch a mark: 0.52rem a letter is more than those of
+/// numbers and of ppm have in the widest of the fonts that are named.
+fn scale(letters: usize) -> String {
+    let hundredths = (52 * letters).max(460);
+    format!(":root{{--scale:{}.{:02}rem}}\n", hundredths / 100, hundredths % 100)
 }
 
 /// Every colour of a text stands off its paper by 4.5 to 1 or more, every mark by 3 to 1.
@@ -50,7 +58,7 @@ td.best{background:var(--mark);font-weight:600}
 const DRAWINGS: &str = "\
 figure{margin:.5rem 0 .9rem}
 figcaption{margin:0 0 .3rem}
-.row{display:grid;grid-template-columns:10.5rem 4.6rem minmax(0,1fr);column-gap:.5rem;align-items:stretch;margin:0 0 .45rem}
+.row{display:grid;grid-template-columns:10.5rem var(--scale) minmax(0,1fr);column-gap:.5rem;align-items:stretch;margin:0 0 .45rem}
 .name b,.name small{display:block;line-height:1.25}
 .name b{font-size:.92rem}
 small.best{color:var(--ink);font-weight:600}
@@ -74,8 +82,8 @@ svg .line.out{stroke:var(--wrong);stroke-width:3}
 
 const NARROW: &str = "\
 @media (max-width:46rem){main{padding:.8rem .7rem}h1{font-size:1.4rem}.sum{font-size:1rem}
-.row{grid-template-columns:4.2rem minmax(0,1fr)}.name{grid-column:1/-1}.name b,.name small{display:inline;margin-right:.5rem}.ends>div:first-child,.middle{display:none}
-table{font-size:.8rem}th,td{padding:.2rem .22rem}.readings small{display:block}}
+.row{grid-template-columns:var(--scale) minmax(0,1fr)}.name{grid-column:1/-1}.name b,.name small{display:inline;margin-right:.5rem}.ends>div:first-child,.middle{display:none}
+table{font-size:.8rem}th,td{padding:.2rem .22rem}.readings small{display:block}.readings small+br{display:none}}
 ";
 
 const PRINT: &str = "\

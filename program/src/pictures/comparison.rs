@@ -37,9 +37,8 @@ pub struct Comparison<'a> {
     /// The frames that were compared, and the digits that differ in them.
     pub frames: u64,
     pub differ: u64,
-    /// The first frame that is drawn, and how many are.
-    pub first: u64,
-    pub drawn: u64,
+    /// The numbers of the frames that are drawn.
+    pub drawn: &'a [u64],
     /// Of all digits that differ, by kind and tributary: words, remote alarm, service; then of
     /// tributaries 1 to 4 control, justification and ordinary digits.
     pub words: u64,
@@ -55,7 +54,7 @@ const LEFT: u64 = 60;
 const TOP: u64 = 214;
 
 /// The most frames of a picture.
-pub const MOST_DRAWN: u64 = 64;
+pub const MOST_DRAWN: usize = 64;
 
 const STYLE: &str = ".s0{color:#000}.s5{color:#595959}.s1{color:#0072b2}.s2{color:#c24e00}.s3{color:#00704f}.s4{color:#a02c92}\
 path{stroke:currentColor;fill:none}rect{fill:currentColor}.b{color:#f3f3f3}.d{color:#e0e0e0}.h{font-size:16px}\
@@ -64,13 +63,14 @@ path{stroke:currentColor;fill:none}rect{fill:currentColor}.b{color:#f3f3f3}.d{co
 pub fn draw(of: &Comparison<'_>) -> String {
     let set = (of.places.len() as u64 / of.sets.max(1)).max(1);
     let wide = if set < 240 { 4 } else { 2 };
-    let high = match of.drawn * of.sets {
+    let drawn = of.drawn.len() as u64;
+    let high = match drawn * of.sets {
         0..=40 => 8,
         41..=128 => 4,
         _ => 2,
     };
     let block = high * of.sets + 4;
-    let height = TOP + 16 + block * of.drawn;
+    let height = TOP + 16 + block * drawn;
     let title = format!(
         "Level {}, {} kbit/s: where two recordings differ",
         of.level.number(),
@@ -80,13 +80,12 @@ pub fn draw(of: &Comparison<'_>) -> String {
     let mut svg = Svg::new(1064, height, &title, &style);
     head(&mut svg, of, &title);
     ruler(&mut svg, set, wide);
-    for k in 0..of.drawn {
+    for (k, number) in (0..).zip(of.drawn) {
         let y = TOP + block * k;
-        let number = of.first + k;
         svg.text("p e", LEFT - 4, y + 8, &number.to_string());
         shape(&mut svg, of, set, wide, high, y);
         for class in 0..6 {
-            let path = marks(of, set, wide, high, y, number, class);
+            let path = marks(of, set, wide, high, y, *number, class);
             svg.path(&format!("w s{class}"), &path);
         }
     }
@@ -100,11 +99,12 @@ fn head(svg: &mut Svg, of: &Comparison<'_>, title: &str) {
         None => side.name.clone(),
     };
     let share = of.differ as f64 / (of.frames * of.places.len() as u64).max(1) as f64;
-    let cut = match of.drawn < of.frames {
-        true => {
-            format!("; drawn are frames {} to {}", of.first, of.first + of.drawn.saturating_sub(1))
+    let cut = match of.drawn {
+        _ if all_drawn(of) => String::new(),
+        [first, .., last] if last - first < of.drawn.len() as u64 => {
+            format!("; drawn are frames {first} to {last}")
         }
-        false => String::new(),
+        some => format!("; drawn are the first {}", some.len()),
     };
     svg.text("", 12, 48, &format!("one: {}", side(&of.one)));
     svg.text("", 12, 66, &format!("other: {}", side(&of.other)));
@@ -142,10 +142,15 @@ fn head(svg: &mut Svg, of: &Comparison<'_>, title: &str) {
 fn differing(of: &Comparison<'_>) -> String {
     let mut frames: Vec<u64> = of.stretches.iter().map(|stretch| stretch.frame).collect();
     frames.dedup();
-    match of.drawn < of.frames {
-        true => format!("at least {}", frames.len()),
-        false => frames.len().to_string(),
+    match all_drawn(of) {
+        false => format!("at least {}", frames.len()),
+        true => frames.len().to_string(),
     }
+}
+
+/// Whether every frame that was compared is drawn.
+fn all_drawn(of: &Comparison<'_>) -> bool {
+    of.drawn.len() as u64 == of.frames
 }
 
 fn entry(svg: &mut Svg, x: u64, y: u64, class: &str, words: &str) {
@@ -252,8 +257,7 @@ mod tests {
             other: Side { name: "<there>".into(), label: None },
             frames: 8,
             differ: 4,
-            first: 0,
-            drawn: 8,
+            drawn: &[0, 1, 2, 3, 4, 5, 6, 7],
             words: 0,
             alarms: 0,
             services: 0,

@@ -69,7 +69,7 @@ impl Finding {
             }
             first = first.saturating_add(taken.digits);
             self.taken = self.taken.saturating_add(taken.digits as u64);
-            if let Some(frame) = taken.frame {
+            if let Some(frame) = &taken.frame {
                 self.frame(frame.bytes(), engine)?;
             }
         }

@@ -1,4 +1,4 @@
-//! Numbers as a reader has them: thousands apart, ratios, parts per million with their sign, times.
+//! Numbers as a reader has them: thousands apart, ratios, parts per million with their sign.
 
 /// A number with its thousands apart.
 pub fn grouped(number: u64) -> String {
@@ -53,18 +53,6 @@ pub fn ppm(off: i64) -> String {
     format!("{sign}{} ppm", tenths(off.unsigned_abs()))
 }
 
-/// The time that so many digits take at so many kbit/s.
-pub fn time(digits: u64, kilobits: u32) -> String {
-    // A digit at k kbit/s takes 1/k milliseconds.
-    let ms = digits as f64 / f64::from(kilobits.max(1));
-    match ms {
-        ms if ms >= 60_000.0 => format!("{:.1} min", ms / 60_000.0),
-        ms if ms >= 1_000.0 => format!("{:.3} s", ms / 1_000.0),
-        ms if ms >= 1.0 => format!("{ms:.2} ms"),
-        ms => format!("{ms:.3} ms"),
-    }
-}
-
 /// A list in words: one, one and two, one, two and three.
 pub fn listed(items: &[String]) -> String {
     match items {
@@ -91,8 +79,6 @@ mod tests {
         assert_eq!(one_in(2, 5), "1 in 2.5");
         assert_eq!(ppm(-123), "-12.3 ppm");
         assert_eq!(ppm(5), "+0.5 ppm");
-        assert_eq!(time(848, 8_448), "0.100 ms");
-        assert_eq!(time(8_448_000, 8_448), "1.000 s");
         assert_eq!(listed(&["1".into(), "2".into(), "4".into()]), "1, 2 and 4");
     }
 }

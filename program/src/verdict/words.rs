@@ -2,9 +2,10 @@
 //! were not there.
 
 use super::clock::{Clock, Kept};
-use super::numbers::{grouped, listed, one_in, ratio, so_many, time};
+use super::numbers::{grouped, listed, one_in, ratio, so_many};
 use super::slips::{Located, Slip};
 use super::{Absence, Finding, Read, Reading, Tributary, READINGS, STEP};
+use crate::times::time;
 use spritbobbin::Level;
 
 /// A tributary with all that is known of it.
@@ -168,7 +169,7 @@ impl Known<'_> {
             "{so_many} {way} at digit {}, frame {}, {}",
             grouped(slip.digit),
             grouped(slip.frame),
-            time(start, self.level.kilobits())
+            time(self.level.kilobits(), start)
         )
     }
 
@@ -452,7 +453,7 @@ mod tests {
             said([read(0, 1), read(10, 151), read(13, 151)], 131, &clock, 0),
             "the multiplexer acts in its own frame, and the clock slipped: read by the decision of \
              its own frame, none of 61,649 digits is wrong and there is 1 slip, a digit lost at \
-             digit 20,000, frame 97, 9.74 ms; the frame before would need 10 wrong digits (1.62e-4) \
+             digit 20,000, frame 97, 9.737 ms; the frame before would need 10 wrong digits (1.62e-4) \
              and 151 slips, the frame after would need 13 wrong digits (2.11e-4) and 151 slips."
         );
         let vote = Located { slips: vec![Slip { vote: true, step: -1, ..slip }] };

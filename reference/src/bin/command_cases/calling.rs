@@ -2,7 +2,9 @@
 //! for help; and calls that name a file twice.
 
 use crate::case::{words, Case};
-use crate::texts::written_over;
+use crate::inputs::level;
+use crate::texts::{self, written, written_over};
+use crate::worked;
 
 /// The commands.
 const COMMANDS: [&str; 23] = [
@@ -32,7 +34,7 @@ const COMMANDS: [&str; 23] = [
 ];
 
 /// Wrong calls. The files that they name are there.
-const WRONG: [&str; 86] = [
+const WRONG: [&str; 92] = [
     "",
     "bogus",
     "sen -l 2 notes tributaries out",
@@ -119,7 +121,26 @@ const WRONG: [&str; 86] = [
     "apart line more out ./out",
     "hunt",
     "hunt line more",
+    "send -l 2 - - out",
+    "compare -l 2 - -",
+    "watch 2=- 2=-",
+    "judge -l 2 - -",
+    "join - - line line out",
+    "take -l 2 line - -",
 ];
+
+/// What the help of a command says of - in place of a file: of those that write files, of those that only draw, of those that
+/// only read, and nothing of those that do neither.
+fn of_streams(command: &str) -> &'static str {
+    match command {
+        "demo" | "completions" => "^Example:",
+        "agree" | "find" | "watch" | "hunt" => "^- in place of the file is standard input\\.$",
+        "frame" | "multiframe" => {
+            "^--svg - draws to standard output; what is said then goes to standard error\\.$"
+        }
+        _ => "^output; what is said goes to standard error where an output is -\\.$",
+    }
+}
 
 /// An output that is a file which is read, by its name or another, and the words for both.
 const OVER: [(&str, &str, &str, &str); 16] = [
@@ -161,17 +182,42 @@ pub fn cases() -> Vec<Case> {
             cases.push(Case::new(&name).like(
                 words(&call),
                 0,
-                std::slice::from_ref(&usage),
+                &[usage.clone(), of_streams(command).into()],
                 &example,
             ));
         }
     }
     cases.extend(WRONG.iter().map(|command| wrong(command)));
+    cases.extend(streams());
     for (call, output, path, input) in OVER {
         let name = format!("over-an-input {call}").replace([' ', '/'], "-");
         cases.push(given(&name).fails(words(call), &written_over(output, path, input)));
     }
     cases
+}
+
+/// Standard input and output in place of files: what is said goes to standard error only where an output is -.
+fn streams() -> Vec<Case> {
+    let row = level(2);
+    let line = worked::send(row, &[0x20], &[0; 104]).line;
+    let taken = worked::take(row, &line);
+    let nothing = texts::taken(row, &worked::take(row, &[])) + &written(&["notes", "tributaries"]);
+    vec![
+        Case::new("stream-in-take")
+            .accepted(words("take -l 2 - notes tributaries"), &nothing)
+            .makes("notes", &[])
+            .makes("tributaries", &[]),
+        Case::new("stream-out-notes").file("line", &line).aside(
+            words("notes -l 2 line -"),
+            " ",
+            &(texts::noted(row, &line) + "written: standard output\n"),
+        ),
+        Case::new("stream-out-take").file("line", &line).makes("tributaries", &[0; 104]).aside(
+            words("take -l 2 line - tributaries"),
+            " ",
+            &(texts::taken(row, &taken) + "written: standard output\nwritten: tributaries\n"),
+        ),
+    ]
 }
 
 fn given(name: &str) -> Case {

@@ -107,6 +107,13 @@ impl Case {
         self.command(words, 0)
     }
 
+    /// A command that is accepted and writes an output to standard output: that, and what it says, on standard error.
+    pub fn aside(mut self, words: Vec<String>, output: &str, said: &str) -> Case {
+        self.stdout += output;
+        self.stderr += said;
+        self.command(words, 0)
+    }
+
     /// A command that is carried out and whose check does not hold, and all that it prints.
     pub fn checked(mut self, words: Vec<String>, stdout: &str) -> Case {
         self.stdout += stdout;

@@ -4,7 +4,7 @@ use crate::case::{in_turn, words, Case, OLD};
 use crate::inputs::{level, levels, room};
 use crate::stream::Stream;
 use crate::texts::{self, cannot, no_level, written};
-use crate::worked::{self, Event, Found};
+use crate::worked::{self, Event, Found, NONE_BEFORE};
 use reference::level::Row;
 use reference::random::Random;
 
@@ -37,7 +37,7 @@ pub struct Finding {
 impl Finding {
     pub fn of(row: &'static Row, stream: Vec<u8>) -> Finding {
         let found = worked::find(row, &stream);
-        let taken = worked::take(row, &found.line(row));
+        let taken = worked::take_found(row, NONE_BEFORE, &found);
         let text = texts::found(row, stream.len(), &found, &taken);
         let most = 8 * stream.len() / row.frame_digits;
         let tributaries = worked::quarters(&taken.tributaries, room(row, most));
@@ -66,12 +66,47 @@ impl Finding {
         let command = words(&format!("find -l {} stream", self.row.level));
         Case::new(&format!("find-{}-{name}", self.row.level))
             .file("stream", &self.stream)
-            .accepted(command, &self.text)
+            .accepted(command, &(self.text.clone() + &self.unknown_votes()))
     }
 
     /// What is said where files are written too.
     pub fn text_and_stretches(&self) -> String {
-        self.text.clone() + &texts::stretches(self.row, &self.found)
+        self.text.clone() + &texts::stretches(self.row, &self.found) + &self.unknown_votes()
+    }
+
+    fn unknown_votes(&self) -> String {
+        texts::unknown_votes(self.row, &self.found, false)
+    }
+
+    /// The same frames found by the other commands that read them, and after a vote that is given.
+    fn read_otherwise(&self, name: &str, vote: Option<u8>) -> Vec<Case> {
+        let (row, found) = (self.row, &self.found);
+        let earlier = vote.unwrap_or(NONE_BEFORE);
+        let option = vote.map_or(String::new(), |vote| format!(" --earlier {vote}"));
+        let after = vote.map_or(String::new(), |vote| format!("-after-{vote}"));
+        let case = |command: &str| {
+            let name = format!("{command}-find-{}-{name}{after}", row.level);
+            Case::new(&name).file("stream", &self.stream)
+        };
+        let call = |command: &str, outputs: &str| {
+            words(&format!("{command} -l {}{option} stream {outputs}", row.level))
+        };
+        let taken = worked::take_found(row, earlier, found);
+        let unknown = texts::unknown_votes(row, found, vote.is_some());
+        let head = texts::stretches(row, found) + &unknown;
+        let outputs = ["back.notes", "back.tributaries"];
+        let take = head.clone() + &texts::taken(row, &taken) + &written(&outputs);
+        let quarters = worked::quarters(&taken.tributaries, room(row, taken.notes.len()));
+        let noted = head + &texts::noted_found(row, earlier, found);
+        let text = texts::found(row, self.stream.len(), found, &taken) + &unknown;
+        vec![
+            case("take")
+                .accepted(call("take --find", &outputs.join(" ")), &take)
+                .makes(outputs[0], &taken.notes)
+                .makes(outputs[1], &quarters),
+            case("notes").accepted(call("notes --find", ""), &noted),
+            case("find").accepted(call("find", ""), &text),
+        ]
     }
 
     /// The case with the files.
@@ -108,7 +143,19 @@ fn long_way(row: &'static Row) -> Vec<Case> {
     } else {
         files
     };
-    vec![finding.prints("long-way"), files]
+    let mut cases = vec![finding.prints("long-way"), files];
+    for vote in [None, Some(0), Some(6), Some(15)] {
+        cases.extend(finding.read_otherwise("long-way", vote));
+    }
+    if row.negative_places {
+        // The vote before the gap is no vote before the second stretch.
+        let through = worked::take(row, &found.line(row)).tributaries;
+        assert!(
+            found.stretches(row).len() == 2
+                && through != worked::take_found(row, NONE_BEFORE, found).tributaries
+        );
+    }
+    cases
 }
 
 /// A check that fails in the middle of a word must not lose that word: after one good word

@@ -4,7 +4,7 @@
 
 use crate::case::{at, words, Case};
 use crate::inputs::{damaged, known_bits, level, levels, room};
-use crate::texts::{cannot, no_capture, no_level, no_room, no_vote, no_whole_frames};
+use crate::texts::{self, cannot, no_capture, no_level, no_room, no_vote, no_whole_frames};
 use crate::worked::quarters;
 use reference::digits::{pack, unpack};
 use reference::frame::{self, Action, Place};
@@ -794,17 +794,7 @@ fn one_in(part: u64, all: u64) -> String {
 
 /// The time of so many frames.
 pub fn time(row: &Row, frames: usize) -> String {
-    let ms = (frames * row.frame_digits) as f64 / line_rate(row) as f64;
-    if ms >= 60_000.0 {
-        return format!("{:.1} min", ms / 60_000.0);
-    }
-    if ms >= 1000.0 {
-        return format!("{:.3} s", ms / 1000.0);
-    }
-    if ms >= 1.0 {
-        return format!("{ms:.2} ms");
-    }
-    format!("{ms:.3} ms")
+    texts::time(line_rate(row) as u64, frames * row.frame_digits)
 }
 
 /// A tributary's clock, by the digits of each frame.
@@ -1322,8 +1312,10 @@ fn refused() -> Vec<Case> {
             .fails(judge("-l 2 line sent"), &no_room(row, "sent", 4 * 51, 2)),
         given("judge-no-quarters", 106, 105)
             .fails(judge("-l 2 line sent"), &no_room(row, "sent", 105, 1)),
-        given("judge-find-no-quarters", 106, 105)
-            .fails(judge("-l 2 line sent --find"), &no_room(row, "sent", 105, 0)),
+        given("judge-find-no-quarters", 106, 105).fails(
+            judge("-l 2 line sent --find"),
+            "refused 4: sent has 105 bytes, no four equal quarters.",
+        ),
         Case::new("judge-no-line").fails(judge("-l 2 line sent"), &cannot("line", "opened")),
         Case::new("judge-no-sent")
             .file("line", &[0; 106])

@@ -68,8 +68,15 @@ fn wrong_lengths() -> Vec<Case> {
             .file("line", &vec![0; bytes])
             .fails(command(row), &no_whole_frames(row, "line", bytes))
     };
+    let capture = |number: u64| {
+        let row = level(number);
+        let file = crate::keeping::capture(row, &line(row, &notes(row, 3, 7), 8), Some(b"north"));
+        Case::new(&format!("take-{number}-a-capture"))
+            .file("line", &file)
+            .fails(command(row), &texts::no_line_but_a_capture(row, "line", file.len()))
+    };
     let lengths = [(2, 1), (2, 105), (2, 107), (2, 7470), (3, 12_289), (4, 365)];
-    lengths.into_iter().map(refused).collect()
+    lengths.into_iter().map(refused).chain([2, 3, 4, 12, 14].map(capture)).collect()
 }
 
 fn wrong_levels() -> Vec<Case> {

@@ -1,7 +1,7 @@
 //! The exact words of the program.
 
 use crate::inputs::room;
-use crate::worked::{take_after, Counts, Event, Found, Taken, NONE_BEFORE};
+use crate::worked::{take_after, take_found, Counts, Event, Found, Taken, NONE_BEFORE};
 use reference::digits::unpack;
 use reference::frame::{self, Action};
 use reference::level::{row, Row, MOST_FRAMES};
@@ -83,20 +83,39 @@ pub fn noted(row: &Row, line: &[u8]) -> String {
 
 /// The same where these are the votes before the first frame.
 pub fn noted_after(row: &Row, earlier: u8, line: &[u8]) -> String {
+    noted_each(row, line, &take_after(row, earlier, line), |frame| (frame == 0).then_some(earlier))
+}
+
+/// The same of the frames that were found in a recording.
+pub fn noted_found(row: &Row, earlier: u8, found: &Found) -> String {
+    let stretches = found.stretches(row);
+    let before = |frame: usize| {
+        let first = stretches.iter().any(|(_, frames)| frames.start == frame);
+        first.then_some(if frame == 0 { earlier } else { NONE_BEFORE })
+    };
+    noted_each(row, &found.line(row), &take_found(row, earlier, found), before)
+}
+
+/// The same where `taken` is what the frames say, and these the votes before a frame which follows no other.
+fn noted_each(
+    row: &Row,
+    line: &[u8],
+    taken: &Taken,
+    fresh: impl Fn(usize) -> Option<u8>,
+) -> String {
     let heads = if row.negative_places { "  votes  acts   " } else { "stuffed  service" };
     let mut text = format!("    frame  {heads}  dissent 1 2 3 4  alignment\n");
-    let mut before = earlier;
+    let mut before = NONE_BEFORE;
     for (k, bytes) in line.chunks(row.frame_bytes()).enumerate() {
         let one = frame::read(row, &unpack(bytes, row.frame_digits));
         let mark = |j: u8| if one.note >> j & 1 == 1 { format!("{}", j + 1) } else { "-".into() };
         let stuffed: String = (0..4).map(mark).collect();
-        let rest = beside_votes(row, before, one.note);
+        let rest = beside_votes(row, fresh(k).unwrap_or(before), one.note);
         before = one.note;
         let dissent = one.dissent.map(|digits| digits.to_string()).join(" ");
         text +=
             &format!("{k:>9}  {stuffed:7}  {rest:7}  {:7} {dissent}  {:>9}\n", "", one.alignment);
     }
-    let taken = take_after(row, earlier, line);
     let four = |counts: [String; 4]| counts.join(" ");
     text += &format!("Level {}: {} notes read.\n", row.level, taken.notes.len());
     let stuffed = four(taken.counts.stuffed.map(|count| count.to_string()));
@@ -169,28 +188,47 @@ fn event(row: &Row, event: &Event) -> String {
     format!("{what} at digit {digit} ({}): {why}\n", time(row.rate, *digit))
 }
 
-/// When a digit comes at the nominal rate in kbit/s, in whole microseconds.
+/// When a digit comes at the nominal rate in kbit/s, to the nearest microsecond.
 pub fn time(rate: u64, digit: usize) -> String {
-    let microseconds = 1000 * digit as u64 / rate;
-    format!("{}.{:06} s", microseconds / 1_000_000, microseconds % 1_000_000)
+    let microseconds = (2000 * digit as u64 + rate) / (2 * rate);
+    let seconds = microseconds / 1_000_000;
+    if seconds == 0 {
+        return format!("{}.{:03} ms", microseconds / 1000, microseconds % 1000);
+    }
+    let minutes = if seconds < 60 { String::new() } else { format!("{} min ", seconds / 60) };
+    format!("{minutes}{}.{:06} s", seconds % 60, microseconds % 1_000_000)
 }
 
 /// Where the frames handed over were in the recording, a line for each stretch without a gap.
 pub fn stretches(row: &Row, found: &Found) -> String {
-    let begins: Vec<usize> = found.frames.iter().map(|one| one.after - row.frame_digits).collect();
-    let mut text = String::new();
-    let mut first = 0;
-    for last in 0..begins.len() {
-        if begins.get(last + 1) != Some(&(begins[last] + row.frame_digits)) {
-            text += &format!(
-                "frames {first} to {last}: from digit {} of the recording on ({})\n",
-                begins[first],
-                time(row.rate, begins[first])
-            );
-            first = last + 1;
-        }
+    let one = |(digit, frames): (usize, std::ops::Range<usize>)| {
+        format!(
+            "frames {} to {}: from digit {digit} of the recording on ({})\n",
+            frames.start,
+            frames.end - 1,
+            time(row.rate, digit)
+        )
+    };
+    found.stretches(row).into_iter().map(one).collect()
+}
+
+/// What is said where a frame acts on a vote that nobody knows: that before each stretch, but for the
+/// first where it is given.
+pub fn unknown_votes(row: &Row, found: &Found, given: bool) -> String {
+    let stretches = found.stretches(row);
+    let unknown = stretches.len() - usize::from(given && !stretches.is_empty());
+    if !row.negative_places || unknown == 0 {
+        return String::new();
     }
-    text
+    let which = match (unknown, given) {
+        (1, _) => format!("frame {}", stretches[stretches.len() - 1].1.start),
+        (_, false) => "the first frame of each stretch".into(),
+        (_, true) => "the first frame of each stretch but the first".into(),
+    };
+    format!(
+        "The vote before {which} is not known and taken as 0: there a tributary that voted 1 has a digit \
+         too many.\n"
+    )
 }
 
 fn mode(mode: u64) -> String {
@@ -212,10 +250,17 @@ pub fn no_level(word: &str) -> String {
 pub fn no_whole_frames(row: &Row, path: &str, bytes: usize) -> String {
     format!(
         "refused 2: {path} has {bytes} bytes, no whole number of frames; a frame of level {} \
-         has {} bytes.",
+         has {} bytes. In a recording begun anywhere find the frames first, with find or --find.",
         row.level,
         row.frame_bytes()
     )
+}
+
+/// A capture where a line is asked for.
+pub fn no_line_but_a_capture(row: &Row, path: &str, bytes: usize) -> String {
+    let line = no_whole_frames(row, path, bytes);
+    let (frames, _) = line.split_once(" In a recording").expect("two sentences");
+    frames.to_string() + " It is a capture: leave --level out, or write its line with show."
 }
 
 /// Notes of so many bytes for a line of so many frames.

@@ -89,6 +89,30 @@ pub fn take_after(row: &Row, earlier: u8, line: &[u8]) -> Taken {
     all
 }
 
+/// Takes the frames that were found apart: each stretch by itself, the first after these votes and every other as if nothing
+/// had come before it.
+pub fn take_found(row: &Row, earlier: u8, found: &Found) -> Taken {
+    let mut all = Taken::default();
+    for (k, (_, frames)) in found.stretches(row).into_iter().enumerate() {
+        let before = if k == 0 { earlier } else { NONE_BEFORE };
+        let line: Vec<u8> = found.frames[frames]
+            .iter()
+            .flat_map(|one| one.bytes[..row.frame_bytes()].to_vec())
+            .collect();
+        let one = take_after(row, before, &line);
+        all.notes.extend(one.notes);
+        all.alignment += one.alignment;
+        for j in 0..4 {
+            all.tributaries[j].extend(&one.tributaries[j]);
+            all.counts.digits[j] += one.counts.digits[j];
+            all.counts.stuffed[j] += one.counts.stuffed[j];
+            all.counts.negative[j] += one.counts.negative[j];
+            all.dissent[j] += one.dissent[j];
+        }
+    }
+    all
+}
+
 /// The same by notes that are given.
 pub fn take_by(row: &Row, line: &[u8], notes: &[u8]) -> Taken {
     take_by_after(row, NONE_BEFORE, line, notes)
@@ -143,6 +167,19 @@ impl Found {
     /// The frames handed over as a line.
     pub fn line(&self, row: &Row) -> Vec<u8> {
         self.frames.iter().flat_map(|frame| frame.bytes[..row.frame_bytes()].to_vec()).collect()
+    }
+
+    /// The frames without a gap between them: the digit at which the first begins, and their numbers.
+    pub fn stretches(&self, row: &Row) -> Vec<(usize, std::ops::Range<usize>)> {
+        let mut stretches: Vec<(usize, std::ops::Range<usize>)> = Vec::new();
+        for (k, frame) in self.frames.iter().enumerate() {
+            let begin = frame.after - row.frame_digits;
+            match stretches.last_mut() {
+                Some((_, frames)) if self.frames[k - 1].after == begin => frames.end = k + 1,
+                _ => stretches.push((begin, k..k + 1)),
+            }
+        }
+        stretches
     }
 
     /// Where alignment is found and lost.
