@@ -13,7 +13,7 @@ use borrow.Author.Tests.{eq-eqb, ne-eqb, le-leb, lt-ltb}
 use Rattle.digits.specs.Digits.{tab}
 use Rattle.digits.proofs.Laws.{tab-length, tab-at, tab-of}
 use Rattle.slips.specs.Slips.{lentFrom, wrongOf, heldAt, heldOf, stepOf, leastOf, bestOf, laidOf, fresh, enterOf}
-use Rattle.verdict_blocks.specs.Patterns.{windowAfter, patternDigits}
+use Rattle.patterns.specs.Patterns.{windowAfter, patternDigits}
 use Rattle.verdict_blocks.specs.Blocks.{Block, freshLow, judgedBy, takenUp, sentTo, digitOf, digitsTo, laidAnew, frameTo, startOf, framesTo}
 use Rattle.verdict_promises.specs.Paths.{Cheapest, goesOn, JustTaken, sentFrom, lowFrom}
 use Rattle.verdict_promises.proofs.Least.{Lanes, cheapest-run}
