@@ -15,7 +15,7 @@ use borrow.Author.Tests.{leb-true, ltb-true, le-leb, lt-leb, eq-eqb, ne-eqb}
 use Rattle.digits.proofs.Tests.{and-both}
 use Rattle.slips.specs.Slips.{stepPrice, Room, Closed}
 use Rattle.verdict_blocks.specs.declared.standing.Standing.{Standing}
-use Rattle.verdict_blocks.specs.Patterns.{OneOfTwo}
+use Rattle.patterns.specs.Patterns.{OneOfTwo}
 use Rattle.verdict_blocks.specs.Blocks.{Block}
 use Rattle.verdict_blocks.specs.Going.{Sound}
 use Rattle.verdict_blocks.specs.Keeping.{blockFrom, blockAt}

@@ -24,7 +24,7 @@ use Rattle.verdict_blocks.specs.Readings.{majorities}
 use Rattle.verdict.specs.Feed.{stateFrom, numbersOf, badPattern, goodHead, goodBlocks, isValid, changesIn, voteAgo, fedState, State, feedFault, answerOf}
 use Rattle.verdict_blocks.specs.Going.{Sound, Ready, Running}
 use Rattle.verdict.specs.Going.{FedTo, Feedable, votesAfter, changesAfter}
-use Rattle.verdict_blocks.specs.Patterns.{OneOfTwo}
+use Rattle.patterns.specs.Patterns.{OneOfTwo}
 use Rattle.verdict_blocks.proofs.Carried.{sound-less}
 use Rattle.verdict_blocks.proofs.Several.{partOf}
 use Rattle.verdict.proofs.Good.{votesWell, changesWell, head-parts, valid-sound, valid-taken}

@@ -1,5 +1,3 @@
-pub mod Windows
-pub mod Eights
 pub mod FirstRight
 pub mod Carried
 pub mod AllRight

@@ -1,4 +1,3 @@
-pub mod Patterns
 pub mod Blocks
 pub mod Keeping
 pub mod Readings

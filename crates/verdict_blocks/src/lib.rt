@@ -4,7 +4,6 @@
 pub mod better;
 pub mod blocks;
 pub mod keeping;
-pub mod patterns;
 pub mod quiet;
 pub mod rights;
 pub mod standing;

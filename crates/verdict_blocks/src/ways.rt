@@ -8,13 +8,12 @@ ghost use lib.ListN.{length};
 ghost use Rattle.digits.specs.Digits.{digitsOf};
 ghost use Rattle.levels.specs.Table.{Shared};
 ghost use Rattle.levels.specs.Sizes.{quarterOf};
-ghost use Rattle.levels.specs.Order.{actions};
+ghost use Rattle.levels.specs.Order.{countsOf};
 ghost use Rattle.slips.specs.Slips.{lentFrom};
-ghost use Rattle.verdict_blocks.specs.Patterns.{OneOfTwo};
-ghost use Rattle.verdict_blocks.specs.Blocks.{framesTo};
-ghost use Rattle.verdict_blocks.specs.Readings.{carriedIn, ranOn};
+ghost use Rattle.patterns.specs.Patterns.{OneOfTwo};
+ghost use Rattle.verdict_blocks.specs.Readings.{ranOn};
 ghost use Rattle.verdict_blocks.specs.Keeping.{blockAt, withBlock, withFour};
-ghost use Rattle.verdict_blocks.specs.Going.{Sound, Ready, Running};
+ghost use Rattle.verdict_blocks.specs.Going.{Counted, Carrying, carriedOver, Ready, Running};
 
 // Block b of a state, with tributary j (from 0).
 fn feed_at(
@@ -24,6 +23,7 @@ fn feed_at(
     earlier: u64,
     notes: &[u8],
     j: usize,
+    total: usize,
     pattern: u64,
     room: &[u8],
     sent: &[u8],
@@ -33,21 +33,14 @@ fn feed_at(
     requires { ⌜
         (length (now state) ≡ 683)
         × (b < 16)
-        × Shared row
-        × (j < 4)
-        × (length (now notes) ≤ 64)
-        × (length (now notes) * row .room ≤ 8 * (length (now room) / 4))
-        × (pattern ≢ 0 → OneOfTwo pattern)
-        × (pattern ≡ 0 → (blockAt (now state) b) .standing .taken ≡ 1)
-        × Sound pattern (length (now notes) * 1000) (blockAt (now state) b)
-        × (base < 9223372036854775808)
-        × (length (now scratch) ≡ 128)
+        × Carrying row pattern (length (now notes)) (length (now room) / 4) j base (length (now scratch)) (blockAt (now state) b)
+        × Counted row earlier (now notes) j total
         ⌝ }
     ensures { λ _. ⌜
         now (state .exit)
         ≡ withBlock (now (state .entry)) b
-        (framesTo pattern (lentFrom base (digitsOf (quarterOf (now (sent .entry)) j))) (digitsOf (quarterOf (now (room .entry)) j))
-        (λ (f : ℕ). carriedIn row (actions row earlier (now (notes .entry)) j f)) (blockAt (now (state .entry)) b) (length (now (notes .entry))))
+        (carriedOver row pattern (lentFrom base (digitsOf (quarterOf (now (sent .entry)) j))) (digitsOf (quarterOf (now (room .entry)) j)) earlier
+        (now (notes .entry)) j (blockAt (now (state .entry)) b))
         ⌝ }
 {
     let a = 11 + 42 * b;
@@ -58,6 +51,7 @@ fn feed_at(
         earlier,
         notes,
         j,
+        total,
         pattern,
         room,
         sent,
@@ -66,13 +60,14 @@ fn feed_at(
     );
 }
 
-// The four tributaries of way w, whose readings `room` has.
+// The four tributaries of way w, whose readings `room` has, so many digits each.
 fn feed_four(
     state: &mut [u64],
     w: usize,
     row: Row,
     earlier: u64,
     notes: &[u8],
+    counts: [usize; 4],
     pattern: u64,
     room: &[u8],
     sent: &[u8],
@@ -89,14 +84,14 @@ fn feed_four(
         × ((j : ℕ) → j < 4 → Ready pattern (length (now notes)) (blockAt (now state) (4 * w + j)))
         × (base < 9223372036854775808)
         × (length (now scratch) ≡ 128)
+        × (counts ≡ countsOf row earlier (now notes) (length (now notes)))
         ⌝ }
     ensures { λ _. ⌜
         now (state .exit)
         ≡ withFour (now (state .entry)) w
         (λ (j : ℕ).
-        framesTo pattern (lentFrom base (digitsOf (quarterOf (now (sent .entry)) j))) (digitsOf (quarterOf (now (room .entry)) j))
-        (λ (f : ℕ). carriedIn row (actions row earlier (now (notes .entry)) j f)) (blockAt (now (state .entry)) (4 * w + j))
-        (length (now (notes .entry))))
+        carriedOver row pattern (lentFrom base (digitsOf (quarterOf (now (sent .entry)) j))) (digitsOf (quarterOf (now (room .entry)) j)) earlier
+        (now (notes .entry)) j (blockAt (now (state .entry)) (4 * w + j)))
         ⌝ }
 {
     let mut j: usize = 0;
@@ -108,6 +103,7 @@ fn feed_four(
             earlier,
             notes,
             j,
+            counts[j],
             pattern,
             room,
             sent,
@@ -146,13 +142,14 @@ pub fn feed_way(
         (blockAt (now (state .entry)) (4 * w + j)))
         ⌝ }
 {
-    extraction::extract_all(row, earlier, line, notes, room);
+    let counts = extraction::extract_all(row, earlier, line, notes, room);
     feed_four(
         state,
         w,
         row,
         earlier,
         notes,
+        counts,
         pattern,
         room,
         sent,

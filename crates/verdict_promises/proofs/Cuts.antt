@@ -2,9 +2,9 @@
 use mathlib.Core.Path.{_≡_, refl, sym, _∙_, ap}
 use mathlib.Core.Bool.{Bool, cond, true, false}
 use mathlib.Core.List.{List, _∷_, _++_, map}
-use Prim.Native.Nat.{ℕ, zero, suc, _+_, _*_, _-_, _/_, _≤_, _<_}
+use Prim.Native.Nat.{ℕ, zero, suc, _+_, _*_, _/_, _≤_, _<_}
 use native.Mathlib.Omega.{arith}
-use native.Mathlib.Nat.{add-zero, add-suc, zero-add, add-mul, suc-mul, zero-mul, mul-left-comm}
+use native.Mathlib.Nat.{add-zero, add-suc, zero-add, add-mul, zero-mul, mul-left-comm}
 use lib.Dec.{ltb}
 use lib.ListN.{length, getD, drop, length-append, length-map, List·getD-append}
 use lib.Seq.{getD-append-add, getD-drop}
@@ -18,10 +18,9 @@ use Rattle.levels.specs.Table.{Shared}
 use Rattle.levels.specs.declared.order.Action.{Action}
 use Rattle.levels.specs.Places.{notedOf}
 use Rattle.levels.specs.Sizes.{framesOf}
-use Rattle.levels.specs.Order.{stuffed, decisions, actionOf, actions, isStuffed, bothCarry, before, placesOf}
+use Rattle.levels.specs.Order.{stuffed, decisions, actionOf, actions, before, placesOf}
 use Rattle.levels.specs.Vote.{voteOf, groupOf}
 use Rattle.levels.proofs.Columns.{columns}
-use Rattle.levels.proofs.Counts.{frame-count}
 use Rattle.levels.proofs.Inverse.{places-length}
 use Rattle.reading.specs.Notes.{voteAt, serviceAt, noteOf, notesOf}
 use Rattle.extraction.specs.Quarters.{takenTo}
@@ -29,6 +28,7 @@ use Rattle.promises.proofs.Order.{places-same}
 use Rattle.promises.proofs.Sent.{in-line, control-place}
 use Rattle.verdict_blocks.specs.Blocks.{Block, startOf, framesTo}
 use Rattle.verdict_blocks.specs.Readings.{majorities, readBy, carriedIn, countsBy, ranBy}
+use Rattle.verdict_blocks.proofs.Sizes.{counts-add}
 use Rattle.verdict_promises.proofs.Frames.{start-alike, frames-alike, frames-cat, columns-cat}
 
 -- ---- the notes of two runs
@@ -176,24 +176,10 @@ acts-bits row votes j f = ap (λ (t : Bool). actionOf row (decisions (getD votes
     preceding (suc k) = moved k
 
 module _ (row : Row) (sh : Shared row) (j : ℕ) (hj : j < 4) where
-  before-up : (acts : ℕ → Action) (x y : ℕ) → before row acts j x ≤ before row acts j (x + y)
-  unfolding before
-  before-up acts x zero = rw (add-zero x) (omega arith)
-  before-up acts x (suc y) = rw (add-suc x y) (omega (arith, before-up acts x y))
-
   -- the counts add up to the places that carry
   pub start-counts : (votes : List ℕ) (F : ℕ) → startOf (countsBy row votes j) F ≡ before row (actsOf row votes j) j (F * columns row)
-  unfolding startOf before countsBy
-  start-counts votes zero = rw (zero-mul (columns row)) refl
-  start-counts votes (suc F) =
-      let acts = actsOf row votes j in
-      let one = frame-count row sh j hj acts F in
-      let up : before row acts j (F * columns row) ≤ before row acts j (suc F * columns row) = rw (suc-mul F (columns row)) (before-up acts (F * columns row) (columns row)) in
-      added (startOf (countsBy row votes j) F) (before row acts j (F * columns row)) (before row acts j (suc F * columns row)) (row .n) (cond (bothCarry (acts F)) (row .room - row .n) 0)
-      (cond (isStuffed (acts F)) 1 0) (start-counts votes F) one up
-    where
-      added : (a b c n x y : ℕ) → a ≡ b → c + y ≡ b + n + x → b ≤ c → a + (n + x - y) ≡ c
-      added a b c n x y e g h = omega arith
+  unfolding countsBy
+  start-counts votes F = counts-add row sh j hj (actsOf row votes j) F
 
   -- and so many digits are read
   pub read-length : (votes line : List ℕ) (F : ℕ) → 2 * length line ≡ F * columns row → length (readBy row line votes j) ≡ startOf (countsBy row votes j) F

@@ -13,17 +13,13 @@ use borrow.Author.Tests.{eq-eqb, ne-eqb, le-leb, lt-ltb}
 use Rattle.digits.specs.Digits.{tab}
 use Rattle.digits.proofs.Laws.{tab-length, tab-at, tab-of}
 use Rattle.slips.specs.Slips.{lentFrom, wrongOf, heldAt, heldOf, stepOf, leastOf, bestOf, laidOf, fresh, enterOf}
-use Rattle.verdict_blocks.specs.Patterns.{windowAfter, patternDigits}
+use Rattle.patterns.specs.Patterns.{windowAfter, patternDigits}
+use Rattle.patterns.proofs.Eights.{window-cat}
 use Rattle.verdict_blocks.specs.Blocks.{Block, freshLow, judgedBy, takenUp, sentTo, digitOf, digitsTo, laidAnew, frameTo, startOf, framesTo}
 use Rattle.verdict_promises.specs.Paths.{Cheapest, goesOn, JustTaken, sentFrom, lowFrom}
 use Rattle.verdict_promises.proofs.Least.{Lanes, cheapest-run}
 
 -- ---- windows
-
-window-cat : (pattern w n m : ℕ) → windowAfter pattern w (n + m) ≡ windowAfter pattern (windowAfter pattern w n) m
-unfolding windowAfter
-window-cat pattern w n zero = rw (add-zero n) refl
-window-cat pattern w n (suc m) = rw (add-suc n m, window-cat pattern w n m) refl
 
 -- a digit that is lent
 pub lent-at : (base : ℕ) (sent : List ℕ) (m i : ℕ) → m ≡ base + i → i < length sent → lentFrom base sent m ≡ getD sent i 0

@@ -6,7 +6,7 @@ use Prim.Native.Nat.{ℕ, suc, _+_, _-_, _*_, _/_, _%_, _^_, _≤_, _<_}
 use lib.ListN.{getD}
 use Rattle.digits.specs.Sums.{sumTo}
 use Rattle.slips.specs.Slips.{apart, wrongOf, fresh}
-use Rattle.verdict_blocks.specs.Patterns.{windowAfter}
+use Rattle.patterns.specs.Patterns.{windowAfter}
 use Rattle.verdict_blocks.specs.Blocks.{Block, zeroAt, freshLow, freshBlock, startOf, framesTo}
 
 -- ---- a path: `path 0` is where it begins, `path (suc i)` the shift of digit i

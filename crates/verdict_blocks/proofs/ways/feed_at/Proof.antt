@@ -5,7 +5,7 @@ use lib.ListN.{length}
 use mathlib.Core.List.{List, _++_}
 use lib.ListN.{take, drop, length-drop}
 use lib.Seq.{length-take-le}
-use Rattle.verdict_blocks.specs.Keeping.{blockFrom, withBlock}
+use Rattle.verdict_blocks.specs.Keeping.{withBlock}
 use native.Mathlib.Omega.{arith}
 use borrow.Author.Needs.{needs}
 use Rattle.verdict_blocks.proofs.ways.feed_at.Statement.{statement}
@@ -41,23 +41,12 @@ part-feed-quarter-end c = search needs
 
 -- src/ways.rt:56:5
 feed-quarter-requires : tie.Need-feed-quarter-requires
-unfolding blockFrom
 feed-quarter-requires c κs =
     let a = (c .before .before .before .before .before .before .before .args) in
     let at = 11 + 42 * a .b in
     let e : at + 42 - at ≡ 42 = omega arith in
-    rw e (
-      length-take-le 42 (drop at (a .state .now)) (omega (arith, (c .before .before .before .before .before .before .before .pre) .0, (c .before .before .before .before .before .before .before .pre) .1, length-drop at (a .state .now))),
-      (c .before .before .before .before .before .before .before .pre) .2,
-      (c .before .before .before .before .before .before .before .pre) .3,
-      (c .before .before .before .before .before .before .before .pre) .4,
-      (c .before .before .before .before .before .before .before .pre) .5,
-      (c .before .before .before .before .before .before .before .pre) .6,
-      (c .before .before .before .before .before .before .before .pre) .7,
-      (c .before .before .before .before .before .before .before .pre) .8,
-      (c .before .before .before .before .before .before .before .pre) .9,
-      (c .before .before .before .before .before .before .before .pre) .10,
-    )
+    let pre = (c .before .before .before .before .before .before .before .pre) in
+    rw e (length-take-le 42 (drop at (a .state .now)) (omega (arith, pre .0, pre .1, length-drop at (a .state .now))), pre .2, pre .3)
 
 -- src/ways.rt:21:1
 same-length : tie.Need-same-length

@@ -12,6 +12,7 @@ use Rattle.slips.specs.Slips.{lentFrom}
 use Rattle.verdict_blocks.specs.Blocks.{Block, framesTo}
 use Rattle.verdict_blocks.specs.Readings.{carriedIn}
 use Rattle.verdict_blocks.specs.Keeping.{blockAt, withBlock, withBlocks}
+use Rattle.verdict_blocks.proofs.Sizes.{counted-by}
 use Rattle.verdict_blocks.proofs.Several.{several-none, several-next, several-ahead, run-whole}
 use Rattle.verdict_blocks.proofs.ways.feed_four.Statement.{statement}
 use Rattle.verdict_blocks.proofs.ways.feed_four.Tie as tie
@@ -23,14 +24,14 @@ ranIn state w row earlier notes pattern room sent base j =
     (blockAt state (4 * w + j)) (length notes)
 
 abbrev Inv-loop : tie.InvT-loop
-Inv-loop state₀ w row earlier notes pattern room sent base scratch₀ j₀ state scratch j =
+Inv-loop state₀ w row earlier notes pattern room sent base scratch₀ counts j₀ state scratch j =
     (j ≤ 4)
     × (state ≡ withBlocks state₀ (4 * w) (ranIn state₀ w row earlier notes pattern room sent base) j)
     × (length state ≡ 683)
     × (length scratch ≡ 128)
 
 abbrev μ-loop : tie.MeasureT-loop
-μ-loop state₀ w row earlier notes pattern room sent base scratch₀ j₀ state scratch j = 4 - j
+μ-loop state₀ w row earlier notes pattern room sent base scratch₀ counts j₀ state scratch j = 4 - j
 
 loop-holds : tie.Need-loop-holds Inv-loop μ-loop
 loop-holds c = (omega arith, sym (several-none ((c .before .before .before .before .before .args) .state .now) (4 * (c .before .before .before .before .before .args) .w) _ ((c .before .before .before .before .before .pre) .0)), (c .before .before .before .before .before .pre) .0, (c .before .before .before .before .before .pre) .8)
@@ -40,6 +41,12 @@ mul-feed-at c = omega arith
 
 add-feed-at : tie.Need-add-feed-at Inv-loop μ-loop
 add-feed-at c = omega arith
+
+mul-feed-at-2 : tie.Need-mul-feed-at-2 Inv-loop μ-loop
+mul-feed-at-2 c = omega arith
+
+array-read-feed-at : tie.Need-array-read-feed-at Inv-loop μ-loop
+array-read-feed-at c = omega arith
 
 feed-at-requires : tie.Need-feed-at-requires Inv-loop μ-loop
 feed-at-requires c κs =
@@ -53,7 +60,7 @@ feed-at-requires c κs =
     (λ i hi.
     run-whole (a .row) (p .2) (a .pattern) (lentFrom (a .base) (digitsOf (quarterOf (a .sent .now) i))) (digitsOf (quarterOf (a .room .now) i)) (a .earlier) (a .notes .now) i
     (blockAt (a .state .now) (4 * a .w + i)) (p .3) (p .6 i (omega arith))) in
-    (l .inv .2, omega (arith, p .1), p .2, omega arith, p .3, p .4, p .5, rw same (r .known), rw same (r .sound), p .7, l .inv .3)
+    (l .inv .2, omega (arith, p .1), (p .2, omega arith, p .3, p .4, p .5, rw same (r .known), rw same (r .sound), p .7, l .inv .3), counted-by (a .row) (p .2) (a .earlier) (a .notes .now) _ (l .j) (omega arith) (p .9))
 
 add-j : tie.Need-add-j Inv-loop μ-loop
 add-j c = omega arith
@@ -76,7 +83,7 @@ loop-again c =
       omega arith,
       several-next (a .state .now) (4 * a .w) g (p .0) (l .j) (l .j + 1) (l .state) ((c .before .before .before .before .feed-at) .last .0) refl (l .inv .1) fed,
       omega (arith, (c .before .before .before .before .feed-at) .kept .0, l .inv .2),
-      omega (arith, (c .before .before .before .before .feed-at) .kept .1 .1 .1 .1 .1 .1 .1 .1 .1 .1 .0, l .inv .3),
+      omega (arith, (c .before .before .before .before .feed-at) .kept .1 .1 .1 .1 .1 .1 .1 .1 .1 .1 .1 .0, l .inv .3),
     )
 
 same-length : tie.Need-same-length Inv-loop μ-loop
@@ -100,6 +107,8 @@ feed-four-spec =
     loop-holds
     mul-feed-at
     add-feed-at
+    mul-feed-at-2
+    array-read-feed-at
     feed-at-requires
     add-j
     loop-less

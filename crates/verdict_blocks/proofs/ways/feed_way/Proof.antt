@@ -30,7 +30,7 @@ feed-four-requires c κs =
     ap length ((c .before .before .before .before .before .extract-all) .ensures .1) ∙ quarters-length (a .row) (a .earlier) (a .notes .now) (a .line .now) q in
     let whole : length (a .notes .now) * a .row .room ≤ 8 * q = rw (p .2 .accepted .framed .noted) (p .2 .accepted .room) in
     let enough : length (a .notes .now) * a .row .room ≤ 8 * (length ((c .before .before .before .before .before .extract-all) .last .1 .1 .1 .1 .0) / 4) = omega (arith, long, whole) in
-    (p .0, p .1, p .2 .shared, omega (arith, p .2 .accepted .framed .few, p .2 .accepted .framed .noted), enough, p .2 .known, p .3, p .2 .small, p .2 .pattern-room)
+    (p .0, p .1, p .2 .shared, omega (arith, p .2 .accepted .framed .few, p .2 .accepted .framed .noted), enough, p .2 .known, p .3, p .2 .small, p .2 .pattern-room, (c .before .before .before .before .before .extract-all) .ensures .0)
 
 same-length : tie.Need-same-length
 same-length c = (c .before .before .before .before .feed-four) .kept .0
@@ -39,7 +39,7 @@ same-length-2 : tie.Need-same-length-2
 same-length-2 c = (c .before .before .before .before .before .before .before .before .before .before .extract-all) .kept .1 .1 .1 .1 .0
 
 same-length-3 : tie.Need-same-length-3
-same-length-3 c = (c .before .before .before .before .feed-four) .kept .1 .1 .1 .1 .1 .1 .1 .1 .1 .0
+same-length-3 c = (c .before .before .before .before .feed-four) .kept .1 .1 .1 .1 .1 .1 .1 .1 .1 .1 .0
 
 returns : tie.Need-returns
 unfolding ranOn
