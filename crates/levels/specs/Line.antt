@@ -1,4 +1,4 @@
--- The multiplexed line, digit by digit: what stands at a place goes by the kind of the place. Document 01, "Digits and bytes" and
+-- A line, digit by digit, as multiplexing sends it: what stands at a place goes by the kind of the place. Document 01, "Digits and bytes" and
 -- "The note of a frame"; document 02, request 10.
 use mathlib.Core.Bool.{cond}
 use mathlib.Core.List.{List}

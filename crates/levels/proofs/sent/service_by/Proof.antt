@@ -1,9 +1,9 @@
--- `service_digit` is `serviceBy`, digit by digit.
+-- `service_by` is `serviceBy`, digit by digit.
 use mathlib.Core.Path.{refl}
 use native.Mathlib.Omega.{arith}
 use borrow.Author.Needs.{needs}
-use Rattle.multiplex.proofs.service_digit.Statement.{statement}
-use Rattle.multiplex.proofs.service_digit.Tie as tie
+use Rattle.levels.proofs.sent.service_by.Statement.{statement}
+use Rattle.levels.proofs.sent.service_by.Tie as tie
 
 returns : tie.Need-returns
 returns c = rw (c .enum-told .given .1) (refl, omega arith)
@@ -17,8 +17,8 @@ returns-3 c = rw (c .enum-told3 .given .1) (refl, omega arith)
 returns-4 : tie.Need-returns-4
 returns-4 c = rw (c .enum-told4 .given .1) (refl, omega arith)
 
-pub service-digit-spec : {M : Type 1} → statement M
-service-digit-spec =
+pub service-by-spec : {M : Type 1} → statement M
+service-by-spec =
     tie.close
     (tie.spec (λ c. search needs) (λ c. search needs) (λ c. search needs) (λ c. search needs) (λ c. search needs) returns returns-2
     returns-3 returns-4 (λ c. search needs))

@@ -2,9 +2,9 @@
 use mathlib.Core.Path.{_∙_}
 use native.Mathlib.Omega.{arith}
 use borrow.Author.Needs.{needs}
-use Rattle.multiplex.proofs.Own.{unused-one, never-idle}
-use Rattle.multiplex.proofs.idle_digit.Statement.{statement}
-use Rattle.multiplex.proofs.idle_digit.Tie as tie
+use Rattle.levels.proofs.Line.{unused-one, never-idle}
+use Rattle.levels.proofs.sent.idle_digit.Statement.{statement}
+use Rattle.levels.proofs.sent.idle_digit.Tie as tie
 
 word-digit-requires : tie.Need-word-digit-requires
 word-digit-requires c κs =
@@ -18,7 +18,7 @@ returns c =
 
 returns-2 : tie.Need-returns-2
 returns-2 c =
-    let d = c .service-digit .ensures in
+    let d = c .service-by .ensures in
     (λ act next none. rw (c .before .before .kind .given .1) (d .0), d .1)
 
 returns-3 : tie.Need-returns-3

@@ -9,14 +9,14 @@ use lib.Dec.{eqb, ltb}
 use borrow.Author.Tests.{le-ltb}
 use Rattle.digits.proofs.Lists.{of-four}
 use Rattle.table.specs.declared.Row.{Row}
 use Rattle.levels.specs.declared.order.Action.{Action}
 use Rattle.levels.specs.declared.places.Sign.{Sign}
 use Rattle.levels.specs.declared.places.Kind.{Kind}
 use Rattle.levels.specs.declared.places.Kind.the-variants.{Word, Service, Control, Justification, Tributary}
 use Rattle.levels.specs.Places.{notedDigit, firstSet, middleSet, lastSet, kindOf}
 use Rattle.levels.specs.Order.{carried}
 use Rattle.levels.proofs.Choice.{cond-by}
-use Rattle.multiplex.specs.Line.{serviceBy, digitBy}
+use Rattle.levels.specs.Line.{serviceBy, digitBy}
 
 -- a place that carries a digit has the tributary's next digit
 pub digit-carried : (row : Row) (note : ℕ) (act : Action) (j r next : ℕ) (k : Kind) → carried k act ≡ true → digitBy row note act j r next k ≡ next
