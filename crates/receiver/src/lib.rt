@@ -5,6 +5,7 @@ pub mod alarm;
 mod carry;
 mod frame;
 mod modes;
+pub mod numbers;
 
 use crate::alarm::Stretch;
 use crate::modes::Core;

@@ -1,9 +1,9 @@
 -- `mode_of` is `modeOf`: each return rewrites with the tests that lead to it.
 use borrow.Author.Tests.{eq-eqb, ne-eqb, le-leb, lt-leb}
-use Rattle.rack.specs.Record.{modeOf}
+use Rattle.receiver.specs.Numbers.{modeOf}
 use borrow.Author.Needs.{needs}
-use Rattle.rack.proofs.record.mode_of.Statement.{statement}
-use Rattle.rack.proofs.record.mode_of.Tie as tie
+use Rattle.receiver.proofs.numbers.mode_of.Statement.{statement}
+use Rattle.receiver.proofs.numbers.mode_of.Tie as tie
 
 returns : tie.Need-returns
 unfolding modeOf

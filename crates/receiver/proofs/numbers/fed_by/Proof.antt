@@ -1,9 +1,9 @@
 -- `fed_by` is `fedBy`: refused, or fed.
 use borrow.Author.Needs.{needs}
 use borrow.Author.Tests.{lt-ltb, le-ltb}
-use Rattle.rack.specs.Record.{fedBy}
-use Rattle.rack.proofs.record.fed_by.Statement.{statement}
-use Rattle.rack.proofs.record.fed_by.Tie as tie
+use Rattle.receiver.specs.Numbers.{fedBy}
+use Rattle.receiver.proofs.numbers.fed_by.Statement.{statement}
+use Rattle.receiver.proofs.numbers.fed_by.Tie as tie
 
 returns : tie.Need-returns
 unfolding fedBy

@@ -1,7 +1,7 @@
 -- `mode_number` is `modeNumber`.
 use borrow.Author.Needs.{needs}
-use Rattle.rack.proofs.record.mode_number.Statement.{statement}
-use Rattle.rack.proofs.record.mode_number.Tie as tie
+use Rattle.receiver.proofs.numbers.mode_number.Statement.{statement}
+use Rattle.receiver.proofs.numbers.mode_number.Tie as tie
 
 returns-4 : tie.Need-returns-4
 returns-4 c = rw (c .before .mode .given .1)
