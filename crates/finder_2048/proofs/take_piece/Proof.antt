@@ -1,4 +1,4 @@
--- `run` is `runFrom` over the piece's digits: what is left to do is what was to do (proofs/Runs.antt, `Going`).
+-- `take_piece` is `runFrom` over the piece's digits: what is left to do is what was to do (proofs/Runs.antt, `Going`).
 use borrow.Author.Needs.{needs}
 use mathlib.Core.Path.{sym, ap, _∙_}
 use Prim.Native.Nat.{_-_}
@@ -6,8 +6,8 @@ use native.Mathlib.Omega.{arith}
 use Rattle.finder_2048.specs.Feed.{fedBy}
 use Rattle.finder_2048.proofs.Validity.{step-valid}
 use Rattle.finder_2048.proofs.Runs.{Going, going, going-on, run-end, run-on, run-stop}
-use Rattle.finder_2048.proofs.run.Statement.{statement}
-use Rattle.finder_2048.proofs.run.Tie as tie
+use Rattle.finder_2048.proofs.take_piece.Statement.{statement}
+use Rattle.finder_2048.proofs.take_piece.Tie as tie
 
 abbrev Inv-loop : tie.InvT-loop
 Inv-loop piece first count c₀ end p₀ c p = Going piece first count end c₀ c p
@@ -71,8 +71,8 @@ sub-accept-2 c = omega (arith, c .before .loop .inv .from)
 returns-2 : tie.Need-returns-2 Inv-loop μ-loop
 returns-2 c = c .accept2 .ensures ∙ ap fedBy (run-end _ _ _ _ _ _ _ (c .before .before .loop .inv) (c .before .loop-test .left))
 
-pub run-spec : {M : Type 1} → statement M
-run-spec =
+pub take-piece-spec : {M : Type 1} → statement M
+take-piece-spec =
     tie.close
     (tie.spec Inv-loop μ-loop add-end loop-holds hurry-on-requires digit-at-requires step-requires add-p (λ c κs. search needs) sub-accept
     (λ c κs. search needs) returns loop-less loop-again sub-accept-2 (λ c κs. search needs) returns-2)

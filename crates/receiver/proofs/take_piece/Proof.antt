@@ -1,12 +1,12 @@
--- `run` is `runOf` over the piece's digits: what is left to do is what was to do (proofs/Runs.antt, `Going`).
+-- `take_piece` is `runOf` over the piece's digits: what is left to do is what was to do (proofs/Runs.antt, `Going`).
 use borrow.Author.Needs.{needs}
 use mathlib.Core.Path.{sym, _∙_}
 use Prim.Native.Nat.{_-_}
 use native.Mathlib.Omega.{arith}
 use Rattle.receiver.proofs.Validity.{step-valid}
 use Rattle.receiver.proofs.Runs.{Going, going, going-on, going-carried, run-end, run-on, run-ready}
-use Rattle.receiver.proofs.run.Statement.{statement}
-use Rattle.receiver.proofs.run.Tie as tie
+use Rattle.receiver.proofs.take_piece.Statement.{statement}
+use Rattle.receiver.proofs.take_piece.Tie as tie
 
 abbrev Inv-loop : tie.InvT-loop
 Inv-loop row piece first count level mask shift c₀ f₀ st words₀ end p₀ c f words p = Going row piece first count end level st c₀ f₀ c f words p
@@ -140,8 +140,8 @@ returns-2 c =
     let whole = run-end _ _ _ _ _ _ _ _ _ _ _ _ _ (c3 .loop .inv) _ (c .before .count2 .ensures) (c2 .loop-test .left) in
     c .accept2 .ensures ∙ (rw (c6 .core-of .ensures) at whole)
 
-pub run-spec : {M : Type 1} → statement M
-run-spec =
+pub take-piece-spec : {M : Type 1} → statement M
+take-piece-spec =
     tie.close
     (tie.spec Inv-loop μ-loop mask-of-requires sub-shift (λ c κs. search needs) add-end loop-holds hunt-on-requires add-words carry-on-requires digit-at-requires
     step-requires add-words-2 keep-requires add-p is-ready-requires count-requires sub-accept (λ c κs. search needs) returns
