@@ -6,7 +6,6 @@ ghost use mathlib.Core.Path.{_≡_};
 ghost use Prim.Native.Nat.{ℕ, _+_, _*_, _/_, _^_, _<_, _≤_};
 ghost use lib.Bits.{bitAnd};
 ghost use lib.ListN.{length, getD};
-ghost use Rattle.digits.specs.Digits.{digitsOf, windowAt};
 ghost use Rattle.compare.specs.Masks.{differing, EVERY, nibbles, Even, allFrom, columnsOf, added, addedFour, byFour, Held};
 
 // A one in each of fourteen groups of four digits.
@@ -32,21 +31,13 @@ fn few(one: &[u8], other: &[u8], p: usize, n: usize) -> u64
     words::read_digits(one, p, n) ^ words::read_digits(other, p, n)
 }
 
-// The 64 digits of eight bytes.
-fn eight(s: &[u8], at: usize) -> u64
-    requires { ⌜ at + 8 ≤ length (now s) ⌝ }
-    ensures { λ r. ⌜ r ≡ windowAt (digitsOf (now (s .entry))) (8 * at) 64 ⌝ }
-{
-    (words::load4(s, at) << 32) | words::load4(s, at + 4)
-}
-
 // 56 digits from place p on, where the lines have 64.
 fn many(one: &[u8], other: &[u8], p: usize) -> u64
     requires { ⌜ Even (now one) (now other) × (p + 64 ≤ 8 * length (now one)) ⌝ }
     ensures { λ r. ⌜ r ≡ differing (now (one .entry)) (now (other .entry)) p 56 ⌝ }
 {
     let at = p / 8;
-    ((eight(one, at) ^ eight(other, at)) >> (8 - p % 8)) & 0xFFFFFFFFFFFFFF
+    ((words::load8(one, at) ^ words::load8(other, at)) >> (8 - p % 8)) & 0xFFFFFFFFFFFFFF
 }
 
 // n columns more, whose differing digits are x.

@@ -2,7 +2,7 @@
 -- Document 01, "Digits and bytes": eight to a byte, first digit in the most significant bit.
 -- Statements on a line, a quarter or a frame go through `digitsOf`; only the plain engine, which shares nothing but the level table, has a notion of its own.
 use Prim.Native.Nat.{ℕ, zero, suc, _+_, _-_, _*_, _/_, _%_, _^_, _<_}
-use mathlib.Core.Bool.{cond}
+use mathlib.Core.Bool.{Bool, cond, not}
 use mathlib.Core.List.{List, [], _∷_, _++_}
 use lib.Dec.{eqb}
 use lib.ListN.{getD, take, drop}
@@ -73,3 +73,7 @@ zerosIn (d ∷ ds) = 1 - d + zerosIn ds
 unfoldable pub windowAt : List ℕ → ℕ → ℕ → ℕ
 windowAt ds p zero = 0
 windowAt ds p (suc k) = windowAt ds p k * 2 + getD ds (p + k) 0
+
+-- a number that stands for yes or no: 0 is no
+abbrev pub isYes : ℕ → Bool
+isYes n = not (eqb n 0)

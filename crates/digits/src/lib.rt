@@ -53,3 +53,13 @@ pub fn digit_of(t: bool) -> u8
     }
     0
 }
+
+// The same as a number of 64 bits, as answers have it.
+pub fn as_number(t: bool) -> u64
+    ensures { λ r. ⌜ r ≡ cond t 1 0 ⌝ }
+{
+    if t {
+        return 1;
+    }
+    0
+}

@@ -170,8 +170,8 @@ fn is_turned(before: State, after: State) -> bool
     is_aligned(is)
 }
 
-// The run over an accepted piece.
-fn run(s: State, piece: &[u8], first: usize, count: usize) -> Fed
+// Takes the digits of an accepted piece, up to the one at which alignment is found or lost.
+fn take_piece(s: State, piece: &[u8], first: usize, count: usize) -> Fed
     requires { ⌜ Valid s × (length (now piece) ≤ 65536) × (first + count ≤ 8 * length (now piece)) ⌝ }
     ensures { λ r. ⌜ r ≡ fedBy (runFrom s (pieceOf (now (piece .entry)) first count)) ⌝ }
 {
@@ -199,5 +199,5 @@ pub fn feed(s: State, piece: &[u8], first: usize, count: usize) -> Fed
     if refusal != 0 {
         return refuse(refusal, s);
     }
-    run(s, piece, first, count)
+    take_piece(s, piece, first, count)
 }

@@ -21,7 +21,7 @@ use Rattle.levels.proofs.Ways.{kind-control}
 use Rattle.levels.proofs.Groups.{group-same}
 use Rattle.levels.proofs.Columns.{columns}
 use Rattle.levels.proofs.Counts.{line-count, count-room}
-use Rattle.multiplex.specs.Line.{lineDigit}
+use Rattle.levels.specs.Line.{lineDigit}
 use Rattle.reading.specs.Notes.{notesOf}
 use Rattle.extraction.specs.Quarters.{takenTo}
 use Rattle.promises.specs.Damage.{kept, libertyAt, groupAt, Damage, lineDigits}

@@ -20,7 +20,7 @@ use Rattle.levels.proofs.Positions.{pos-of-sum}
 use Rattle.levels.proofs.Ways.{kind-control}
 use Rattle.levels.proofs.Groups.{group-same}
 use Rattle.levels.proofs.Columns.{columns, frame-start}
-use Rattle.multiplex.specs.Line.{lineDigit, lineOf}
+use Rattle.levels.specs.Line.{lineDigit, lineOf}
 use Rattle.tally.proofs.Sums.{kind-in-frame}
 use Rattle.promises.specs.Damage.{kept, groupAt, lineDigits}
 use Rattle.promises.specs.Carried.{Room}

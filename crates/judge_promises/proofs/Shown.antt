@@ -24,7 +24,7 @@ use Rattle.levels.specs.Sizes.{framesOf}
 use Rattle.levels.specs.Faults.{badEarlier}
 use Rattle.levels.proofs.Positions.{in-frame}
 use Rattle.levels.specs.Places.{kindAt}
-use Rattle.multiplex.specs.Line.{lineDigit}
+use Rattle.levels.specs.Line.{lineDigit}
 use Rattle.promises.specs.Damage.{groupAt, Damage}
 use Rattle.promises.specs.Carried.{Room}
 use Rattle.promises.proofs.RoundTrip.{line-small}

@@ -21,7 +21,7 @@ use Rattle.levels.specs.Places.{kindAt}
 use Rattle.levels.specs.Order.{stuffed, decisions, actions, countOf}
 use Rattle.levels.proofs.Columns.{columns, frame-start}
 use Rattle.levels.proofs.Counts.{count-room}
-use Rattle.multiplex.specs.Line.{lineDigit}
+use Rattle.levels.specs.Line.{lineDigit}
 use Rattle.reading.specs.Notes.{noteOf, notesOf}
 use Rattle.extraction.specs.Quarters.{takenTo}
 use Rattle.promises.specs.Damage.{Damage, lineDigits}

@@ -11,7 +11,7 @@ use Rattle.table.specs.Table.{levelOf}
 use Rattle.levels.specs.Sizes.{onLevel, framesOf, quarterOf}
 use Rattle.levels.specs.Places.{kindAt}
 use Rattle.levels.specs.Order.{hasNegative, stuffed, decisions}
-use Rattle.multiplex.specs.Line.{lineDigit}
+use Rattle.levels.specs.Line.{lineDigit}
 use Rattle.promises.specs.Damage.{Damage}
 use Rattle.promises.specs.Carried.{Room}
 use Rattle.workbench.specs.Bench.{isControl}

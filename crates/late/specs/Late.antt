@@ -11,7 +11,7 @@ use Rattle.table.specs.Table.{levelOf}
 use Rattle.levels.specs.Sizes.{onLevel, quarterOf}
 use Rattle.levels.specs.declared.faults.Counted.{Counted}
 use Rattle.levels.specs.Faults.{fault, sendFaultOf, answerBy, refusedWith, leftBy}
-use Rattle.multiplex.specs.Line.{lineOf}
+use Rattle.levels.specs.Line.{lineOf}
 use Rattle.workbench.specs.Bench.{decidedBy, mixedLine}
 
 -- the late notes: in bits 0 to 3 the decisions of the frame before, of `before` in frame 0; the service digits are the frame's own

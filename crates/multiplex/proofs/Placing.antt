@@ -30,9 +30,9 @@ use Rattle.levels.proofs.Sentences.{set-start}
 use Rattle.levels.proofs.Columns.{frame-start}
 use Rattle.levels.proofs.Walk.{Walking, column as walked}
 use Rattle.levels.proofs.Ways.{kind-word, kind-service}
-use Rattle.multiplex.specs.Line.{digitBy, lineDigit}
+use Rattle.levels.specs.Line.{digitBy, lineDigit}
 use Rattle.multiplex.specs.Sending.{tributaryOf, Placed, PlacedTo, Rely, Sent}
-use Rattle.multiplex.proofs.Own.{digit-carried}
+use Rattle.levels.proofs.Line.{digit-carried}
 
 module _ (row : Row) (note : ℕ) (act : Action) (kind : Kind) (j r : ℕ) (buffer next : List ℕ) (jh : j < 4) (four : length next ≡ 4) where
   -- it carries a digit

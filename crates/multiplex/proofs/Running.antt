@@ -1,10 +1,10 @@
 -- The line as it goes out: heads and runs one after the other, set after set. A run is the columns that `woven` makes of the four
--- quarters; all places of a line that fits lie in it; the start, and the whole line at the end.
+-- quarters; the start, and the whole line at the end.
 use mathlib.Core.Path.{_≡_, refl, sym, _∙_, ap}
 use mathlib.Core.List.{List, [], _∷_, _++_, append-nil}
 use Prim.Native.Nat.{ℕ, zero, suc, _+_, _*_, _-_, _/_, _%_, _≤_, _<_}
 use native.Mathlib.Omega.{arith}
-use native.Mathlib.Nat.{zero-add, zero-mul, add-mul, mul-left-comm, mul-le-mul-right}
+use native.Mathlib.Nat.{zero-add, zero-mul, add-mul}
 use lib.ListN.{length, getD, take, drop}
 use lib.Seq.{take-all}
 use Rattle.digits.specs.Digits.{digitsOf, bytesOf, tab, written, Bytes}
@@ -17,16 +17,15 @@ use Rattle.table.specs.declared.Row.{Row}
 use Rattle.levels.specs.Table.{Shared}
 use Rattle.levels.specs.Places.{headEnd}
 use Rattle.levels.specs.Order.{actions, before, countOf}
-use Rattle.levels.specs.Sizes.{quarterOf, Accepted, Fits}
+use Rattle.levels.specs.Sizes.{quarterOf, Accepted}
 use Rattle.levels.proofs.Buffers.{quarter-length}
 use Rattle.levels.proofs.Columns.{wide, columns, frame-start}
-use Rattle.levels.proofs.Counts.{count-of, count-room}
-use Rattle.levels.proofs.Inverse.{before-rises}
-use Rattle.levels.proofs.Judged.{room-small, fits-quarter}
-use Rattle.levels.proofs.Positions.{in-frame}
+use Rattle.levels.proofs.Counts.{count-of}
+use Rattle.levels.proofs.Judged.{fits-quarter}
+use Rattle.levels.proofs.Room.{line-whole, set-in-line, before-room}
 use Rattle.levels.proofs.Runs.{Body, before-run, run-body, head-end-fours, head-end-in}
 use Rattle.levels.proofs.Sentences.{set-start}
-use Rattle.multiplex.specs.Line.{lineDigit}
+use Rattle.levels.specs.Line.{lineDigit}
 use Rattle.multiplex.specs.Sending.{tributaryOf, nextOf, Ran, Sent, Sending, AllSent}
 use Rattle.multiplex.proofs.Placing.{Headed}
 
@@ -91,31 +90,6 @@ module _ (row : Row) (earlier : ℕ) (notes buffer : List ℕ) where
               moved j h ∙ rw (column, before-run row (actions row earlier notes j) x k body j h, now j h);
           digits = rw (was .digits, run-woven k body, e, tab-cat (4 * x) (4 * k) 0 line, zero-add (4 * x));
         }
-
--- ---- where a line that fits has room
-
-module _ (row : Row) (line F quarter : ℕ) (fits : Fits row line F quarter) where
-  abbrev sh : Shared row
-  sh = fits .shared
-
-  pub line-whole : 8 * line ≡ F * row .digits
-  line-whole = ap (λ (k : ℕ). 8 * k) (fits .whole) ∙ mul-left-comm 8 F (row .bytes) ∙ ap (λ (k : ℕ). F * k) (sym (sh .packed))
-
-  -- a set of a frame lies in the line
-  pub set-in-line : (f s : ℕ) → f < F → s < row .sets → f * row .digits + (s * row .set + row .set) ≤ 8 * line
-  set-in-line f s hf hs =
-      let last = in-frame row sh s (row .set - 1) hs (omega (arith, sh .room)) in
-      let later : (f + 1) * row .digits ≤ F * row .digits = mul-le-mul-right {m = f + 1} {n = F} (row .digits) (omega arith) in
-      omega (arith, line-whole, last, later, add-mul f 1 (row .digits), sh .room)
-
-  -- a tributary's digits up to any column of it have room
-  pub before-room : (earlier : ℕ) (notes : List ℕ) (j : ℕ) → j < 4 → (x : ℕ) → x ≤ 2 * line
-      → (before row (actions row earlier notes j) j x ≤ 8 * quarter) × (before row (actions row earlier notes j) j x < 65536)
-  before-room earlier notes j jh x h =
-      let rises = before-rises row (actions row earlier notes j) j x (2 * line) h in
-      let all = count-of row sh j jh (actions row earlier notes j) F line (fits .whole) in
-      let most = count-room row sh j jh (actions row earlier notes j) F in
-      (omega (arith, rises, all, most, fits .room), omega (arith, rises, all, most, room-small row sh F (fits .few)))
 
 -- ---- the quarters as they are lent
 

@@ -26,7 +26,7 @@ use Rattle.levels.proofs.Rows.{shared-row}
 use Rattle.levels.proofs.Counts.{count-of}
 use Rattle.levels.proofs.Inverse.{before-rises}
 use Rattle.levels.proofs.Refusals.{faultless, send-faultless}
-use Rattle.multiplex.specs.Line.{digitBy, lineDigit, lineOf}
+use Rattle.levels.specs.Line.{digitBy, lineDigit, lineOf}
 use Rattle.levels.specs.Faults.{fault, faultOf, sendFaultOf, refusedWith, sendAnswerOn, sendAnswered}
 use Rattle.multiplex.specs.Multiplex.{lineOn, lineAfter}
 

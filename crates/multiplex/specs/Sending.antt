@@ -18,7 +18,7 @@ use Rattle.levels.specs.Places.{kindOf}
 use Rattle.levels.specs.Table.{Shared}
 use Rattle.levels.specs.Order.{actions, actsBy, carried, before, countsOf}
 use Rattle.levels.specs.Sizes.{quarterOf, Fits}
-use Rattle.multiplex.specs.Line.{digitBy, lineDigit, lineOf}
+use Rattle.levels.specs.Line.{digitBy, lineDigit, lineOf}
 
 -- the digits of tributary j
 abbrev pub tributaryOf : List ℕ → ℕ → List ℕ

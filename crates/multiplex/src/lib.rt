@@ -1,5 +1,5 @@
 // Multiplexing from a known start: four tributaries and the notes of the frames become a line. specs/Multiplex.antt says what the call
-// answers and leaves, specs/Line.antt what each digit of the line is.
+// answers and leaves, specs/Line.antt of crate levels what each digit of the line is.
 use levels::faults;
 use levels::faults::Counted;
 use levels::faults::Fault;
@@ -8,15 +8,15 @@ use levels::order;
 use levels::places;
 use levels::places::At;
 use levels::places::Kind;
-use levels::places::ServiceDigit;
 use levels::places::TributaryPlace;
+use levels::sent;
 use table::Level;
 use table::Row;
 use weave::Next;
 use weave::table::spread_table;
 use words::Writer;
 ghost use mathlib.Core.Path.{_≡_};
-ghost use mathlib.Core.Bool.{true, false};
+ghost use mathlib.Core.Bool.{true};
 ghost use mathlib.Core.List.{List};
 ghost use Prim.Native.Nat.{ℕ, _+_, _*_, _/_, _%_, _<_, _≤_};
 ghost use lib.ListN.{length, getD};
@@ -27,49 +27,11 @@ ghost use Rattle.levels.specs.Table.{Shared};
 ghost use Rattle.levels.specs.Sizes.{quarterOf, Accepted};
 ghost use Rattle.levels.specs.Places.{headEnd};
 ghost use Rattle.levels.specs.Order.{actsBy, carried};
-ghost use Rattle.levels.specs.Word.{wordDigit};
 ghost use Rattle.levels.specs.declared.order.Action.{Action};
 ghost use Rattle.levels.specs.declared.places.Kind.the-variants.{Word};
-ghost use Rattle.multiplex.specs.Line.{serviceBy, digitBy};
 ghost use Rattle.multiplex.specs.Sending.{Placed, PlacedTo, ColumnAsked, ColumnMet, nextOf, Ran, Sending, AllSent};
 ghost use Rattle.levels.specs.Faults.{sendAnswerOn};
 ghost use Rattle.multiplex.specs.Multiplex.{lineOn, Met};
-
-// Digit r of the alignment word.
-pub fn word_digit(row: Row, r: usize) -> u8
-    requires { ⌜ Shared row × (r < row .len) ⌝ }
-    ensures { λ d. ⌜ (d ≡ wordDigit row r) × (d < 2) ⌝ }
-{
-    ((row.word >> (row.len - 1 - r)) % 2) as u8
-}
-
-// A service digit: its bit of the note, 1 where no note has one.
-fn service_digit(note: u8, digit: ServiceDigit) -> u8
-    ensures { λ d. ⌜ (d ≡ serviceBy note digit) × (d < 2) ⌝ }
-{
-    match digit {
-        ServiceDigit::RemoteAlarm => (note >> 4) % 2,
-        ServiceDigit::FirstNational => (note >> 5) % 2,
-        ServiceDigit::SecondNational => (note >> 6) % 2,
-        ServiceDigit::ThirdNational => (note >> 7) % 2,
-        ServiceDigit::Fixed => 1,
-    }
-}
-
-// What place r of a set is sent as where it carries no digit of its tributary j (from 0): its kind says what. A control digit is the vote, an unused
-// justification place 1.
-pub fn idle_digit(row: Row, kind: Kind, note: u8, j: usize, r: usize) -> u8
-    requires { ⌜ Shared row × (j < 4) × (kind ≡ Word → r < row .len) ⌝ }
-    ensures { λ d. ⌜ ((act : Action) (next : ℕ) → carried kind act ≡ false → d ≡ digitBy row note act j r next kind) × (d < 2) ⌝ }
-{
-    match kind {
-        Kind::Word => word_digit(row, r),
-        Kind::Service(digit) => service_digit(note, digit),
-        Kind::Control => digits::digit_of(order::is_stuffed(note, j)),
-        Kind::Justification(_) => 1,
-        Kind::Tributary => 1,
-    }
-}
 
 // One place of a head, of this kind and of tributary j (from 0): its digit. Where it carries one of its tributary, that is the next, and the index
 // moves on.
@@ -104,7 +66,7 @@ fn place_digit(
         next[j] = i + 1;
         return lent::tributary_digit(&buffer[a..e], TributaryPlace(i));
     }
-    idle_digit(row, kind, note, j, r)
+    sent::idle_digit(row, kind, note, j, r)
 }
 
 // The column of the first set's head from place r on, place by place: none of them carries a digit.
@@ -124,7 +86,7 @@ fn first_column(row: Row, note: u8, r: usize) -> u64
                 place,
             },
         );
-        word = word * 2 + idle_digit(row, kind, note, j, place) as u64;
+        word = word * 2 + sent::idle_digit(row, kind, note, j, place) as u64;
         j += 1;
     }
     word

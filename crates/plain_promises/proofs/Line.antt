@@ -20,8 +20,8 @@ use Rattle.levels.specs.Order.{decisions, actions, isStuffed, bothCarry, before
 use Rattle.levels.specs.Sizes.{quarterOf}
 use Rattle.levels.proofs.Majority.{digit-counts}
 use Rattle.levels.proofs.Choice.{cond-by}
-use Rattle.multiplex.specs.Line.{digitBy, lineDigit, lineOf}
-use Rattle.multiplex.proofs.Own.{noted-bit}
+use Rattle.levels.specs.Line.{digitBy, lineDigit, lineOf}
+use Rattle.levels.proofs.Line.{noted-bit}
 use Rattle.plain.specs.declared.frame.Place.{Place}
 use Rattle.plain.specs.declared.frame.Place.the-variants as places
 use Rattle.plain.specs.Engine.{digitAt, packed, quarterDigit, placeIn, stuffedIn, negativeIn, carriesBy, carriesAt, countTo, sentBy, sentAt}

@@ -29,7 +29,7 @@ use Rattle.levels.specs.declared.faults.Counted.{Counted}
 use Rattle.levels.specs.declared.faults.Fault.{Fault}
 use Rattle.levels.specs.Faults.{fault, badEarlier, faultOf, sendFaultOf, refusedWith, counted, answerOn, answered, sendAnswerOn, sendAnswered}
 use Rattle.levels.proofs.Refusals.{EarlierFits, NotesFit, NationalsSet, faultless, fit-faultless, send-faultless, set-faultless}
-use Rattle.multiplex.specs.Line.{lineDigit, lineOf}
+use Rattle.levels.specs.Line.{lineDigit, lineOf}
 use Rattle.reading.specs.Notes.{noteOf, notesOf, dissentTo, dissentsOf}
 use Rattle.extraction.specs.Quarters.{takenTo, quartersFrom}
 use Rattle.extraction.proofs.Handed.{quarter-first}

@@ -32,7 +32,7 @@ use Rattle.levels.proofs.Rows.{shared2, shared3, shared4, shared12, shared14}
 use Rattle.levels.proofs.Positions.{stands, pos-of-sum}
 use Rattle.levels.proofs.Majority.{group-length}
 use Rattle.levels.proofs.Ways.{kind-control}
-use Rattle.multiplex.specs.Line.{digitBy, lineDigit}
+use Rattle.levels.specs.Line.{digitBy, lineDigit}
 use Rattle.levels.specs.Faults.{firstWith, unset, nationalBits, faultOf, sendFaultOf}
 use Rattle.reading.specs.Notes.{voteAt, serviceAt, noteOf}
 use Rattle.extraction.specs.Quarters.{takenTo, quarterFrom, quartersFrom}

@@ -20,7 +20,7 @@ use Rattle.levels.specs.Table.{Shared}
 use Rattle.levels.specs.Sizes.{onLevel}
 use Rattle.levels.specs.Order.{decisions, actions, countOf, countsOf}
 use Rattle.levels.proofs.Positions.{in-frame}
-use Rattle.multiplex.specs.Line.{lineDigit}
+use Rattle.levels.specs.Line.{lineDigit}
 use Rattle.reading.specs.Notes.{notesOf, alignmentTo, dissentTo, dissentsOf}
 use Rattle.promises.specs.Damage.{Damage, controlsChanged, lineDigits, SameBut}
 use Rattle.promises.specs.Carried.{decisionRead, digitsRead, countRead, Returned}

@@ -21,7 +21,7 @@ use Rattle.levels.specs.Places.{firstSet, middleSet, lastSet, kindOf, posOf}
 use Rattle.levels.specs.Order.{actionOf, actions, carries, before, placesOf, countOf, countsOf}
 use Rattle.levels.specs.Sizes.{quarterOf, framesRefusal, sizeRefusal}
 use Rattle.levels.specs.Vote.{votesFor, voteBy}
-use Rattle.multiplex.specs.Line.{lineDigit, lineOf}
+use Rattle.levels.specs.Line.{lineDigit, lineOf}
 use Rattle.levels.specs.Faults.{firstWith, overfull, unset, fault, badEarlier, faultOf, sendFaultOf, sendAnswered}
 use Rattle.multiplex.specs.Multiplex.{lineAfter}
 use Rattle.promises.specs.Cases.{Every, cases, signedCases}

@@ -19,7 +19,7 @@ use Rattle.levels.specs.Sizes.{onLevel, quarterOf}
 use Rattle.levels.specs.Places.{posOf}
 use Rattle.levels.specs.Order.{hasNegative, actionOf, actions, countsOf}
 use Rattle.levels.specs.Faults.{fault, refusedWith, earlierFault, faultOf, sendFaultOf, answerOn, sendAnswerOn}
-use Rattle.multiplex.specs.Line.{lineDigit}
+use Rattle.levels.specs.Line.{lineDigit}
 use Rattle.multiplex.specs.Multiplex as multiplex
 use Rattle.reading.specs.Reading.{notesAfter}
 use Rattle.extraction.specs.Quarters.{takenTo, quarterFrom, quartersFrom}

@@ -22,7 +22,7 @@ use Rattle.levels.specs.Sizes.{quarterOf}
 use Rattle.levels.specs.Order.{decisions, actions, carries}
 use Rattle.levels.proofs.Columns.{columns, frame-start}
 use Rattle.levels.proofs.Refusals.{NationalsSet}
-use Rattle.multiplex.specs.Line.{lineDigit, lineOf}
+use Rattle.levels.specs.Line.{lineDigit, lineOf}
 use Rattle.multiplex.proofs.Unread.{Agree, same-line}
 use Rattle.reading.specs.Notes.{notesOf}
 use Rattle.extraction.proofs.Handed.{quarters-length}

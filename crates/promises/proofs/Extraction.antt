@@ -30,7 +30,7 @@ use Rattle.levels.proofs.Judged.{fits-quarter, no-frames-refused, no-size-refus
 use Rattle.reading.specs.Reading.{notesAfter}
 use Rattle.extraction.specs.Quarters.{takenTo, quartersFrom}
 use Rattle.extraction.specs.Extract.{bufferAfter}
-use Rattle.multiplex.specs.Line.{lineDigit}
+use Rattle.levels.specs.Line.{lineDigit}
 use Rattle.promises.specs.Damage.{lineDigits}
 use Rattle.promises.specs.Carried.{digitsRead, CameBack}
 use Rattle.promises.specs.Calls.{Lent, SendAccepted, sentLine, LentFor, LentAt}

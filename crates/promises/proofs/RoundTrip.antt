@@ -29,7 +29,7 @@ use Rattle.levels.specs.Order.{stuffed, decisions, actions, carried, before}
 use Rattle.levels.specs.Word.{wordDigit, wrongDigits}
 use Rattle.levels.proofs.Choice.{cond-by}
 use Rattle.levels.proofs.Majority.{digit-counts}
-use Rattle.multiplex.specs.Line.{serviceBy, digitBy, lineDigit}
+use Rattle.levels.specs.Line.{serviceBy, digitBy, lineDigit}
 use Rattle.reading.specs.Notes.{voteAt, serviceAt, bitOf, noteOf}
 use Rattle.promises.specs.Damage.{Damage, groupAt, lineDigits}
 use Rattle.promises.specs.Carried.{Sound, CameBack}

@@ -19,8 +19,8 @@ use Rattle.levels.proofs.Positions.{pos-of-sum, in-frame}
 use Rattle.levels.proofs.Sentences.{set-start}
 use Rattle.levels.proofs.Columns.{frame-start}
 use Rattle.levels.proofs.Ways.{kind-word, kind-noted, kind-control}
-use Rattle.multiplex.specs.Line.{digitBy, lineDigit}
-use Rattle.multiplex.proofs.Own.{digit-carried, noted-bit}
+use Rattle.levels.specs.Line.{digitBy, lineDigit}
+use Rattle.levels.proofs.Line.{digit-carried, noted-bit}
 use Rattle.promises.specs.Damage.{lineDigits, groupAt}
 
 module _ (row : Row) (sh : Shared row) where

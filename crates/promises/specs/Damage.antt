@@ -17,7 +17,7 @@ use Rattle.levels.specs.declared.places.Kind.the-variants.{Word, Service, Contr
 use Rattle.levels.specs.Places.{kindAt, posOf, isOwn}
 use Rattle.levels.specs.Order.{actions, carried}
 use Rattle.levels.specs.Vote.{groupOf}
-use Rattle.multiplex.specs.Line.{lineDigit}
+use Rattle.levels.specs.Line.{lineDigit}
 
 -- what may happen to a digit
 pub data Liberty : Type 0 where

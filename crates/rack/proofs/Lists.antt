@@ -15,7 +15,8 @@ use Rattle.digits.proofs.Tests.{cond-told}
 use Rattle.receiver.specs.Feed.{freshState, freshOf}
 use Rattle.rack.specs.declared.record.Record.{Record}
 use Rattle.rack.specs.declared.record.Kept.{Kept}
-use Rattle.rack.specs.Record.{recordOf, fedRecord, fedAnswer, keptReset, isAligned}
+use Rattle.receiver.specs.Numbers.{fedAnswer}
+use Rattle.rack.specs.Record.{recordOf, fedRecord, keptReset, isAligned}
 use Rattle.rack.specs.Rack.{at, listRefusal, refusalBy, listBy, madeOf, FeedMet, ResetMet, fedAlone, noneTaken, countRefusal, countedTo, alignedOf, AlignedMet}
 
 -- ---- what the machine's tests tell

@@ -7,7 +7,8 @@ use borrow.Author.Tests.{ne-eqb, le-leb}
 use lib.Dec.{leb, eqb}
 use Rattle.receiver.specs.declared.Mode.the-variants.{Aligned}
 use Rattle.receiver.specs.Frame.{aligned}
-use Rattle.rack.specs.Record.{modeOf, isAligned}
+use Rattle.receiver.specs.Numbers.{modeOf}
+use Rattle.rack.specs.Record.{isAligned}
 
 either : (t : Bool) (a b : ℕ) → aligned (cond t (Aligned a) (Aligned b)) ≡ true
 either true a b = refl

@@ -9,7 +9,8 @@ use Rattle.digits.specs.Sums.{sumTo}
 use Rattle.receiver.specs.Feed.{freshState, freshOf}
 use Rattle.rack.specs.declared.record.Record.{Record}
 use Rattle.rack.specs.declared.record.Kept.{Kept}
-use Rattle.rack.specs.Record.{recordOf, fedRecord, fedAnswer, keptAfter, keptReset, isAligned}
+use Rattle.receiver.specs.Numbers.{fedAnswer}
+use Rattle.rack.specs.Record.{recordOf, fedRecord, keptAfter, keptReset, isAligned}
 
 -- record number `line` of the list, from 0; past its end a record that no call looks at
 abbrev pub at : List Record → ℕ → Record

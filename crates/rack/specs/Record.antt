@@ -1,32 +1,17 @@
 -- A record: a receiver's state as nine numbers and the frame in hand, and what the receiver's calls make of it. The receiver's own definitions
 -- (crate receiver, specs/Feed.antt) say what feeding and a fresh state are.
-use mathlib.Core.Bool.{Bool, cond, not, _||_}
-use mathlib.Core.List.{List, [], _∷_}
-use Prim.Native.Nat.{ℕ, _+_, _-_}
-use lib.Dec.{eqb, leb, ltb}
-use Rattle.receiver.specs.declared.Mode.{Mode}
-use Rattle.receiver.specs.declared.Mode.the-variants.{Hunting, OneFound, TwoFound, Aligned}
+use mathlib.Core.Bool.{Bool, cond}
+use mathlib.Core.List.{List}
+use Prim.Native.Nat.{ℕ}
+use lib.Dec.{eqb}
+use Rattle.digits.specs.Digits.{isYes}
 use Rattle.receiver.specs.declared.State.{State}
 use Rattle.receiver.specs.declared.Fed.{Fed}
 use Rattle.receiver.specs.Frame.{aligned}
-use Rattle.receiver.specs.Feed.{refused, freshOf, feedOf}
+use Rattle.receiver.specs.Feed.{freshOf}
+use Rattle.receiver.specs.Numbers.{modeNumber, modeOf, fedBy}
 use Rattle.rack.specs.declared.record.Record.{Record}
 use Rattle.rack.specs.declared.record.Kept.{Kept}
-
--- mode: 0 hunting, 1 one found, 2 two found, 3 + m aligned with m missed
-abbrev pub modeNumber : Mode → ℕ
-modeNumber Hunting = 0
-modeNumber OneFound = 1
-modeNumber TwoFound = 2
-modeNumber (Aligned m) = 3 + m
-
--- the mode of a number; a number over 6 is a mode with too many missed, which is refused with 6
-unfoldable pub modeOf : ℕ → Mode
-modeOf n = cond (eqb n 0) Hunting (cond (eqb n 1) OneFound (cond (eqb n 2) TwoFound (cond (leb n 6) (Aligned (n - 3)) (Aligned 4))))
-
--- a number that stands for yes or no: 0 is no
-abbrev pub isYes : ℕ → Bool
-isYes n = not (eqb n 0)
 
 -- the state that a record keeps, and the record of a state
 abbrev pub stateFrom : Record → State
@@ -55,14 +40,6 @@ recordOf s =
       alarm = cond (s .stretch .alarm) 1 0;
       frame = s .frame;
     }
-
--- feeding a state whose numbers for yes and no were these: another value than 0 or 1 is refused with 6
-unfoldable pub fedBy : State → ℕ → ℕ → List ℕ → ℕ → ℕ → Fed
-fedBy s few alarm piece first count = cond (ltb 1 few || ltb 1 alarm) (refused 6 s) (feedOf s piece first count)
-
--- answer: digits taken, 1 if a frame is ready, 1 if the alarm stands at the end, words tested
-abbrev pub fedAnswer : Fed → List ℕ
-fedAnswer f = f .taken ∷ cond (f .ready) 1 0 ∷ cond (f .alarm) 1 0 ∷ f .words ∷ []
 
 -- ---- what the calls make of one record
 

@@ -1,13 +1,12 @@
 // A receiver kept as a record: nine numbers and the frame in hand, laid out as C lays them out, so that a list of them can be lent. Beside it the
 // functions of a receiver on one record, by value: a record is taken out of its list, these are called, and it is put back.
 use receiver::Fed;
-use receiver::Mode;
 use receiver::State;
 use receiver::alarm::Stretch;
+use receiver::numbers;
 ghost use mathlib.Core.Path.{_≡_};
-ghost use mathlib.Core.Bool.{cond};
-ghost use Prim.Native.Nat.{_+_, _<_};
-ghost use Rattle.rack.specs.Record.{modeNumber, modeOf, stateFrom, recordOf, fedBy, fedAnswer, fedRecord, keptAfter, isAligned};
+ghost use Rattle.receiver.specs.Numbers.{fedAnswer};
+ghost use Rattle.rack.specs.Record.{stateFrom, recordOf, fedRecord, keptAfter, isAligned};
 
 // The state's numbers in the order in which the C face has them; the mode is 0 hunting, 1 one found, 2 two found, 3 + m aligned with m missed.
 #[repr(C)]
@@ -30,48 +29,10 @@ pub struct Kept {
     pub kept: Record,
 }
 
-pub fn as_number(t: bool) -> u64
-    ensures { λ r. ⌜ r ≡ cond t 1 0 ⌝ }
-{
-    if t {
-        return 1;
-    }
-    0
-}
-
-pub fn mode_number(mode: Mode) -> u64
-    ensures { λ r. ⌜ r ≡ modeNumber mode ⌝ }
-{
-    match mode {
-        Mode::Hunting => 0,
-        Mode::OneFound => 1,
-        Mode::TwoFound => 2,
-        Mode::Aligned(m) => 3 + m as u64,
-    }
-}
-
-pub fn mode_of(n: u64) -> Mode
-    ensures { λ r. ⌜ r ≡ modeOf n ⌝ }
-{
-    if n == 0 {
-        return Mode::Hunting;
-    }
-    if n == 1 {
-        return Mode::OneFound;
-    }
-    if n == 2 {
-        return Mode::TwoFound;
-    }
-    if n <= 6 {
-        return Mode::Aligned((n - 3) as u8);
-    }
-    Mode::Aligned(4)
-}
-
 pub fn state_of(r: Record) -> State
     ensures { λ s. ⌜ s ≡ stateFrom r ⌝ }
 {
-    let mode = mode_of(r.mode);
+    let mode = numbers::mode_of(r.mode);
     let frame = r.frame;
     State {
         level: r.level,
@@ -99,39 +60,14 @@ pub fn record_of(s: State) -> Record
         level: s.level,
         window: s.window as u64,
         seen: s.seen as u64,
-        mode: mode_number(mode),
+        mode: numbers::mode_number(mode),
         place: s.place as u64,
         digits: st.digits as u64,
         zeros: st.zeros as u64,
-        few: as_number(st.few),
-        alarm: as_number(st.alarm),
+        few: digits::as_number(st.few),
+        alarm: digits::as_number(st.alarm),
         frame,
     }
-}
-
-// Feeds a piece to a state of whose numbers two stand for yes or no: another number than 0 and 1 is refused with 6.
-pub fn fed_by(s: State, few: u64, alarm: u64, piece: &[u8], first: usize, count: usize) -> Fed
-    ensures { λ r. ⌜ r ≡ fedBy s few alarm (now (piece .entry)) first count ⌝ }
-{
-    if 1 < few {
-        return receiver::refuse(6, s);
-    }
-    if 1 < alarm {
-        return receiver::refuse(6, s);
-    }
-    receiver::feed(s, piece, first, count)
-}
-
-// The answer of a piece as numbers: digits taken, 1 if a frame is ready, 1 if the alarm stands at the end, words tested.
-pub fn fed_numbers(f: Fed) -> [u64; 4]
-    ensures { λ r. ⌜ r ≡ fedAnswer f ⌝ }
-{
-    [
-        f.taken as u64,
-        as_number(f.ready),
-        as_number(f.alarm),
-        f.words as u64,
-    ]
 }
 
 // What stays of a record that was fed: under a refusal the record itself, else the state after the piece.
@@ -153,7 +89,7 @@ pub fn feed_record(r: Record, piece: &[u8], first: u64, count: u64, answer: &mut
         (k ≡ keptAfter (fedRecord r (now (piece .entry)) first count) r) × (now (answer .exit) ≡ fedAnswer (fedRecord r (now (piece .entry)) first count))
         ⌝ }
 {
-    let fed = fed_by(
+    let fed = numbers::fed_by(
         state_of(r),
         r.few,
         r.alarm,
@@ -161,7 +97,7 @@ pub fn feed_record(r: Record, piece: &[u8], first: u64, count: u64, answer: &mut
         first as usize,
         count as usize,
     );
-    *answer = fed_numbers(fed);
+    *answer = numbers::fed_numbers(fed);
     kept_after(fed, r)
 }
 

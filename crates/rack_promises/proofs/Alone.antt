@@ -24,7 +24,9 @@ use Rattle.receiver.specs.Feed.{freshState, freshOf, freshAt, feedOf, feedRow, 
 use Rattle.receiver_promises.proofs.Pieces.{feed-valid, fresh-state, run-answer}
 use Rattle.rack.specs.declared.record.Record.{Record}
 use Rattle.rack.specs.declared.record.Kept.{Kept}
-use Rattle.rack.specs.Record.{modeNumber, modeOf, isYes, recordOf, fedBy, fedRecord, keptReset}
+use Rattle.digits.specs.Digits.{isYes}
+use Rattle.receiver.specs.Numbers.{modeNumber, modeOf, fedBy}
+use Rattle.rack.specs.Record.{recordOf, fedRecord, keptReset}
 use Rattle.rack.specs.Rack.{at, listRefusal, listBy, fedAlone, FeedMet, ResetMet}
 use Rattle.rack.proofs.Lists.{blank}
 use Rattle.rack_promises.specs.Alone.{Call, Feed, Reset, toldAlone, leftAlone, alone, aloneLeft, toldOne, leftOne, ofOne, oneLeft}

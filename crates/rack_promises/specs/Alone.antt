@@ -12,7 +12,8 @@ use Rattle.table.specs.Table.{levelOf}
 use Rattle.receiver.specs.declared.State.{State}
 use Rattle.receiver.specs.Feed.{freshOf, feedOf, ValidState}
 use Rattle.rack.specs.declared.record.Record.{Record}
-use Rattle.rack.specs.Record.{fedRecord, fedAnswer, keptAfter, keptReset, isAligned}
+use Rattle.receiver.specs.Numbers.{fedAnswer}
+use Rattle.rack.specs.Record.{fedRecord, keptAfter, keptReset, isAligned}
 use Rattle.rack.specs.Rack.{at, refusalBy, listBy, fedAlone, feedAnswer}
 
 -- a call on a line: a piece fed (slice, first digit, number of digits), or a reset to a level

@@ -5,6 +5,7 @@ pub mod alarm;
 mod carry;
 mod frame;
 mod modes;
+pub mod numbers;
 
 use crate::alarm::Stretch;
 use crate::modes::Core;
@@ -218,9 +219,10 @@ fn accept(
     }
 }
 
-// The run over an accepted piece. The core goes round by value, the array is lent; the zeros are counted at the end, over the
-// digits taken. The words that the hunt tests in its hurry are added first, then the word that the digit after it tests.
-fn run(row: Row, s: State, piece: &[u8], first: usize, count: usize) -> Fed
+// Takes the digits of an accepted piece, up to the one that completes a frame. The core goes round by value, the array is lent; the zeros are
+// counted at the end, over the digits taken. The words that the hunt tests in its hurry are added first, then the word that the digit after it
+// tests.
+fn take_piece(row: Row, s: State, piece: &[u8], first: usize, count: usize) -> Fed
     requires { ⌜ Shared row × Valid row (coreOf s) × Counting row (s .stretch) × (length (now piece) ≤ 65536) × (first + count ≤ 8 * length (now piece)) ⌝ }
     ensures { λ r. ⌜ r ≡ runOf row (pieceOf (now (piece .entry)) first count) 0 0 s ⌝ }
 {
@@ -262,7 +264,7 @@ fn feed_row(row: Row, s: State, piece: &[u8], first: usize, count: usize) -> Fed
     if refusal != 0 {
         return refuse(refusal, s);
     }
-    run(row, s, piece, first, count)
+    take_piece(row, s, piece, first, count)
 }
 
 // Feeds count digits of the piece, from digit first on, and stops after the digit that completes a frame.

@@ -33,7 +33,7 @@ use Rattle.levels.proofs.Choice.{cond-by}
 use Rattle.levels.proofs.Rows.{shared-row}
 use Rattle.levels.proofs.Positions.{stands}
 use Rattle.levels.proofs.Ways.{kind-word}
-use Rattle.multiplex.specs.Line.{serviceBy, digitBy, lineDigit, lineOf}
+use Rattle.levels.specs.Line.{serviceBy, digitBy, lineDigit, lineOf}
 use Rattle.receiver_promises.specs.Line.{inFrame}
 use Rattle.receiver_recovery.specs.Line.{wordOf, CorrectLine, zeroDigit, isOne, idleDigit, idleLine}
 use Rattle.receiver_promises.proofs.Alarms.{some-digits}

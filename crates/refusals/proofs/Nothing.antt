@@ -44,7 +44,8 @@ use Rattle.receiver.specs.Feed.{freshState}
 use Rattle.receiver.specs.Turns.{Nothing}
 use Rattle.receiver.proofs.Turns.{refused-nothing}
 use Rattle.rack.specs.declared.record.Record.{Record}
-use Rattle.rack.specs.Record.{stateFrom, recordOf, fedBy, fedRecord}
+use Rattle.receiver.specs.Numbers.{fedBy}
+use Rattle.rack.specs.Record.{stateFrom, recordOf, fedRecord}
 use Rattle.rack.specs.Rack as rack
 use Rattle.refusals.specs.Nothing.{CountedNothing, NotedNothing, SwappedNothing, RepairedNothing, ComparedNothing, WrittenNothing, ReadNothing, BuiltNothing, FoundNothing, RackNothing}
 

@@ -31,7 +31,8 @@ use Rattle.digits.specs.Runs.{pieceOf}
 use Rattle.receiver.specs.Feed.{coreOf, freshOf, invalid, refusalOf, afterOf, runOf, feedRow, feedOf}
 use Rattle.rack.specs.declared.record.Record.{Record}
 use Rattle.rack.specs.declared.record.Kept.{Kept}
-use Rattle.rack.specs.Record.{stateFrom, fedBy, fedRecord, keptReset}
+use Rattle.receiver.specs.Numbers.{fedBy}
+use Rattle.rack.specs.Record.{stateFrom, fedRecord, keptReset}
 use Rattle.rack.specs.Rack.{at, listRefusal, refusalBy, fedAlone, countRefusal}
 use Rattle.multiframe.specs.Calls.{lengthsRight, silentFrom, firstSilent, builtOf}
 use Rattle.finder_2048.specs.declared.State as finder

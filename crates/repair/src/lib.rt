@@ -10,6 +10,7 @@ use levels::places::FramePlace;
 use levels::places::Kind;
 use levels::places::ServiceDigit;
 use levels::places::Sign;
+use levels::sent;
 use levels::sizes;
 use table::Level;
 use table::Row;
@@ -101,7 +102,7 @@ fn repaired_digit(row: Row, kind: Kind, rule: Rule, j: usize, r: usize, came: u8
         ⌝ }
 {
     match kind {
-        Kind::Word => multiplex::word_digit(row, r),
+        Kind::Word => sent::word_digit(row, r),
         Kind::Service(s) => service_digit(rule.national, s, came),
         Kind::Control => digits::digit_of(order::is_stuffed(rule.note, j)),
         Kind::Justification(sign) => justification_digit(row, sign, rule, j, came),

@@ -17,7 +17,7 @@ use Rattle.levels.specs.declared.places.Kind.the-variants.{Word, Service, Contr
 use Rattle.levels.specs.Table.{Shared}
 use Rattle.levels.specs.Places.{notedDigit, notedOf, firstSet, middleSet, lastSet, kindOf}
 use Rattle.levels.proofs.Ways.{kind-noted}
-use Rattle.multiplex.specs.Line.{serviceBy, digitBy}
+use Rattle.levels.specs.Line.{serviceBy, digitBy}
 use Rattle.repair_promises.specs.Repairing.{isNational}
 
 -- a place of this kind has a national digit

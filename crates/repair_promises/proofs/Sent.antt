@@ -26,7 +26,7 @@ use Rattle.levels.specs.Places.{kindAt, posOf}
 use Rattle.levels.specs.Order.{stuffed, actions, carried, before}
 use Rattle.levels.proofs.Judged.{unrefused, no-frames-refused}
 use Rattle.levels.proofs.Positions.{stands}
-use Rattle.multiplex.specs.Line.{serviceBy, digitBy, lineDigit}
+use Rattle.levels.specs.Line.{serviceBy, digitBy, lineDigit}
 use Rattle.promises.specs.Damage.{kept, liberty, lineDigits}
 use Rattle.promises.specs.Calls.{Lent, SendAccepted, sentLine}
 use Rattle.promises.proofs.Sent.{sent-at}

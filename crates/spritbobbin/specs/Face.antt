@@ -6,9 +6,9 @@ use mathlib.Core.List.{List, [], _∷_}
 use Prim.Native.Nat.{ℕ}
 use lib.Dec.{eqb}
 use lib.ListN.{length, getD}
+use Rattle.digits.specs.Digits.{isYes}
 use Rattle.levels.specs.declared.faults.Counted.{Counted}
 use Rattle.reading.specs.declared.Noted.{Noted}
-use Rattle.receiver.specs.declared.State.{State}
 use Rattle.receiver.specs.declared.Fed.{Fed}
 use Rattle.captures.specs.declared.Written.{Written}
 use Rattle.captures.specs.declared.Reading.{Reading}
@@ -17,9 +17,8 @@ use Rattle.levels.specs.Faults.{answered, sendAnswered}
 use Rattle.multiplex.specs.Multiplex.{lineAfter}
 use Rattle.reading.specs.Reading.{noted, notesAfter}
 use Rattle.extraction.specs.Extract.{bufferAfter}
-use Rattle.receiver.specs.declared.alarm.Stretch.{Stretch}
 use Rattle.receiver.specs.Feed.{freshOf}
-use Rattle.rack.specs.Record.{modeNumber, modeOf, isYes, fedBy, fedAnswer}
+use Rattle.receiver.specs.Numbers.{stateFrom, stateNumbers, fedBy, fedAnswer}
 use Rattle.line_reader.specs.Step.{stepAt, digitOrEnd}
 use Rattle.captures.specs.Captures.{writtenOf, leftOf, readOf}
 use Rattle.multiframe.specs.Multiframe.{multiframeOf}
@@ -32,36 +31,6 @@ countedAnswer m = getD (m .counts) 0 0 ∷ getD (m .counts) 1 0 ∷ getD (m .cou
 -- answer: alignment digits that differ, dissenting digits of tributaries 1 to 4
 abbrev pub notedAnswer : Noted → List ℕ
 notedAnswer n = n .alignment ∷ getD (n .dissent) 0 0 ∷ getD (n .dissent) 1 0 ∷ getD (n .dissent) 2 0 ∷ getD (n .dissent) 3 0 ∷ []
-
--- state: level, window, digits seen, mode, place, then the stretch's digits, its zeros, 1 if the stretch before had few zeros, 1 if the alarm
--- stands; the frame in hand beside it
-abbrev pub stretchFrom : List ℕ → Stretch
-stretchFrom s = record { digits = getD s 5 0; zeros = getD s 6 0; few = isYes (getD s 7 0); alarm = isYes (getD s 8 0) }
-
-abbrev pub stateFrom : List ℕ → List ℕ → State
-stateFrom s frame =
-    record {
-      level = getD s 0 0;
-      window = getD s 1 0;
-      seen = getD s 2 0;
-      mode = modeOf (getD s 3 0);
-      place = getD s 4 0;
-      frame = frame;
-      stretch = stretchFrom s;
-    }
-
-abbrev pub stateNumbers : State → List ℕ
-stateNumbers s =
-    s .level
-    ∷ s .window
-    ∷ s .seen
-    ∷ modeNumber (s .mode)
-    ∷ s .place
-    ∷ s .stretch .digits
-    ∷ s .stretch .zeros
-    ∷ cond (s .stretch .few) 1 0
-    ∷ cond (s .stretch .alarm) 1 0
-    ∷ []
 
 -- a refused feed writes no state and no frame
 abbrev pub fedState : Fed → List ℕ → List ℕ

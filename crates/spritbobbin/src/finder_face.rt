@@ -49,7 +49,7 @@ fn four_numbers(s: State) -> [u64; 4]
 fn found_numbers(f: Fed) -> [u64; 2]
     ensures { λ r. ⌜ r ≡ fedAnswer f ⌝ }
 {
-    [f.taken as u64, rack::record::as_number(f.aligned)]
+    [f.taken as u64, digits::as_number(f.aligned)]
 }
 
 // Makes a fresh state of the finder; never refused.

@@ -19,11 +19,10 @@ use captures::Written;
 use levels::faults::Counted;
 use multiframe::Built;
 use reading::Noted;
-use receiver::State;
-use receiver::alarm::Stretch;
+use receiver::numbers;
 ghost use mathlib.Core.Path.{_≡_};
 ghost use mathlib.Core.Bool.{cond};
-ghost use Rattle.spritbobbin.specs.Face.{countedAnswer, notedAnswer, stateNumbers};
+ghost use Rattle.spritbobbin.specs.Face.{countedAnswer, notedAnswer};
 ghost use Rattle.spritbobbin.specs.Face.{writtenAnswer, readAnswer, CaptureWriteMet, CaptureReadMet};
 ghost use Rattle.spritbobbin.specs.Face.{builtAnswer, MultiframeBuildMet, MultiframeApartMet};
 ghost use Rattle.spritbobbin.specs.Face.{MultiplexMet, ReadNotesMet, ExtractMet, FreshMet, FeedMet, LineDigitMet};
@@ -104,24 +103,6 @@ pub extern "C" fn spritbobbin_extract(
     taken.refusal
 }
 
-fn numbers_of(s: State) -> [u64; 9]
-    ensures { λ r. ⌜ r ≡ stateNumbers s ⌝ }
-{
-    let mode = s.mode;
-    let st = s.stretch;
-    [
-        s.level,
-        s.window as u64,
-        s.seen as u64,
-        rack::record::mode_number(mode),
-        s.place as u64,
-        st.digits as u64,
-        st.zeros as u64,
-        rack::record::as_number(st.few),
-        rack::record::as_number(st.alarm),
-    ]
-}
-
 // Makes a fresh state; one that is refused with 1 is all zero, and is written.
 #[no_mangle]
 pub extern "C" fn spritbobbin_receiver_fresh(
@@ -133,7 +114,7 @@ pub extern "C" fn spritbobbin_receiver_fresh(
 {
     let made = receiver::fresh(level);
     let s = made.state;
-    *state = numbers_of(s);
+    *state = numbers::state_numbers(s);
     let zeros = s.frame;
     *frame = zeros;
     made.refusal
@@ -153,29 +134,16 @@ pub extern "C" fn spritbobbin_receiver_feed(
         FeedMet (now (state .entry)) (now (frame .entry)) (now (piece .entry)) first count r (now (state .exit)) (now (frame .exit)) (now (answer .exit))
         ⌝ }
 {
+    let given = *state;
     let held = *frame;
-    let mode = rack::record::mode_of(state[3]);
-    let s = State {
-        level: state[0],
-        window: state[1] as usize,
-        seen: state[2] as usize,
-        mode,
-        place: state[4] as usize,
-        frame: held,
-        stretch: Stretch {
-            digits: state[5] as usize,
-            zeros: state[6] as usize,
-            few: state[7] != 0,
-            alarm: state[8] != 0,
-        },
-    };
-    let fed = rack::record::fed_by(s, state[7], state[8], piece, first as usize, count as usize);
-    *answer = rack::record::fed_numbers(fed);
+    let s = numbers::state_from(given, held);
+    let fed = numbers::fed_by(s, state[7], state[8], piece, first as usize, count as usize);
+    *answer = numbers::fed_numbers(fed);
     if fed.refusal != 0 {
         return fed.refusal;
     }
     let next = fed.state;
-    *state = numbers_of(next);
+    *state = numbers::state_numbers(next);
     let kept = next.frame;
     *frame = kept;
     fed.refusal
@@ -223,7 +191,7 @@ fn read_numbers(r: Reading) -> [u64; 7]
         r.level,
         line.start as u64,
         line.bytes as u64,
-        rack::record::as_number(r.labelled),
+        digits::as_number(r.labelled),
         label.start as u64,
         label.bytes as u64,
         r.byte as u64,

@@ -24,8 +24,8 @@ use Rattle.levels.specs.Order.{actsBy, actions, carried, carries, before}
 use Rattle.levels.proofs.Positions.{Stands, stands-at, pos-of-sum}
 use Rattle.levels.proofs.Runs.{past-head}
 use Rattle.levels.proofs.Walk.{Walking, walk-start, walk-next, Column, column}
-use Rattle.multiplex.specs.Line.{digitBy, lineDigit}
-use Rattle.multiplex.proofs.Running.{set-in-line, before-room}
+use Rattle.levels.specs.Line.{digitBy, lineDigit}
+use Rattle.levels.proofs.Room.{set-in-line, before-room}
 use Rattle.swap.specs.Filling.{among, Ran, Ahead, Put, Filled}
 use Rattle.swap.proofs.Eights.{among-none, by-columns}
 

@@ -13,8 +13,8 @@ use Rattle.levels.specs.declared.places.Kind.{Kind}
 use Rattle.levels.specs.declared.places.Kind.the-variants.{Word, Service, Control, Justification, Tributary}
 use Rattle.levels.specs.Places.{isOwn, kindOf}
 use Rattle.levels.specs.Order.{carried}
-use Rattle.multiplex.specs.Line.{digitBy}
-use Rattle.multiplex.proofs.Own.{digit-carried}
+use Rattle.levels.specs.Line.{digitBy}
+use Rattle.levels.proofs.Line.{digit-carried}
 use Rattle.swap.specs.Filling.{Put}
 
 -- a place that is no own place carries nothing

@@ -11,7 +11,7 @@ use Rattle.levels.specs.declared.order.Action.{Action}
 use Rattle.levels.specs.declared.places.At.{At}
 use Rattle.levels.specs.Places.{headEnd, isOwn, kindOf}
 use Rattle.levels.specs.Order.{actions, carried, before}
-use Rattle.multiplex.specs.Line.{digitBy}
+use Rattle.levels.specs.Line.{digitBy}
 use Rattle.swap.specs.Swap.{swappedDigit}
 
 -- one place of a walk: an own place gets its digit, and the next digit is one further on where the place carries one

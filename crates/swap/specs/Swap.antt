@@ -12,7 +12,7 @@ use Rattle.levels.specs.Sizes.{onLevel, framesOf, framesRefusal}
 use Rattle.levels.specs.Places.{kindAt, isOwn}
 use Rattle.levels.specs.Order.{actions, countOf}
 use Rattle.levels.specs.Faults.{badEarlier}
-use Rattle.multiplex.specs.Line.{lineDigit}
+use Rattle.levels.specs.Line.{lineDigit}
 use Rattle.swap.specs.declared.Swapped.{Swapped}
 
 -- 12: "j outside 1 to 4"

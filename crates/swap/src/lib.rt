@@ -9,6 +9,7 @@ use levels::places;
 use levels::places::At;
 use levels::places::FramePlace;
 use levels::places::TributaryPlace;
+use levels::sent;
 use levels::sizes;
 use table::Level;
 use table::Row;
@@ -69,7 +70,7 @@ fn put_one(
         lent::put_line_digit(line, p, lent::tributary_digit(buffer, i));
         return TributaryPlace(i.0 + 1);
     }
-    lent::put_line_digit(line, p, multiplex::idle_digit(row, kind, note, j, at.place));
+    lent::put_line_digit(line, p, sent::idle_digit(row, kind, note, j, at.place));
     i
 }
 

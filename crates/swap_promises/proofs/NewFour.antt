@@ -29,7 +29,7 @@ use Rattle.levels.proofs.Positions.{stands}
 use Rattle.levels.proofs.Columns.{columns, frame-start}
 use Rattle.levels.proofs.Counts.{line-count}
 use Rattle.levels.proofs.Inverse.{before-rises}
-use Rattle.multiplex.specs.Line.{serviceBy, digitBy, lineDigit, lineOf}
+use Rattle.levels.specs.Line.{serviceBy, digitBy, lineDigit, lineOf}
 use Rattle.promises.specs.Calls.{Lent, SendAccepted, sentLine, sentCounts}
 use Rattle.promises.specs.Extraction.{SameBit}
 use Rattle.promises.proofs.Order.{before-same, count-same, actions-same}

@@ -14,7 +14,7 @@ use Rattle.table.specs.Table.{levelOf}
 use Rattle.levels.specs.Places.{kindAt, isOwn}
 use Rattle.levels.specs.Order.{actions, countOf}
 use Rattle.levels.proofs.Rows.{shared-row}
-use Rattle.multiplex.specs.Line.{lineDigit}
+use Rattle.levels.specs.Line.{lineDigit}
 use Rattle.promises.specs.Extraction.{SameBit}
 use Rattle.promises.proofs.Order.{count-same, actions-same}
 use Rattle.swap.specs.declared.Swapped.{Swapped}

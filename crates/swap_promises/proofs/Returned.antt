@@ -24,8 +24,8 @@ use Rattle.levels.specs.Order.{stuffed, actions, carried, carries, before, plac
 use Rattle.levels.proofs.Columns.{columns, frame-start}
 use Rattle.levels.proofs.Inverse.{places-length, digit-of-place, before-rises}
 use Rattle.levels.proofs.Counts.{line-count, count-room}
-use Rattle.multiplex.specs.Line.{digitBy, lineDigit}
-use Rattle.multiplex.proofs.Own.{digit-carried}
+use Rattle.levels.specs.Line.{digitBy, lineDigit}
+use Rattle.levels.proofs.Line.{digit-carried}
 use Rattle.extraction.specs.Quarters.{takenTo}
 use Rattle.promises.specs.Calls.{Lent, ReadAccepted, readNotes}
 use Rattle.promises.specs.Extraction.{ExtractAccepted, SameOwnAt, SameBit, ExtractsSame}

@@ -10,7 +10,7 @@ use Rattle.levels.specs.declared.order.Action.{Action}
 use Rattle.levels.specs.Places.{headEnd}
 use Rattle.levels.proofs.Runs.{head-end-short}
 use Rattle.multiplex.specs.Sending.{PlacedTo}
-use Rattle.multiplex.proofs.Own.{word-within}
+use Rattle.levels.proofs.Line.{word-within}
 use Rattle.multiplex.proofs.Placing.{placed-idle, placed-none, placed-more, first-idle}
 use Rattle.multiplex.proofs.first_column.Statement.{statement}
 use Rattle.multiplex.proofs.first_column.Tie as tie

@@ -6,7 +6,7 @@ use borrow.Author.Needs.{needs}
 use lib.Pow.{pow-mono}
 use Rattle.levels.specs.Order.{actsBy}
 use Rattle.multiplex.specs.Sending.{PlacedTo}
-use Rattle.multiplex.proofs.Own.{word-within}
+use Rattle.levels.proofs.Line.{word-within}
 use Rattle.multiplex.proofs.Placing.{placed-none, placed-now, placed-more, one-kind}
 use Rattle.multiplex.proofs.later_column.Statement.{statement}
 use Rattle.multiplex.proofs.later_column.Tie as tie

@@ -8,9 +8,10 @@ use lib.ListN.{getD}
 use lib.Pow.{pow-mono}
 use Rattle.words.specs.Words.{outFrom}
 use Rattle.levels.specs.Places.{headEnd}
+use Rattle.levels.proofs.Room.{set-in-line}
 use Rattle.levels.proofs.Runs.{head-end-fours, head-end-short, head-end-in}
 use Rattle.multiplex.proofs.Placing.{Headed, headed-start, headed-more, sent-column, column-rely}
-use Rattle.multiplex.proofs.Running.{head-sent, set-in-line}
+use Rattle.multiplex.proofs.Running.{head-sent}
 use Rattle.multiplex.proofs.send_head.Statement.{statement}
 use Rattle.multiplex.proofs.send_head.Tie as tie
 

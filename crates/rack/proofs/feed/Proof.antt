@@ -50,7 +50,8 @@ use denote.Struct.Laws as LL
 use native.Mathlib.Omega.{arith}
 use Rattle.rack.specs.declared.record.Record.{Record}
 use Rattle.rack.specs.declared.record.Kept.{Kept}
-use Rattle.rack.specs.Record.{keptAfter, fedRecord, fedAnswer}
+use Rattle.receiver.specs.Numbers.{fedAnswer}
+use Rattle.rack.specs.Record.{keptAfter, fedRecord}
 use Rattle.rack.specs.Rack.{listRefusal, noneTaken, FeedMet}
 use Rattle.rack.proofs.Lists.{blank, fails, holds, within, feed-refused, feed-alone-refused, feed-done}
 use Rattle.rack.proofs.Walks.{envOf, after}

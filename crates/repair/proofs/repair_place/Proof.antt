@@ -2,7 +2,7 @@
 use borrow.Author.Needs.{needs}
 use native.Mathlib.Omega.{arith}
 use mathlib.Core.Path.{sym, _∙_}
-use Rattle.multiplex.proofs.Own.{word-within}
+use Rattle.levels.proofs.Line.{word-within}
 use Rattle.repair.proofs.Mending.{sums-few, place-asks, place-stays, place-changes}
 use Rattle.repair.proofs.repair_place.Statement.{statement}
 use Rattle.repair.proofs.repair_place.Tie as tie

@@ -8,19 +8,18 @@ use Rattle.spritbobbin.proofs.spritbobbin_receiver_feed.Tie as tie
 returns : tie.Need-returns
 returns c =
     let c3 = c .before .before .before in
-    let m = c3 .before .before .before .before .before .before .before .before .before .before .before .mode-of .ensures in
-    rw (← m, ← (c3 .fed-by .ensures), ne-eqb _ _ (c .if1 .taken)) (refl, refl, refl, c .before .before .fed-numbers .ensures)
+    let s = c3 .before .before .before .state-from .ensures in
+    rw (← s, ← (c3 .fed-by .ensures), ne-eqb _ _ (c .if1 .taken)) (refl, refl, refl, c .before .before .fed-numbers .ensures)
 
 returns-2 : tie.Need-returns-2
 returns-2 c =
     let c5 = c .before .before .before .before .before in
     let c6 = c5 .before in
-    let m = c6 .before .before .before .before .before .before .before .before .before .before .before .mode-of .ensures in
-    rw (← m, ← (c6 .fed-by .ensures), eq-eqb _ _ (c .before .before .before .if1 .left)) (refl, c .before .numbers-of .ensures, refl, c5 .fed-numbers .ensures)
+    let s = c6 .before .before .before .state-from .ensures in
+    rw (← s, ← (c6 .fed-by .ensures), eq-eqb _ _ (c .before .before .before .if1 .left)) (refl, c .before .state-numbers .ensures, refl, c5 .fed-numbers .ensures)
 
 pub spritbobbin-receiver-feed-spec : {M : Type 1} → statement M
 spritbobbin-receiver-feed-spec =
     tie.close
-    (tie.spec (λ c. search needs) (λ c κs. search needs) (λ c. search needs) (λ c. search needs) (λ c. search needs) (λ c. search needs)
-    (λ c. search needs) (λ c. search needs) (λ c. search needs) (λ c. search needs) (λ c. search needs) (λ c. search needs)
-    (λ c κs. search needs) (λ c κs. search needs) returns (λ c κs. search needs) returns-2)
+    (tie.spec (λ c κs. search needs) (λ c. search needs) (λ c. search needs) (λ c κs. search needs) (λ c κs. search needs) returns (λ c κs. search needs)
+    returns-2)

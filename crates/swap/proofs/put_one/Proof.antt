@@ -7,7 +7,7 @@ use Rattle.levels.specs.declared.order.Action.{Action}
 use Rattle.levels.specs.declared.places.Kind.{Kind}
 use Rattle.levels.specs.Places.{isOwn}
 use Rattle.levels.specs.Order.{carried}
-use Rattle.multiplex.proofs.Own.{word-within}
+use Rattle.levels.proofs.Line.{word-within}
 use Rattle.swap.proofs.Puts.{put-none, put-carried, put-idle}
 use Rattle.swap.proofs.put_one.Statement.{statement}
 use Rattle.swap.proofs.put_one.Tie as tie
