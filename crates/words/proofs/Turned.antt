@@ -195,11 +195,7 @@ rows-from : tab 64 0 (λ (i : ℕ). source 3 bytes (source 6 pairs (source 12 fo
 unfolding tab
 rows-from = refl
 
-columns-from : tab 64 0 (λ (i : ℕ). source 24 eights (source 12 fours (source 6 pairs (source 3 bytes i)))) ≡ tab 64 0 (λ (i : ℕ). 16 * (i % 4) + i / 4)
-unfolding tab
-columns-from = refl
-
--- columns into rows, as the program has them, and rows into columns
+-- columns into rows, as the program has them
 pub turned-rows : (x y z t r : ℕ) → y ≡ exchanged x 3 bytes → z ≡ exchanged y 6 pairs → t ≡ exchanged z 12 fours → r ≡ exchanged t 24 eights → TurnedOver r x
 turned-rows x y z t r e₁ e₂ e₃ e₄ j b hj hb =
     let i = 16 * j + b in
@@ -208,13 +204,3 @@ turned-rows x y z t r e₁ e₂ e₃ e₄ j b hj hb =
     all-four fair-bytes fair-pairs fair-fours fair-eights x y z t r e₁ e₂ e₃ e₄ i h
     ∙ ap (λ (k : ℕ). x / 2 ^ k % 2)
     (at-each (λ (k : ℕ). source 3 bytes (source 6 pairs (source 12 fours (source 24 eights k)))) (λ (k : ℕ). 4 * (k % 16) + k / 16) rows-from i h ∙ there)
-
-pub turned-columns : (x y z t r : ℕ) → y ≡ exchanged x 24 eights → z ≡ exchanged y 12 fours → t ≡ exchanged z 6 pairs → r ≡ exchanged t 3 bytes → TurnedOver x r
-turned-columns x y z t r e₁ e₂ e₃ e₄ j b hj hb =
-    let i = 4 * b + j in
-    let h : i < 64 = omega arith in
-    let there : 16 * (i % 4) + i / 4 ≡ 16 * j + b = omega arith in
-    sym
-    (all-four fair-eights fair-fours fair-pairs fair-bytes x y z t r e₁ e₂ e₃ e₄ i h
-    ∙ ap (λ (k : ℕ). x / 2 ^ k % 2)
-    (at-each (λ (k : ℕ). source 24 eights (source 12 fours (source 6 pairs (source 3 bytes k)))) (λ (k : ℕ). 16 * (k % 4) + k / 4) columns-from i h ∙ there))

@@ -1,5 +1,5 @@
 // Sixteen columns of four digits are a word of 64 digits: a matrix, which four exchanges of digits turn over into four rows of sixteen, a row
-// for each tributary. Back, the same four in reverse.
+// for each tributary.
 ghost use Prim.Native.Nat.{_<_};
 ghost use mathlib.Core.Path.{_≡_};
 ghost use Rattle.words.specs.Turning.{exchanged, TurnedOver};
@@ -21,14 +21,4 @@ pub fn from_columns(word: u64) -> u64
     let pairs = exchange(within_bytes, 6, 0x00CC_00CC_00CC_00CC);
     let fours = exchange(pairs, 12, 0x0000_F0F0_0000_F0F0);
     exchange(fours, 24, 0x0000_0000_FF00_FF00)
-}
-
-// Rows into columns.
-pub fn to_columns(word: u64) -> u64
-    ensures { λ r. ⌜ TurnedOver word r ⌝ }
-{
-    let fours = exchange(word, 24, 0x0000_0000_FF00_FF00);
-    let pairs = exchange(fours, 12, 0x0000_F0F0_0000_F0F0);
-    let within_bytes = exchange(pairs, 6, 0x00CC_00CC_00CC_00CC);
-    exchange(within_bytes, 3, 0x0A0A_0A0A_0A0A_0A0A)
 }
