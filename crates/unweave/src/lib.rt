@@ -13,7 +13,6 @@ use table::Row;
 use words::Writer;
 use words::turning;
 ghost use mathlib.Core.Path.{_≡_};
-ghost use mathlib.Core.Bool.{cond};
 ghost use Prim.Native.Nat.{ℕ, _+_, _*_, _-_, _/_, _%_, _^_, _<_, _≤_};
 ghost use lib.ListN.{length};
 ghost use Rattle.digits.specs.Digits.{digitsOf, written};
@@ -127,16 +126,6 @@ fn receive_columns(
     w
 }
 
-// How many digits a place has that carries or not.
-fn digits_in(carries: bool) -> usize
-    ensures { λ r. ⌜ r ≡ cond carries 1 0 ⌝ }
-{
-    if carries {
-        return 1;
-    }
-    0
-}
-
 // The place of tributary j (from 0) in the column from place p on: its digit where the place carries one, or none. It is put out either way, one digit or no
 // digit of it: which it is changes from frame to frame, and a branch would often be foretold wrongly.
 fn receive_place(
@@ -157,9 +146,9 @@ fn receive_place(
         ⌝ }
     ensures { λ r. ⌜ Put q j (now (buffer .entry)) (now (buffer .exit)) w r (columnDigits (digitsOf (now (line .entry))) p carries j) ⌝ }
 {
-    let n = digits_in(carries);
+    let n = digits::digit_of(carries);
     let d = lent::line_digit(line, FramePlace(p + j));
-    put_quarter(buffer, q, j, w, d as u64 & n as u64, n)
+    put_quarter(buffer, q, j, w, (d & n) as u64, n as usize)
 }
 
 // The column of a head from place p of the line on, its places of this kind, of a frame with this note after one with the preceding note.
