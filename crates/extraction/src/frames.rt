@@ -8,16 +8,14 @@ ghost use mathlib.Core.Path.{_≡_};
 ghost use mathlib.Core.List.{_++_};
 ghost use Prim.Native.Nat.{_+_, _*_, _-_, _/_, _<_, _≤_};
 ghost use lib.ListN.{length, replicate};
-ghost use Rattle.digits.specs.Digits.{bytesOf, tab};
+ghost use Rattle.digits.specs.Digits.{bytesOf};
 ghost use Rattle.words.specs.Words.{outFrom};
 ghost use Rattle.levels.specs.Sizes.{Fits};
-ghost use Rattle.unweave.specs.Lanes.{lanesOf};
 ghost use Rattle.unweave.specs.Quarters.{Within};
 ghost use Rattle.extraction.specs.Handing.{Handing};
 
 // The sets of frame f.
 fn extract_frame(
-    table: &[u64; 256],
     row: Row,
     earlier: u64,
     line: &[u8],
@@ -28,8 +26,7 @@ fn extract_frame(
     w0: Writers,
 ) -> Writers
     requires { ⌜
-        (now table ≡ tab 256 0 (lanesOf 2))
-        × (f < length (now notes))
+        (f < length (now notes))
         × Handing row earlier (now line) (now notes) q (f * (row .digits / 4)) (now buffer) w0
         ⌝ }
     ensures { λ r. ⌜ Handing row earlier (now (line .entry)) (now (notes .entry)) q ((f + 1) * (row .digits / 4)) (now (buffer .exit)) r ⌝ }
@@ -41,7 +38,7 @@ fn extract_frame(
     let mut s: usize = 0;
     while s < row.sets {
         let p = start + s * row.set;
-        w = unweave::receive_set(table, row, line, p, s, preceding, note, buffer, q, w);
+        w = unweave::receive_set(row, line, p, s, preceding, note, buffer, q, w);
         s += 1;
     }
     w
@@ -49,7 +46,6 @@ fn extract_frame(
 
 // All frames of the line. Quarters have q bytes.
 pub fn extract_frames(
-    table: &[u64; 256],
     row: Row,
     earlier: u64,
     line: &[u8],
@@ -58,8 +54,7 @@ pub fn extract_frames(
     q: usize,
 ) -> Writers
     requires { ⌜
-        (now table ≡ tab 256 0 (lanesOf 2))
-        × Fits row (length (now line)) (length (now notes)) q
+        Fits row (length (now line)) (length (now notes)) q
         × (length (now buffer) ≡ 4 * q)
         ⌝ }
     ensures { λ r. ⌜ Handing row earlier (now (line .entry)) (now (notes .entry)) q (2 * length (now (line .entry))) (now (buffer .exit)) r ⌝ }
@@ -77,7 +72,7 @@ pub fn extract_frames(
     };
     let mut f: usize = 0;
     while f < notes.len() {
-        w = extract_frame(table, row, earlier, line, notes, f, buffer, q, w);
+        w = extract_frame(row, earlier, line, notes, f, buffer, q, w);
         f += 1;
     }
     w

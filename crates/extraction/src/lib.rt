@@ -8,7 +8,6 @@ use levels::faults::Counted;
 use levels::faults::Fault;
 use table::Level;
 use table::Row;
-use unweave::sorting;
 ghost use mathlib.Core.Path.{_≡_};
 ghost use Prim.Native.Nat.{_/_};
 ghost use lib.ListN.{length};
@@ -34,8 +33,7 @@ pub fn extract_all(
         ⌝ }
 {
     let q = buffer.len() / 4;
-    let table = sorting::lane_table();
-    let w = frames::extract_frames(&table, row, earlier, line, notes, buffer, q);
+    let w = frames::extract_frames(row, earlier, line, notes, buffer, q);
     let mut counts = [0usize; 4];
     let mut j: usize = 0;
     while j < 4 {

@@ -201,7 +201,7 @@ fn send_head(
 
 // A run of tributary digits, so many columns, from the four quarters.
 fn send_run(
-    table: &[u64; 256],
+    table: &[u32; 256],
     line: &mut [u8],
     buffer: &[u8],
     next: &mut [usize; 4],
@@ -243,7 +243,7 @@ fn send_run(
 
 // A set of frame f: its head, then the run up to its end.
 fn send_set(
-    table: &[u64; 256],
+    table: &[u32; 256],
     row: Row,
     earlier: u64,
     line: &mut [u8],
@@ -272,7 +272,7 @@ fn send_set(
 
 // The sets of frame f.
 fn send_frame(
-    table: &[u64; 256],
+    table: &[u32; 256],
     row: Row,
     earlier: u64,
     line: &mut [u8],

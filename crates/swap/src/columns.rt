@@ -24,7 +24,7 @@ fn exchanged(columns: u64, spread: u64, j: usize) -> u64
 }
 
 // Eight columns from byte `at` of the line on: tributary j (from 0) gets its digits from i on.
-fn put_eight(table: &[u64; 256], line: &mut [u8], at: usize, buffer: &[u8], i: usize, j: usize)
+fn put_eight(table: &[u32; 256], line: &mut [u8], at: usize, buffer: &[u8], i: usize, j: usize)
     requires { ⌜
         (now table ≡ tab 256 0 (spreadOf 8))
         × (at + 4 ≤ length (now line))
@@ -50,7 +50,7 @@ fn eight_from(columns: usize, k: usize) -> usize
 
 // Columns by eight, from byte `at` of the line on. The last eight may go over some a second time, with the same digits, so that no column is left.
 pub fn put_columns(
-    table: &[u64; 256],
+    table: &[u32; 256],
     line: &mut [u8],
     at: usize,
     buffer: &[u8],

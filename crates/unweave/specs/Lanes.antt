@@ -1,5 +1,4 @@
--- Columns of four digits taken apart: each tributary's digits as a number, four numbers in the four lanes of a word. Tributary j (from 0)
--- has the digits at places p + j, p + j + 4 and so on, in the order of their places.
+-- Columns of four digits taken apart. Tributary j (from 0) has the digits at places p + j, p + j + 4 and so on, in the order of their places.
 use mathlib.Core.Bool.{Bool, cond}
 use mathlib.Core.List.{List, [], _∷_, _++_}
 use Prim.Native.Nat.{ℕ, zero, suc, _+_, _*_, _-_, _/_, _%_, _^_}
@@ -53,11 +52,6 @@ headDigits row ds p s acts j =
 abbrev pub setDigits : Row → List ℕ → ℕ → ℕ → (ℕ → Action) → ℕ → List ℕ
 setDigits row ds p s acts j = headDigits row ds p s acts j ++ runDigits ds (p + headEnd row s) ((row .set - headEnd row s) / 4) j
 
--- tributary j's digits of k columns, as a number; x is the number that the columns' digits make
-unfoldable pub laneOf : ℕ → ℕ → ℕ → ℕ
-laneOf zero x j = 0
-laneOf (suc k) x j = laneOf k (x / 16) j * 2 + x / 2 ^ (3 - j) % 2
-
--- the four of them in lanes of 16 digits
-unfoldable pub lanesOf : ℕ → ℕ → ℕ
-lanesOf k x = laneOf k x 0 + laneOf k x 1 * 2 ^ 16 + laneOf k x 2 * 2 ^ 32 + laneOf k x 3 * 2 ^ 48
+-- tributary j's row (from 0) of columns turned over: sixteen digits, as a number
+abbrev pub rowOf : ℕ → ℕ → ℕ
+rowOf rows j = rows / 2 ^ (16 * (3 - j)) % 2 ^ 16

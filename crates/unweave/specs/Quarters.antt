@@ -4,12 +4,12 @@ use mathlib.Core.Logic.{_≢_}
 use mathlib.Core.List.{List, _++_}
 use Prim.Native.Nat.{ℕ, zero, suc, _+_, _*_, _^_, _<_, _≤_}
 use lib.ListN.{length, take, drop}
-use Rattle.digits.specs.Digits.{tab, written}
+use Rattle.digits.specs.Digits.{written}
 use Rattle.words.specs.declared.Writer.{Writer}
 use Rattle.words.specs.Words.{Ready, outFrom}
 use Rattle.unweave.specs.declared.Writers.{Writers}
 use Rattle.unweave.specs.declared.Columns.{Columns}
-use Rattle.unweave.specs.Lanes.{runDigits, lanesOf}
+use Rattle.unweave.specs.Lanes.{runDigits}
 
 -- quarter j (from 0) of a buffer, of q bytes
 abbrev pub partOf : ℕ → List ℕ → ℕ → List ℕ
@@ -46,9 +46,8 @@ pub record Within (q n : ℕ) (w : Writer) : Type 0 where
 abbrev pub Roomy : ℕ → (ℕ → ℕ) → Writers → Type 0
 Roomy q n w = (j : ℕ) → j < 4 → Within q (n j) (writerOf w j)
 
--- what a run of n columns from place p on asks: the table, a line that has them, and room for n digits more of each tributary
-pub record RunAsked (table line : List ℕ) (p : ℕ) (buffer : List ℕ) (q : ℕ) (w : Writers) (n : ℕ) : Type 0 where
-  pub lanes : table ≡ tab 256 0 (lanesOf 2)
+-- what a run of n columns from place p on asks: a line that has them, and room for n digits more of each tributary
+pub record RunAsked (line : List ℕ) (p : ℕ) (buffer : List ℕ) (q : ℕ) (w : Writers) (n : ℕ) : Type 0 where
   pub inside : p + 4 * n ≤ 8 * length line
   pub small : p + 4 * n < 2 ^ 31
   pub quarters : 4 * q ≤ length buffer

@@ -11,13 +11,14 @@ use levels::places::Kind;
 use table::CONTROL_END;
 use table::Row;
 use words::Writer;
+use words::turning;
 ghost use mathlib.Core.Path.{_≡_};
 ghost use Prim.Native.Nat.{ℕ, _+_, _*_, _-_, _/_, _%_, _^_, _<_, _≤_};
 ghost use lib.ListN.{length};
-ghost use Rattle.digits.specs.Digits.{digitsOf, tab, written};
+ghost use Rattle.digits.specs.Digits.{digitsOf, written};
 ghost use Rattle.levels.specs.Table.{Shared};
 ghost use Rattle.levels.specs.Order.{actsBy};
-ghost use Rattle.unweave.specs.Lanes.{lanesOf, runDigits, columnDigits, kindDigits, headDigits, setDigits};
+ghost use Rattle.unweave.specs.Lanes.{runDigits, columnDigits, kindDigits, headDigits, setDigits};
 ghost use Rattle.unweave.specs.Quarters.{writerOf, numberOf, Below, Numbered, Within, Roomy, RunAsked, Put, Grown};
 
 // The tributaries' writers, in order.
@@ -62,91 +63,48 @@ fn put_four(buffer: &mut [u8], q: usize, w: Writers, x: Columns, n: usize) -> Wr
     Writers { a, b, c, d }
 }
 
-// Up to eight columns from place p of the line on, each tributary's digits as a number.
-fn few_columns(table: &[u64; 256], line: &[u8], p: usize, n: usize) -> Columns
-    requires { ⌜ (now table ≡ tab 256 0 (lanesOf 2)) × (p + 4 * n ≤ 8 * length (now line)) × (n ≤ 8) ⌝ }
+// Fewer than sixteen columns from place p of the line on, each tributary's digits as a number.
+fn few_columns(line: &[u8], p: usize, n: usize) -> Columns
+    requires { ⌜ (p + 4 * n ≤ 8 * length (now line)) × (p < 2 ^ 31) × (0 < n) × (n < 16) ⌝ }
     ensures { λ r. ⌜ Numbered (digitsOf (now (line .entry))) p n r ⌝ }
 {
-    if n == 0 {
-        return Columns {
-            a: 0,
-            b: 0,
-            c: 0,
-            d: 0,
-        };
-    }
-    let g = sorting::gather(table, words::read_digits(line, p, 4 * n));
-    let a = sorting::lane(g, 0);
-    let b = sorting::lane(g, 1);
-    let c = sorting::lane(g, 2);
-    let d = sorting::lane(g, 3);
+    let rows = turning::from_columns(words::read_wide(line, p, 4 * n));
+    let a = sorting::last_of(rows, 0, n);
+    let b = sorting::last_of(rows, 1, n);
+    let c = sorting::last_of(rows, 2, n);
+    let d = sorting::last_of(rows, 3, n);
     Columns { a, b, c, d }
 }
 
-// Eight columns more, from place p of the line on.
-fn eight_more(table: &[u64; 256], line: &[u8], p: usize, x: Columns) -> Columns
-    requires { ⌜ (now table ≡ tab 256 0 (lanesOf 2)) × (p + 32 ≤ 8 * length (now line)) × Below 24 x ⌝ }
-    ensures { λ r. ⌜
-        ((start k : ℕ) → p ≡ start + 4 * k → Numbered (digitsOf (now (line .entry))) start k x
-        → Numbered (digitsOf (now (line .entry))) start (k + 8) r)
-        ⌝ }
+// Sixteen columns or more from place p of the line on, up to 32: the first sixteen and the last sixteen, which may have some in common.
+fn many_columns(line: &[u8], p: usize, n: usize) -> Columns
+    requires { ⌜ (p + 4 * n ≤ 8 * length (now line)) × (p < 2 ^ 31) × (16 ≤ n) × (n ≤ 32) ⌝ }
+    ensures { λ r. ⌜ Numbered (digitsOf (now (line .entry))) p n r ⌝ }
 {
-    let g = sorting::gather(table, words::read_digits(line, p, 32));
-    let a = x.a * 256 + sorting::lane(g, 0);
-    let b = x.b * 256 + sorting::lane(g, 1);
-    let c = x.c * 256 + sorting::lane(g, 2);
-    let d = x.d * 256 + sorting::lane(g, 3);
+    let more = n - 16;
+    let first = turning::from_columns(words::read_word(line, p));
+    let last = turning::from_columns(words::read_word(line, p + 4 * more));
+    let a = sorting::both_of(first, last, 0, more);
+    let b = sorting::both_of(first, last, 1, more);
+    let c = sorting::both_of(first, last, 2, more);
+    let d = sorting::both_of(first, last, 3, more);
     Columns { a, b, c, d }
 }
 
-// Up to 32 columns from place p of the line on: the first few, so that the others are eights.
-fn rest_columns(table: &[u64; 256], line: &[u8], p: usize, n: usize) -> Columns
-    requires { ⌜
-        (now table ≡ tab 256 0 (lanesOf 2))
-        × (p + 4 * n ≤ 8 * length (now line))
-        × (p + 4 * n < 2 ^ 31)
-        × (n ≤ 32)
-        ⌝ }
+// Up to 32 columns from place p of the line on.
+fn columns_at(line: &[u8], p: usize, n: usize) -> Columns
+    requires { ⌜ (p + 4 * n ≤ 8 * length (now line)) × (p < 2 ^ 31) × (0 < n) × (n ≤ 32) ⌝ }
     ensures { λ r. ⌜ Numbered (digitsOf (now (line .entry))) p n r ⌝ }
 {
-    let mut k = n % 8;
-    let mut x = few_columns(table, line, p, k);
-    while k < n {
-        x = eight_more(table, line, p + 4 * k, x);
-        k += 8;
+    if n < 16 {
+        return few_columns(line, p, n);
     }
-    x
+    many_columns(line, p, n)
 }
 
-// 32 columns from place p of the line on.
-fn receive_many(
-    table: &[u64; 256],
-    line: &[u8],
-    p: usize,
-    buffer: &mut [u8],
-    q: usize,
-    w: Writers,
-) -> Writers
-    requires { ⌜
-        RunAsked (now table) (now line) p (now buffer) q w 32
-        ⌝ }
-    ensures { λ r. ⌜ Grown q (now (buffer .entry)) (now (buffer .exit)) w r (runDigits (digitsOf (now (line .entry))) p 32) ⌝ }
-{
-    let p2 = p + 64;
-    let hi = sorting::gather(table, words::read_digits(line, p, 32)) * 256
-        + sorting::gather(table, words::read_digits(line, p + 32, 32));
-    let lo = sorting::gather(table, words::read_digits(line, p2, 32)) * 256
-        + sorting::gather(table, words::read_digits(line, p2 + 32, 32));
-    let a = sorting::both(hi, lo, 0);
-    let b = sorting::both(hi, lo, 1);
-    let c = sorting::both(hi, lo, 2);
-    let d = sorting::both(hi, lo, 3);
-    put_four(buffer, q, w, Columns { a, b, c, d }, 32)
-}
-
-// So many times 32 columns from place p of the line on.
-fn receive_wide(
-    table: &[u64; 256],
+// The columns between two heads, from place p of the line on, up to 32 a turn: each tributary is handed every fourth digit. One call puts out whole turns
+// and what is left, so that the writers stay where the compiler has them.
+fn receive_columns(
     line: &[u8],
     p: usize,
     buffer: &mut [u8],
@@ -154,61 +112,22 @@ fn receive_wide(
     w0: Writers,
     columns: usize,
 ) -> Writers
-    requires { ⌜
-        (columns % 32 ≡ 0) × RunAsked (now table) (now line) p (now buffer) q w0 columns
-        ⌝ }
+    requires { ⌜ RunAsked (now line) p (now buffer) q w0 columns ⌝ }
     ensures { λ r. ⌜ Grown q (now (buffer .entry)) (now (buffer .exit)) w0 r (runDigits (digitsOf (now (line .entry))) p columns) ⌝ }
 {
     let mut w = w0;
     let mut k: usize = 0;
     while k < columns {
-        w = receive_many(table, line, p + 4 * k, buffer, q, w);
-        k += 32;
+        let n = words::at_most(columns - k, 32);
+        let x = columns_at(line, p + 4 * k, n);
+        w = put_four(buffer, q, w, x, n);
+        k += n;
     }
     w
 }
 
-// Up to 32 columns from place p of the line on, put out together: a writer's turn costs as much for a few digits as for many.
-fn receive_narrow(
-    table: &[u64; 256],
-    line: &[u8],
-    p: usize,
-    buffer: &mut [u8],
-    q: usize,
-    w: Writers,
-    columns: usize,
-) -> Writers
-    requires { ⌜
-        (columns ≤ 32) × RunAsked (now table) (now line) p (now buffer) q w columns
-        ⌝ }
-    ensures { λ r. ⌜ Grown q (now (buffer .entry)) (now (buffer .exit)) w r (runDigits (digitsOf (now (line .entry))) p columns) ⌝ }
-{
-    let x = rest_columns(table, line, p, columns);
-    put_four(buffer, q, w, x, columns)
-}
-
-// The columns between two heads, from place p of the line on: each tributary is handed every fourth digit.
-fn receive_columns(
-    table: &[u64; 256],
-    line: &[u8],
-    p: usize,
-    buffer: &mut [u8],
-    q: usize,
-    w: Writers,
-    columns: usize,
-) -> Writers
-    requires { ⌜
-        RunAsked (now table) (now line) p (now buffer) q w columns
-        ⌝ }
-    ensures { λ r. ⌜ Grown q (now (buffer .entry)) (now (buffer .exit)) w r (runDigits (digitsOf (now (line .entry))) p columns) ⌝ }
-{
-    let rest = columns % 32;
-    let many = columns - rest;
-    let v = receive_wide(table, line, p, buffer, q, w, many);
-    receive_narrow(table, line, p + 4 * many, buffer, q, v, rest)
-}
-
-// The place of tributary j (from 0) in the column from place p on: its digit where the place carries one, or none.
+// The place of tributary j (from 0) in the column from place p on: its digit where the place carries one, or none. It is put out either way, one digit or no
+// digit of it: which it is changes from frame to frame, and a branch would often be foretold wrongly.
 fn receive_place(
     line: &[u8],
     p: usize,
@@ -227,11 +146,9 @@ fn receive_place(
         ⌝ }
     ensures { λ r. ⌜ Put q j (now (buffer .entry)) (now (buffer .exit)) w r (columnDigits (digitsOf (now (line .entry))) p carries j) ⌝ }
 {
-    if carries {
-        let d = lent::line_digit(line, FramePlace(p + j));
-        return put_quarter(buffer, q, j, w, d as u64, 1);
-    }
-    w
+    let n = digits::digit_of(carries);
+    let d = lent::line_digit(line, FramePlace(p + j));
+    put_quarter(buffer, q, j, w, (d & n) as u64, n as usize)
 }
 
 // The column of a head from place p of the line on, its places of this kind, of a frame with this note after one with the preceding note.
@@ -317,7 +234,6 @@ fn receive_head(
 
 // Set s, from place p of the line on, of a frame with this note after one with the preceding note: its head, then its run, up to the next head.
 pub fn receive_set(
-    table: &[u64; 256],
     row: Row,
     line: &[u8],
     p: usize,
@@ -329,8 +245,7 @@ pub fn receive_set(
     w: Writers,
 ) -> Writers
     requires { ⌜
-        (now table ≡ tab 256 0 (lanesOf 2))
-        × Shared row
+        Shared row
         × (p + row .set ≤ 8 * length (now line))
         × (p < 2 ^ 30)
         × (4 * q ≤ length (now buffer))
@@ -342,7 +257,7 @@ pub fn receive_set(
 {
     let end = places::head_end(row, s);
     let v = receive_head(row, line, p, s, preceding, note, buffer, q, w);
-    receive_columns(table, line, p + end, buffer, q, v, (row.set - end) / 4)
+    receive_columns(line, p + end, buffer, q, v, (row.set - end) / 4)
 }
 
 // The writer of tributary j (from 0).

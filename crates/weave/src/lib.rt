@@ -38,16 +38,16 @@ fn place(x: u64) -> usize
 }
 
 // One entry of the table.
-pub fn spread(table: &[u64; 256], x: u64) -> u64
+pub fn spread(table: &[u32; 256], x: u64) -> u64
     requires { ⌜ (now table ≡ tab 256 0 (spreadOf 8)) × (x < 256) ⌝ }
     ensures { λ r. ⌜ (r ≡ spreadOf 8 x) × (15 * r < 2 ^ 32) ⌝ }
 {
     let i = place(x);
-    table[i]
+    table[i] as u64
 }
 
 // Eight columns from eight digits of each tributary; fewer columns from fewer digits.
-fn weave(table: &[u64; 256], a: u64, b: u64, c: u64, d: u64) -> u64
+fn weave(table: &[u32; 256], a: u64, b: u64, c: u64, d: u64) -> u64
     requires { ⌜ (now table ≡ tab 256 0 (spreadOf 8)) × (a < 256) × (b < 256) × (c < 256) × (d < 256) ⌝ }
     ensures { λ r. ⌜ (r ≡ weaveOf a b c d) × (r < 2 ^ 32) ⌝ }
 {
@@ -64,7 +64,7 @@ fn eight_at(x: u64, k: usize) -> u64
 
 // Eight of 32 columns: from those digits of each tributary that are worth 2 to the k and more.
 fn send_eight(
-    table: &[u64; 256],
+    table: &[u32; 256],
     line: &mut [u8],
     w: Writer,
     a: u64,
@@ -100,7 +100,7 @@ fn send_eight(
 
 // 32 columns.
 fn send_many(
-    table: &[u64; 256],
+    table: &[u32; 256],
     line: &mut [u8],
     a: &[u8],
     b: &[u8],
@@ -132,7 +132,7 @@ fn send_many(
 
 // Up to eight columns: from those digits of each tributary that are worth 2 to the k and more, no more of them than columns.
 fn send_first(
-    table: &[u64; 256],
+    table: &[u32; 256],
     line: &mut [u8],
     w: Writer,
     a: u64,
@@ -162,7 +162,7 @@ fn send_first(
 
 // Columns by 32, as many as they make whole.
 fn send_wide(
-    table: &[u64; 256],
+    table: &[u32; 256],
     line: &mut [u8],
     a: &[u8],
     b: &[u8],
@@ -195,7 +195,7 @@ fn send_wide(
 
 // Up to 32 columns: the digits of each tributary are read once, then the first few columns are sent, so that the others are eights.
 fn send_narrow(
-    table: &[u64; 256],
+    table: &[u32; 256],
     line: &mut [u8],
     a: &[u8],
     b: &[u8],
@@ -236,7 +236,7 @@ fn send_narrow(
 
 // The columns between two heads: from the four quarters, each from its tributary's next digit on.
 pub fn send_columns(
-    table: &[u64; 256],
+    table: &[u32; 256],
     line: &mut [u8],
     a: &[u8],
     b: &[u8],

@@ -3,7 +3,7 @@ ghost use mathlib.Core.Path.{_≡_};
 ghost use Rattle.digits.specs.Digits.{tab};
 ghost use Rattle.weave.specs.Weave.{spreadOf};
 
-const SPREAD: [u64; 256] = [
+const SPREAD: [u32; 256] = [
     0,
     1,
     16,
@@ -262,8 +262,9 @@ const SPREAD: [u64; 256] = [
     286331153,
 ];
 
-// Made once a call, and lent: where a constant array is used, it is built.
-pub fn spread_table() -> [u64; 256]
+// Made once a call, and lent: where a constant array is used, it is built. So its entries have no more bytes than they need: with a frame a call,
+// building it is much of the time.
+pub fn spread_table() -> [u32; 256]
     ensures { λ r. ⌜ r ≡ tab 256 0 (spreadOf 8) ⌝ }
 {
     SPREAD

@@ -1,2 +1,3 @@
 pub mod Loads
 pub mod Writing
+pub mod Turned

@@ -1,5 +1,7 @@
-// Digits by the word: a reader of up to 32 digits of a slice from any place on, as a number, and a writer that appends up to 32 digits
+// Digits by the word: a reader of up to 64 digits of a slice from any place on, as a number, and a writer that appends up to 32 digits
 // at a time. specs/Words.antt says what a writer has put out; no crate above speaks of the bytes it stores or of the digits it holds.
+pub mod turning;
+
 ghost use mathlib.Core.Path.{_≡_};
 ghost use mathlib.Core.List.{[]};
 ghost use Prim.Native.Nat.{ℕ, _+_, _*_, _-_, _/_, _%_, _^_, _<_, _≤_};
@@ -78,6 +80,31 @@ pub fn read_digits(s: &[u8], p: usize, n: usize) -> u64
     (load8(s, at) >> (64 - (p - 8 * at + n))) & ones(n)
 }
 
+// The 64 digits from place p on: in the middle of a byte the last of them are the first of a ninth byte.
+pub fn read_word(s: &[u8], p: usize) -> u64
+    requires { ⌜ p + 64 ≤ 8 * length (now s) ⌝ }
+    ensures { λ r. ⌜ r ≡ windowAt (digitsOf (now (s .entry))) p 64 ⌝ }
+{
+    let at = p / 8;
+    let k = p % 8;
+    if k == 0 {
+        return load8(s, at);
+    }
+    (load8(s, at) << k) | ((s[at + 8] as u64) >> (8 - k))
+}
+
+// n digits from place p on, at most 64.
+pub fn read_wide(s: &[u8], p: usize, n: usize) -> u64
+    requires { ⌜ (p + n ≤ 8 * length (now s)) × (p < 2 ^ 32) × (0 < n) × (n ≤ 64) ⌝ }
+    ensures { λ r. ⌜ r ≡ windowAt (digitsOf (now (s .entry))) p n ⌝ }
+{
+    if n <= 32 {
+        return read_digits(s, p, n);
+    }
+    let m = n - 32;
+    (read_digits(s, p, m) << 32) | read_digits(s, p + m, 32)
+}
+
 // The last eight digits.
 fn low_byte(x: u64) -> u8
     ensures { λ r. ⌜ r ≡ x % 256 ⌝ }
@@ -97,7 +124,7 @@ pub fn store4(s: &mut [u8], at: usize, out: u64)
 }
 
 // n ones.
-fn ones(n: usize) -> u64
+pub fn ones(n: usize) -> u64
     requires { ⌜ n ≤ 32 ⌝ }
     ensures { λ r. ⌜ r ≡ 2 ^ n - 1 ⌝ }
 {

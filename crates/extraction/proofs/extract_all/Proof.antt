@@ -6,7 +6,6 @@ use native.Mathlib.Omega.{arith}
 use Rattle.levels.proofs.Judged.{fits-quarter}
 use Rattle.extraction.proofs.Handing.{come-few}
 use Rattle.extraction.proofs.Quarters.{Ended, ended-none, quarter-inside, lent-size, ended-more, ended-all}
-use borrow.Author.Needs.{needs}
 use Rattle.extraction.proofs.extract_all.Statement.{statement}
 use Rattle.extraction.proofs.extract_all.Tie as tie
 
@@ -18,9 +17,8 @@ abbrev μ-loop : tie.MeasureT-loop
 
 extract-frames-requires : tie.Need-extract-frames-requires Inv-loop μ-loop
 extract-frames-requires c κs =
-    let c2 = c .before .before in
-    let c6 = c2 .before .before .before .before in
-    (c2 .lane-table .ensures, fits-quarter (c6 .pre .0) (c6 .pre .1), c6 .pre .1 .quarters)
+    let c4 = c .before .before .before .before in
+    (fits-quarter (c4 .pre .0) (c4 .pre .1), c4 .pre .1 .quarters)
 
 loop-holds : tie.Need-loop-holds Inv-loop μ-loop
 loop-holds c = (omega arith, ended-none _ _ _ _ refl)
@@ -29,15 +27,15 @@ mul-a : tie.Need-mul-a Inv-loop μ-loop
 mul-a c =
     let c1 = c .before in
     let c4 = c1 .before .before .before in
-    let c11 = c4 .before .before .before .before .before .before .before in
-    omega (arith, c4 .extract-frames .kept .1 .1 .1 .1 .1 .0, c11 .good .1 .1 .1 .1 .0, quarter-inside (c1 .loop .inv .1) (omega (arith, c4 .extract-frames .ensures .size)) (c .loop-test .taken))
+    let c9 = c4 .before .before .before .before .before in
+    omega (arith, c4 .extract-frames .kept .1 .1 .1 .1 .0, c9 .good .1 .1 .1 .1 .0, quarter-inside (c1 .loop .inv .1) (omega (arith, c4 .extract-frames .ensures .size)) (c .loop-test .taken))
 
 add-e : tie.Need-add-e Inv-loop μ-loop
 add-e c =
     let c1 = c .before in
     let c4 = c1 .before .before .before in
-    let c11 = c4 .before .before .before .before .before .before .before in
-    omega (arith, c4 .extract-frames .kept .1 .1 .1 .1 .1 .0, c11 .good .1 .1 .1 .1 .0, quarter-inside (c1 .loop .inv .1) (omega (arith, c4 .extract-frames .ensures .size)) (c .loop-test .taken))
+    let c9 = c4 .before .before .before .before .before in
+    omega (arith, c4 .extract-frames .kept .1 .1 .1 .1 .0, c9 .good .1 .1 .1 .1 .0, quarter-inside (c1 .loop .inv .1) (omega (arith, c4 .extract-frames .ensures .size)) (c .loop-test .taken))
 
 sub-finish-quarter : tie.Need-sub-finish-quarter Inv-loop μ-loop
 sub-finish-quarter c = omega arith
@@ -93,7 +91,7 @@ same-length : tie.Need-same-length Inv-loop μ-loop
 same-length c =
     let c1 = c .before in
     let c4 = c1 .before .before .before in
-    c1 .loop .inv .1 .size ∙ c4 .extract-frames .kept .1 .1 .1 .1 .1 .0
+    c1 .loop .inv .1 .size ∙ c4 .extract-frames .kept .1 .1 .1 .1 .0
 
 returns : tie.Need-returns Inv-loop μ-loop
 returns c =
@@ -105,6 +103,6 @@ returns c =
 pub extract-all-spec : {M : Type 1} → statement M
 extract-all-spec =
     tie.close
-    (tie.spec Inv-loop μ-loop (λ c κs. search needs) extract-frames-requires loop-holds mul-a add-e sub-finish-quarter
+    (tie.spec Inv-loop μ-loop extract-frames-requires loop-holds mul-a add-e sub-finish-quarter
     part-finish-quarter-start part-finish-quarter-end writer-of-requires finish-quarter-requires mul-counts array-write-counts add-j
     loop-less loop-again same-length returns)

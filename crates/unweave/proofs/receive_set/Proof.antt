@@ -20,11 +20,11 @@ receive-head-requires c κs =
     let acts = actsBy (c4 .args .row) (c4 .args .preceding) (c4 .args .note) in
     let end = headEnd (c4 .args .row) (c4 .args .s) in
     let run = (c4 .args .row .set - end) / 4 in (
+      c4 .pre .0,
       c4 .pre .1,
       c4 .pre .2,
       c4 .pre .3,
-      c4 .pre .4,
-      roomy-less _ (c4 .pre .5)
+      roomy-less _ (c4 .pre .4)
           (λ j h. omega (arith, length-append (headDigits (c4 .args .row) ds (c4 .args .p) (c4 .args .s) acts j) (runDigits ds (c4 .args .p + end) run j))),
     )
 
@@ -32,13 +32,13 @@ add-receive-columns : tie.Need-add-receive-columns
 add-receive-columns c =
     let c4 = c .before .before .before .before in
     let c7 = c4 .before .before .before in
-    omega (arith, c4 .head-end .ensures, c7 .pre .3, head-end-short (c7 .args .row) (c7 .pre .1) (c7 .args .s))
+    omega (arith, c4 .head-end .ensures, c7 .pre .2, head-end-short (c7 .args .row) (c7 .pre .0) (c7 .args .s))
 
 sub-receive-columns : tie.Need-sub-receive-columns
 sub-receive-columns c =
     let c6 = c .before .before .before .before .before .before in
     let c9 = c6 .before .before .before in
-    rw (c6 .head-end .ensures) (head-end-in (c9 .args .row) (c9 .pre .1) (c9 .args .s))
+    rw (c6 .head-end .ensures) (head-end-in (c9 .args .row) (c9 .pre .0) (c9 .args .s))
 
 receive-columns-requires : tie.Need-receive-columns-requires
 receive-columns-requires c κs =
@@ -50,11 +50,10 @@ receive-columns-requires c κs =
     let head = headDigits (c9 .args .row) ds (c9 .args .p) (c9 .args .s) (actsBy (c9 .args .row) (c9 .args .preceding) (c9 .args .note)) in
     let run = (c9 .args .row .set - end) / 4 in
     rw (c6 .head-end .ensures) (record {
-      lanes = c9 .pre .0;
-      inside = omega (arith, c9 .pre .2, head-end-in (c9 .args .row) (c9 .pre .1) (c9 .args .s));
-      small = omega (arith, c9 .pre .3, head-end-in (c9 .args .row) (c9 .pre .1) (c9 .args .s), set-short (c9 .args .row) (c9 .pre .1));
-      quarters = omega (arith, c9 .pre .4, c4 .receive-head .kept .1 .1 .1 .1 .1 .1 .0);
-      roomy = roomy-after (λ (j : ℕ). run) (c4 .receive-head .ensures) (c9 .pre .5)
+      inside = omega (arith, c9 .pre .1, head-end-in (c9 .args .row) (c9 .pre .0) (c9 .args .s));
+      small = omega (arith, c9 .pre .2, head-end-in (c9 .args .row) (c9 .pre .0) (c9 .args .s), set-short (c9 .args .row) (c9 .pre .0));
+      quarters = omega (arith, c9 .pre .3, c4 .receive-head .kept .1 .1 .1 .1 .1 .1 .0);
+      roomy = roomy-after (λ (j : ℕ). run) (c4 .receive-head .ensures) (c9 .pre .4)
           (λ j h. omega (arith, length-append (head j) (runDigits ds (c9 .args .p + end) run j), picked-length run ds (c9 .args .p + end + j)));
     })
 

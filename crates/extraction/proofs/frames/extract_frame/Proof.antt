@@ -11,47 +11,47 @@ use Rattle.extraction.proofs.frames.extract_frame.Statement.{statement}
 use Rattle.extraction.proofs.frames.extract_frame.Tie as tie
 
 abbrev Inv-loop : tie.InvT-loop
-Inv-loop table row earlier line notes f buffer₀ q note preceding start w₀ s₀ buffer w s =
+Inv-loop row earlier line notes f buffer₀ q note preceding start w₀ s₀ buffer w s =
     (s ≤ row .sets) × (length buffer ≡ length buffer₀) × Handing row earlier line notes q (f * columns row + s * wide row) buffer w
 
 abbrev μ-loop : tie.MeasureT-loop
-μ-loop table row earlier line notes f buffer₀ q note preceding start w₀ s₀ buffer w s = row .sets - s
+μ-loop row earlier line notes f buffer₀ q note preceding start w₀ s₀ buffer w s = row .sets - s
 
 note-of-requires : tie.Need-note-of-requires Inv-loop μ-loop
 note-of-requires c κs =
     let c3 = c .before .before .before in
-    c3 .pre .1
+    c3 .pre .0
 
 preceding-of-requires : tie.Need-preceding-of-requires Inv-loop μ-loop
 preceding-of-requires c κs =
     let c4 = c .before .before .before .before in
-    c4 .pre .1
+    c4 .pre .0
 
 mul-start : tie.Need-mul-start Inv-loop μ-loop
 mul-start c =
     let c6 = c .before .before .before .before .before .before in
-    omega (arith, set-inside (c6 .pre .2 .fits) (c6 .args .f) 0 (c6 .pre .1) (omega (arith, c6 .pre .2 .fits .shared .later-set)), line-short (c6 .pre .2 .fits))
+    omega (arith, set-inside (c6 .pre .1 .fits) (c6 .args .f) 0 (c6 .pre .0) (omega (arith, c6 .pre .1 .fits .shared .later-set)), line-short (c6 .pre .1 .fits))
 
 loop-holds : tie.Need-loop-holds Inv-loop μ-loop
 loop-holds c =
     let c6 = c .before .before .before .before .before .before in
     let row = c6 .args .row in
     let none : c6 .args .f * columns row + 0 * wide row ≡ c6 .args .f * columns row = rw (zero-mul (wide row)) (add-zero (c6 .args .f * columns row)) in
-    (omega arith, refl, rw none (c6 .pre .2))
+    (omega arith, refl, rw none (c6 .pre .1))
 
 mul-p : tie.Need-mul-p Inv-loop μ-loop
 mul-p c =
     let c1 = c .before in
     let c3 = c1 .before .before in
     let c10 = c3 .before .before .before .before .before .before .before in
-    omega (arith, set-inside (c10 .pre .2 .fits) (c10 .args .f) (c3 .loop .s) (c10 .pre .1) (c1 .if1 .taken), line-short (c10 .pre .2 .fits))
+    omega (arith, set-inside (c10 .pre .1 .fits) (c10 .args .f) (c3 .loop .s) (c10 .pre .0) (c1 .if1 .taken), line-short (c10 .pre .1 .fits))
 
 add-p : tie.Need-add-p Inv-loop μ-loop
 add-p c =
     let c1 = c .before in
     let c3 = c1 .before .before in
     let c10 = c3 .before .before .before .before .before .before .before in
-    omega (arith, set-inside (c10 .pre .2 .fits) (c10 .args .f) (c3 .loop .s) (c10 .pre .1) (c1 .if1 .taken), line-short (c10 .pre .2 .fits))
+    omega (arith, set-inside (c10 .pre .1 .fits) (c10 .args .f) (c3 .loop .s) (c10 .pre .0) (c1 .if1 .taken), line-short (c10 .pre .1 .fits))
 
 receive-set-requires : tie.Need-receive-set-requires Inv-loop μ-loop
 receive-set-requires c κs =
@@ -61,13 +61,12 @@ receive-set-requires c κs =
     let c7 = c6 .before in
     let c11 = c7 .before .before .before .before in
     let so-far = c4 .loop .inv .2 in
-    let inside = set-inside (c11 .pre .2 .fits) (c11 .args .f) (c4 .loop .s) (c11 .pre .1) (c2 .if1 .taken) in (
-      c11 .pre .0,
-      c11 .pre .2 .fits .shared,
+    let inside = set-inside (c11 .pre .1 .fits) (c11 .args .f) (c4 .loop .s) (c11 .pre .0) (c2 .if1 .taken) in (
+      c11 .pre .1 .fits .shared,
       inside,
-      omega (arith, inside, line-short (c11 .pre .2 .fits)),
+      omega (arith, inside, line-short (c11 .pre .1 .fits)),
       omega (arith, so-far .size),
-      set-roomy (c11 .args .f) (c4 .loop .s) so-far (c11 .pre .1) (c2 .if1 .taken) refl (c6 .preceding-of .ensures) (c7 .note-of .ensures),
+      set-roomy (c11 .args .f) (c4 .loop .s) so-far (c11 .pre .0) (c2 .if1 .taken) refl (c6 .preceding-of .ensures) (c7 .note-of .ensures),
     )
 
 add-s : tie.Need-add-s Inv-loop μ-loop
@@ -88,10 +87,10 @@ loop-again c =
     let c9 = c7 .before .before in
     let c10 = c9 .before in
     let c14 = c10 .before .before .before .before in
-    let kept = c2 .receive-set .kept .1 .1 .1 .1 .1 .1 .1 .0 in (
+    let kept = c2 .receive-set .kept .1 .1 .1 .1 .1 .1 .0 in (
       omega (arith, c5 .if1 .taken),
       kept ∙ c7 .loop .inv .1,
-      handing-set (c14 .args .f) (c7 .loop .s) (c7 .loop .inv .2) (c14 .pre .1) (c5 .if1 .taken) refl (c9 .preceding-of .ensures) (c10 .note-of .ensures) (c2 .receive-set .ensures) kept,
+      handing-set (c14 .args .f) (c7 .loop .s) (c7 .loop .inv .2) (c14 .pre .0) (c5 .if1 .taken) refl (c9 .preceding-of .ensures) (c10 .note-of .ensures) (c2 .receive-set .ensures) kept,
     )
 
 same-length : tie.Need-same-length Inv-loop μ-loop
@@ -105,7 +104,7 @@ returns c =
     let c9 = c2 .before .before .before .before .before .before .before in
     let all : c2 .loop .s ≡ c9 .args .row .sets = omega (arith, c2 .loop .inv .0, c .if1 .left) in
     let end : c9 .args .f * columns (c9 .args .row) + c2 .loop .s * wide (c9 .args .row) ≡ (c9 .args .f + 1) * columns (c9 .args .row) =
-    rw all (frame-all (c9 .pre .2 .fits) (c9 .args .f)) in
+    rw all (frame-all (c9 .pre .1 .fits) (c9 .args .f)) in
     rw end at (c2 .loop .inv .2)
 
 pub extract-frame-spec : {M : Type 1} → statement M

@@ -14,11 +14,11 @@ use Rattle.extraction.proofs.frames.extract_frames.Statement.{statement
 use Rattle.extraction.proofs.frames.extract_frames.Tie as tie
 
 abbrev Inv-loop : tie.InvT-loop
-Inv-loop table row earlier line notes buffer₀ q w₀ f₀ buffer w f =
+Inv-loop row earlier line notes buffer₀ q w₀ f₀ buffer w f =
     (f ≤ length notes) × (length buffer ≡ length buffer₀) × Handing row earlier line notes q (f * columns row) buffer w
 
 abbrev μ-loop : tie.MeasureT-loop
-μ-loop table row earlier line notes buffer₀ q w₀ f₀ buffer w f = length notes - f
+μ-loop row earlier line notes buffer₀ q w₀ f₀ buffer w f = length notes - f
 
 abbrev first : Writer
 first = record { at = 0; held = 0; fill = 0 }
@@ -31,7 +31,7 @@ loop-holds c =
       omega arith,
       refl,
       rw (zero-mul (columns (c3 .args .row)))
-          (handing-none (c3 .args .earlier) line notes (c3 .args .buffer .now) (c3 .pre .1) (c3 .pre .2) _
+          (handing-none (c3 .args .earlier) line notes (c3 .args .buffer .now) (c3 .pre .0) (c3 .pre .1) _
           (of-four (λ (j : ℕ). writerOf (record { a = first; b = first; c = first; d = first }) j ≡ first) refl refl refl refl)),
     )
 
@@ -40,7 +40,7 @@ extract-frame-requires c κs =
     let c1 = c .before in
     let c2 = c1 .before in
     let c6 = c2 .before .before .before .before in
-    (c6 .pre .0, c1 .loop-test .taken, c2 .loop .inv .2)
+    (c1 .loop-test .taken, c2 .loop .inv .2)
 
 add-f : tie.Need-add-f Inv-loop μ-loop
 add-f c =
@@ -57,7 +57,7 @@ loop-again c =
     let c2 = c .before .before in
     let c4 = c2 .before .before in
     let c5 = c4 .before in
-    (omega (arith, c4 .loop-test .taken), c2 .extract-frame .kept .1 .1 .1 .1 .1 .1 .0 ∙ c5 .loop .inv .1, c2 .extract-frame .ensures)
+    (omega (arith, c4 .loop-test .taken), c2 .extract-frame .kept .1 .1 .1 .1 .1 .0 ∙ c5 .loop .inv .1, c2 .extract-frame .ensures)
 
 same-length : tie.Need-same-length Inv-loop μ-loop
 same-length c =
@@ -69,7 +69,7 @@ returns c =
     let c1 = c .before in
     let c5 = c1 .before .before .before .before in
     let all : c1 .loop .f ≡ length (c5 .args .notes .now) = omega (arith, c1 .loop .inv .0, c .loop-test .left) in
-    let end : c1 .loop .f * columns (c5 .args .row) ≡ 2 * length (c5 .args .line .now) = rw all (frames-all (c5 .pre .1)) in
+    let end : c1 .loop .f * columns (c5 .args .row) ≡ 2 * length (c5 .args .line .now) = rw all (frames-all (c5 .pre .0)) in
     rw end at (c1 .loop .inv .2)
 
 pub extract-frames-spec : {M : Type 1} → statement M
