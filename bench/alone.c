@@ -1,6 +1,6 @@
-/* The library's calls alone, on the digits of a file: alone find|take|send LEVEL FILE REPEATS prints the best time of the processor in seconds. For bench/program, which holds the
- * program's time from end to end against it. The file is in memory before the time begins; find and take are given a line, send its notes' and tributaries' file,
- * which is here made of the line first. */
+/* The library's calls alone, on the digits of a file: alone find|take|send|judge LEVEL FILE REPEATS [SENT] prints the best time of the processor in seconds. For bench/program, which
+ * holds the program's time from end to end against it. The files are in memory before the time begins: a line, of which send takes the bytes for tributaries' digits, and for judge
+ * what was sent. */
 #include <stdint.h>
 #include <stdio.h>
 #include <stdlib.h>
@@ -12,8 +12,8 @@
 enum { MOST = 64, PIECE = 65536 };
 
 static uint64_t level, frame_bytes, frame_digits, room;
-static uint8_t *file;
-static size_t bytes;
+static uint8_t *file, *sent;
+static size_t bytes, sent_bytes;
 static uint8_t notes[MOST], buffer[4 * 8192], line[MOST * 366];
 static uint8_t *kept[4];
 static uint64_t put[4];
@@ -91,17 +91,38 @@ static void send_(void) {
     }
 }
 
+/* 64 frames a feed, with the vote of the frame behind them where there is one. */
+static void judge(void) {
+    static uint64_t state[SPRITBOBBIN_VERDICT_STATE], answer[SPRITBOBBIN_VERDICT_ANSWER];
+    size_t frames = bytes / frame_bytes;
+    spritbobbin_verdict_fresh(level, 16, 0, state);
+    for (size_t at = 0; at < frames; at += MOST) {
+        size_t count = frames - at < MOST ? frames - at : MOST;
+        uint64_t next = 16, noted[5];
+        if (at + count < frames && spritbobbin_read_notes(level, file + (at + count) * frame_bytes, frame_bytes, notes, 1, noted) == 0) next = notes[0] & 15;
+        spritbobbin_verdict_feed(state, file + at * frame_bytes, count * frame_bytes, next, sent, sent_bytes, 0, answer);
+    }
+}
+
+/* A file in memory; its length is left behind. */
+static uint8_t *in_memory(const char *name, size_t *length) {
+    FILE *in = fopen(name, "rb");
+    if (!in || fseek(in, 0, SEEK_END) != 0) exit(3);
+    *length = (size_t)ftell(in);
+    rewind(in);
+    uint8_t *held = malloc(*length + 16);
+    if (!held || fread(held, 1, *length, in) != *length) exit(3);
+    fclose(in);
+    return held;
+}
+
 int main(int argc, char **argv) {
-    if (argc != 5) return 2;
+    if (argc != 5 && argc != 6) return 2;
     level = strtoull(argv[2], NULL, 10);
     row();
-    FILE *in = fopen(argv[3], "rb");
-    if (!in || fseek(in, 0, SEEK_END) != 0) return 3;
-    bytes = (size_t)ftell(in);
-    rewind(in);
-    file = malloc(bytes + 16);
+    file = in_memory(argv[3], &bytes);
+    if (argc == 6) sent = in_memory(argv[5], &sent_bytes);
     for (int j = 0; j < 4; j++) kept[j] = calloc(1, 2 * PIECE);
-    if (!file || fread(file, 1, bytes, in) != bytes) return 3;
     double best = 1e9;
     for (int k = atoi(argv[4]); k > 0; k--) {
         double begin = now();
@@ -109,6 +130,7 @@ int main(int argc, char **argv) {
         if (argv[1][0] == 'f') find();
         if (argv[1][0] == 't') take();
         if (argv[1][0] == 's') send_();
+        if (argv[1][0] == 'j') judge();
         if (now() - begin < best) best = now() - begin;
     }
     printf("%.3f\n", best);

@@ -50,7 +50,7 @@ def limits(found):
     library, quick = heads(found)
     plain = next(k for k, cell in enumerate(found[0]) if cell.startswith('plain C'))
     print('\n| a verdict, a digit of one reading | ns, the dearest level | times XOR and count, plain C | quick C | asked |\n|---|---:|---:|---:|---|')
-    for kind, asked in (('clean', '2 times'), ('1 in 1000 wrong', '1 ns'), ('slips', '15 ns'), ('clean, pattern 15', '2 times')):
+    for kind, asked in (('clean', '2 times'), ('1 in 1000 wrong', '1 ns'), ('slips', '15 ns'), ('clean, pattern 15', '-')):
         dearest = max((row for row in found if row[0] == kind), key=lambda row: float(row[library]))
         took = float(dearest[library])
         print(f'| {kind} | {took:.3f} | {took / float(dearest[plain]):.1f} | {took / float(dearest[quick]):.1f} | {asked} |')
