@@ -57,6 +57,7 @@ class Crate:
         self.texts = {os.path.relpath(file, folder): text_of(file) for file in files}
         parts = [part for path, text in self.texts.items() if path.startswith('src/') for part in parts_of(path, text) if part[0]]
         self.functions = {f for f, _, _ in parts}
+        self.exported = {f for f, head, text in parts if head and 'extern "C" fn' in text}
         self.called = {f for f in self.functions for g, head, text in parts if f != g and not head and re.search(rf'\b{f.split("::")[-1]}\(', text)}
 
     def named_at(self, path, line):
