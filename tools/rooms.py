@@ -12,6 +12,7 @@ def text_of(path):
 
 
 FUNCTION = re.compile(r'(?:pub )?(?:extern "C" )?fn (\w+)\(')
+IN_A_LINE = re.compile(r'[^{]*\)(?: -> (?:\[[^\]]*\]|\S+))? \{.*\}$')
 
 
 def owners_of(path, text):
@@ -33,7 +34,7 @@ def owners_of(path, text):
         out.append(owner)
         if owner[1] and (line == '{' or line.endswith('{') and (began or line[0] == ')')):
             owner = owner[0], False
-        elif owner[1] and began and line.endswith('}'):
+        elif owner[1] and began and IN_A_LINE.match(line):
             owner = None, False
     return out
 
@@ -82,7 +83,7 @@ def copy_of(function, k):
 def copied(crate, function, k, code):
     """A function under another name, from the lines of its code, and its proof, if it has one: the lines, and {path: text}."""
     short, new = function.split('::')[-1], copy_of(function, k).split('::')[-1]
-    code = [code[0].replace(f'fn {short}(', f'fn {new}(', 1), *code[1:], '}']
+    code = [code[0].replace(f'fn {short}(', f'fn {new}(', 1).replace('pub extern "C" fn', 'fn', 1), *code[1:], '}']
     proof = crate.texts.get(f'proofs/{function.replace("::", "/")}/Proof.antt')
     if proof is None:
         return code, {}
@@ -122,7 +123,7 @@ class Room:
         return os.listdir(self.kept('nothing'))[0]
 
     def move_in(self, name):
-        """Copies a crate and its modules, and checks it over them."""
+        """Copies a crate and its modules."""
         for part in ('src', 'specs', 'proofs'):
             if os.path.isdir(os.path.join('crates', name, part)):
                 shutil.copytree(os.path.join('crates', name, part), os.path.join(self.crate(name), part))
@@ -130,7 +131,6 @@ class Room:
         proved = os.path.join(self.rlib, name + '.rlib', 'toolchain', 'checked')
         if os.path.isdir(proved):  # a program has no rlib: its first check is a whole one
             shutil.copytree(proved, os.path.join(self.kept(name), self.build))
-        return self.check_over(name, self.kept(name))
 
     def check(self, name, texts, seconds=None):
         """The check of a crate in its copy with these files, over the modules that were moved in: its exit status, none where it takes longer than it may, and what it says. What a check
@@ -161,7 +161,7 @@ class Room:
         for d in ours:
             words += ['--extern', f'{d}={self.rlib}/{d}.rlib']
         words += ['-L', f'dependency={self.rlib}', '--incremental', modules]
-        run = subprocess.Popen(words, stdout=subprocess.PIPE, stderr=subprocess.STDOUT, text=True, start_new_session=True)
+        run = subprocess.Popen(words, stdout=subprocess.PIPE, stderr=subprocess.STDOUT, text=True, process_group=0)
         try:
             said, _ = run.communicate(timeout=seconds)
         except BaseException as stopped:
