@@ -41,7 +41,8 @@ def declared(text):
     record only its own name counts, as whoever has one has named it or what made it."""
     first = first_of(text)
     most = indent_of(first) + 2 * bool(re.match(r'\s*(?:pub )?data ', first))
-    return {name for line in text.split('\n') if indent_of(line) <= most for names in SIGNED.findall(line)[:1] for name in names.split()}
+    lines = [line for line in text.split('\n') if indent_of(line) <= most and not line.lstrip().startswith('--')]
+    return {name for line in lines for names in SIGNED.findall(line)[:1] for name in names.split()}
 
 
 class Rests:
@@ -87,7 +88,8 @@ class Rests:
                 return self.where[path]
             if folder == 'proofs' and ('fn', '::'.join(names[:k])) in self.texts:
                 return [('fn', '::'.join(names[:k]))]
-        return list(self.texts)
+        # made from the code: a declared type's; or functions' that call one another, which are not told apart here
+        return list(self.texts) if '+' in name or CODE not in self.texts else [CODE]
 
     def brought_by(self, path):
         """What a file's lines bring in: {name: the parts it may mean}."""
@@ -105,7 +107,7 @@ class Rests:
         """The parts that a part names."""
         out = set()
         for path, body in self.texts[part]:
-            words = set(WORDS.split('\n'.join(line for line in body.split('\n') if not line.startswith(('use ', 'pub use ', 'ghost use ', '--')))))
+            words = set(WORDS.split('\n'.join(line for line in body.split('\n') if not line.lstrip().startswith(('use ', 'pub use ', 'ghost use ', '--')))))
             brought = self.brought_by(path)
             for name, parts in brought.items():
                 if any(word in words for word in [name, *filter(None, name.split('_'))]):

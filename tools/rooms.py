@@ -45,11 +45,6 @@ def parts_of(path, text):
     return [(*owner, '\n'.join(line for _, line in part)) for owner, part in itertools.groupby(owned, lambda one: one[0])]
 
 
-# A line that brings in names of a crate's own proofs, and one that declares a name.
-BRINGS = re.compile(r'(?:pub )?use Rattle·\w+·proofs\.proofs\.([\w.]+?)(?:\.\{(.*)\}| as (\S+))?$')
-DECLARES = re.compile(r'(?!--|use )(?:(?:pub|abbrev|unfoldable|record|data) )*(\S+) ')
-
-
 class Crate:
     """A crate's files as they stand, and its functions, with those that another calls."""
 
@@ -58,22 +53,7 @@ class Crate:
         self.texts = {os.path.relpath(file, folder): text_of(file) for file in files}
         parts = [part for path, text in self.texts.items() if path.startswith('src/') for part in parts_of(path, text) if part[0]]
         self.functions = {f for f, _, _ in parts}
-        self.exported = {f for f, head, text in parts if head and 'extern "C" fn' in text}
         self.called = {f for f in self.functions for g, head, text in parts if f != g and not head and re.search(rf'\b{f.split("::")[-1]}\(', text)}
-
-    def named_at(self, path, line):
-        """The function that the theorem at a line of a file names, where it names one and nothing else that the crate proves."""
-        lines = self.texts[path].split('\n')
-        begins = [i for i, text in enumerate(lines) if text and not text[0].isspace() and not (i and lines[i - 1])] + [len(lines)]
-        first, last = max(i for i in begins if i < line), min(i for i in begins if i >= line)
-        words, found = set(re.split(r'[\s(){},.;]+', ' '.join(lines[first:last]))), set()
-        for other in lines[:first] + lines[last:]:
-            brings, declares = BRINGS.match(other), DECLARES.match(other)
-            if brings and words & set((brings.group(2) or brings.group(3) or brings.group(1).split('.')[-1]).split(', ')):
-                found.add('::'.join(m for m in brings.group(1).split('.') if m[0].islower()))
-            if declares and declares.group(1) in words:
-                found.add(None)
-        return found.pop() if len(found) == 1 and found <= self.functions else None
 
 
 def copy_of(function, k):
