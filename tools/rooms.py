@@ -12,6 +12,7 @@ def text_of(path):
 
 
 FUNCTION = re.compile(r'(?:pub )?(?:extern "C" )?fn (\w+)\(')
+IN_A_LINE = re.compile(r'[^{]*\)(?: -> (?:\[[^\]]*\]|\S+))? \{.*\}$')
 
 
 def owners_of(path, text):
@@ -33,7 +34,7 @@ def owners_of(path, text):
         out.append(owner)
         if owner[1] and (line == '{' or line.endswith('{') and (began or line[0] == ')')):
             owner = owner[0], False
-        elif owner[1] and began and line.endswith('}'):
+        elif owner[1] and began and IN_A_LINE.match(line):
             owner = None, False
     return out
 
@@ -44,11 +45,6 @@ def parts_of(path, text):
     return [(*owner, '\n'.join(line for _, line in part)) for owner, part in itertools.groupby(owned, lambda one: one[0])]
 
 
-# A line that brings in names of a crate's own proofs, and one that declares a name.
-BRINGS = re.compile(r'(?:pub )?use Rattle·\w+·proofs\.proofs\.([\w.]+?)(?:\.\{(.*)\}| as (\S+))?$')
-DECLARES = re.compile(r'(?!--|use )(?:(?:pub|abbrev|unfoldable|record|data) )*(\S+) ')
-
-
 class Crate:
     """A crate's files as they stand, and its functions, with those that another calls."""
 
@@ -57,22 +53,7 @@ class Crate:
         self.texts = {os.path.relpath(file, folder): text_of(file) for file in files}
         parts = [part for path, text in self.texts.items() if path.startswith('src/') for part in parts_of(path, text) if part[0]]
         self.functions = {f for f, _, _ in parts}
-        self.exported = {f for f, head, text in parts if head and 'extern "C" fn' in text}
         self.called = {f for f in self.functions for g, head, text in parts if f != g and not head and re.search(rf'\b{f.split("::")[-1]}\(', text)}
-
-    def named_at(self, path, line):
-        """The function that the theorem at a line of a file names, where it names one and nothing else that the crate proves."""
-        lines = self.texts[path].split('\n')
-        begins = [i for i, text in enumerate(lines) if text and not text[0].isspace() and not (i and lines[i - 1])] + [len(lines)]
-        first, last = max(i for i in begins if i < line), min(i for i in begins if i >= line)
-        words, found = set(re.split(r'[\s(){},.;]+', ' '.join(lines[first:last]))), set()
-        for other in lines[:first] + lines[last:]:
-            brings, declares = BRINGS.match(other), DECLARES.match(other)
-            if brings and words & set((brings.group(2) or brings.group(3) or brings.group(1).split('.')[-1]).split(', ')):
-                found.add('::'.join(m for m in brings.group(1).split('.') if m[0].islower()))
-            if declares and declares.group(1) in words:
-                found.add(None)
-        return found.pop() if len(found) == 1 and found <= self.functions else None
 
 
 def copy_of(function, k):
@@ -82,7 +63,7 @@ def copy_of(function, k):
 def copied(crate, function, k, code):
     """A function under another name, from the lines of its code, and its proof, if it has one: the lines, and {path: text}."""
     short, new = function.split('::')[-1], copy_of(function, k).split('::')[-1]
-    code = [code[0].replace(f'fn {short}(', f'fn {new}(', 1), *code[1:], '}']
+    code = [code[0].replace(f'fn {short}(', f'fn {new}(', 1).replace('pub extern "C" fn', 'fn', 1), *code[1:], '}']
     proof = crate.texts.get(f'proofs/{function.replace("::", "/")}/Proof.antt')
     if proof is None:
         return code, {}
@@ -122,7 +103,7 @@ class Room:
         return os.listdir(self.kept('nothing'))[0]
 
     def move_in(self, name):
-        """Copies a crate and its modules, and checks it over them."""
+        """Copies a crate and its modules."""
         for part in ('src', 'specs', 'proofs'):
             if os.path.isdir(os.path.join('crates', name, part)):
                 shutil.copytree(os.path.join('crates', name, part), os.path.join(self.crate(name), part))
@@ -130,7 +111,6 @@ class Room:
         proved = os.path.join(self.rlib, name + '.rlib', 'toolchain', 'checked')
         if os.path.isdir(proved):  # a program has no rlib: its first check is a whole one
             shutil.copytree(proved, os.path.join(self.kept(name), self.build))
-        return self.check_over(name, self.kept(name))
 
     def check(self, name, texts, seconds=None):
         """The check of a crate in its copy with these files, over the modules that were moved in: its exit status, none where it takes longer than it may, and what it says. What a check
@@ -161,7 +141,7 @@ class Room:
         for d in ours:
             words += ['--extern', f'{d}={self.rlib}/{d}.rlib']
         words += ['-L', f'dependency={self.rlib}', '--incremental', modules]
-        run = subprocess.Popen(words, stdout=subprocess.PIPE, stderr=subprocess.STDOUT, text=True, start_new_session=True)
+        run = subprocess.Popen(words, stdout=subprocess.PIPE, stderr=subprocess.STDOUT, text=True, process_group=0)
         try:
             said, _ = run.communicate(timeout=seconds)
         except BaseException as stopped:

@@ -25,7 +25,7 @@ use Rattle.captures.specs.Captures.{endAt, partAt, fieldAt, unread, afterLine, 
 use Rattle.captures.proofs.Walking.{stands}
 use Rattle.tally.specs.Tally.{differAt}
 use Rattle.compare.specs.declared.Compared.{Compared}
-use Rattle.compare.specs.Compare.{faultIn, faultOf, placesTo, countedOn, listedOn}
+use Rattle.compare.specs.Compare.{lineOf, faultIn, faultOf, placesTo, countedOn, listedOn}
 use Rattle.compare.specs.Counting.{Lines, Counted}
 use Rattle.compare.proofs.Listing.{places-length}
 
@@ -104,7 +104,7 @@ module _ (file : List ℕ) where
       by-fields true x = rw x (by-level (levelOf (fieldsOf file .level)) refl (rw x at good) (rw x at has))
       by-fields false x = absurd (eqb-false (fieldsOf file .refusal) 0 x (rw x at good))
 
-  pub line-length : length (bytesIn file (readOf file .line)) ≡ readOf file .line .bytes
+  pub line-length : length (lineOf file) ≡ readOf file .line .bytes
   line-length =
       let part = readOf file .line in
       length-take-le (part .bytes) (drop (part .start) file) (omega (arith, length-drop (part .start) file, line-within .inside))

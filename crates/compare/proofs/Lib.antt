@@ -1,8 +1,6 @@
 pub mod Listing
 pub mod Walking
 pub mod Files
-pub mod Groups
-pub mod Differing
 pub mod SumsByKind
 pub mod TwoLines
 pub mod Picked

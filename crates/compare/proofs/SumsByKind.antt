@@ -2,15 +2,15 @@
 -- which sum the places of a set count in, by its head and its run.
 use mathlib.Core.Path.{_≡_, refl, sym, _∙_, ap}
 use mathlib.Core.Logic.{_≢_}
-use mathlib.Core.Bool.{Bool, cond, true, false, _&&_}
+use mathlib.Core.Bool.{cond, false, _&&_}
 use mathlib.Core.List.{List}
 use Prim.Native.Nat.{ℕ, zero, suc, _+_, _-_, _*_, _/_, _%_, _^_, _≤_, _<_}
 use native.Mathlib.Omega.{arith}
-use native.Mathlib.Decide.{ℕ-discrete, decLt}
+use native.Mathlib.Decide.{decLt}
 use native.Mathlib.Nat.{mul-left-comm, div-le-self, add-mul, mul-le-mul-right}
 use lib.Dec.{eqb}
-use lib.ListN.{length, getD, set, replicate, length-set}
-use lib.Seq.{ext-getD, getD-set-same, getD-set-other, set-getD, set-out}
+use lib.ListN.{length, getD, set, replicate}
+use lib.Seq.{ext-getD}
 use borrow.Author.Tests.{eq-eqb, ne-eqb, lt-ltb, le-ltb}
 use Rattle.digits.specs.Sums.{sumTo}
 use Rattle.table.specs.declared.Row.{Row}
@@ -26,65 +26,9 @@ use Rattle.tally.specs.Tally.{serviceNumber, sumNumber, numberAt, sumOf, sumsOf
 use Rattle.tally.proofs.Sums.{sums-length, sums-at, sums-same, sums-none, sum-small, adds-up}
 use Rattle.compare.specs.Compare.{listedOn}
 use Rattle.compare.specs.Counting.{Lines, InFrame, SumsTo, EqualBytes, Counted}
-use Rattle.compare.specs.Masks.{Even, unitAt, allFrom, columnsOf, added, addedFour, byFour}
+use Rattle.masks.specs.Masks.{Even, unitAt, allFrom, columnsOf, added, addedFour}
 use Rattle.compare.proofs.Walking.{equal-digits}
-
--- ---- more in a sum
-
--- v, in sum m alone
-abbrev on : ℕ → ℕ → ℕ → ℕ
-on b m v = cond (eqb b m) v 0
-
-on-none : (b m : ℕ) → on b m 0 ≡ 0
-on-none b m = go (eqb b m)
-  where
-    go : (t : Bool) → cond {A = ℕ} t 0 0 ≡ 0
-    go true = refl
-    go false = refl
-
-on-more : (b m v w : ℕ) → on b m (v + w) ≡ on b m v + on b m w
-on-more b m v w = go (eqb b m)
-  where
-    go : (t : Bool) → cond t (v + w) 0 ≡ cond t v 0 + cond t w 0
-    go true = refl
-    go false = refl
-
-on-unit : (t e : Bool) → cond {A = ℕ} (t && e) 1 0 ≡ cond e (cond t 1 0) 0
-on-unit true true = refl
-on-unit true false = refl
-on-unit false true = refl
-on-unit false false = refl
-
-added-at : (sums : List ℕ) (b v m : ℕ) → b < length sums → getD (added sums b v) m 0 ≡ getD sums m 0 + on b m v
-added-at sums b v m h =
-    elim (ℕ-discrete m b) [
-      | yes e ↦ rw (e, eq-eqb b b refl) (getD-set-same sums b (getD sums b 0 + v) 0 h)
-      | no n ↦
-          let none : getD sums m 0 ≡ getD sums m 0 + 0 = omega arith in
-          rw (ne-eqb b m (λ q. n (sym q))) (getD-set-other sums b m (getD sums b 0 + v) 0 n ∙ none)
-    ]
-
-added-length : (sums : List ℕ) (b v : ℕ) → length (added sums b v) ≡ length sums
-added-length sums b v = length-set sums b (getD sums b 0 + v)
-
-pub added-none : (sums : List ℕ) (b : ℕ) → added sums b 0 ≡ sums
-added-none sums b = let e : getD sums b 0 + 0 ≡ getD sums b 0 = omega arith in rw e (set-getD sums b 0)
-
--- a bound stays, a little higher
-pub added-lt : (sums : List ℕ) (b v m : ℕ) → ((k : ℕ) → getD sums k 0 < m) → v < 256 → (k : ℕ) → getD (added sums b v) k 0 < m + 256
-added-lt sums b v m small few k =
-    elim (decLt b (length sums)) [
-      | yes h ↦ by-sum (eqb b k) (added-at sums b v k h)
-      | no h ↦ rw (set-out sums b (getD sums b 0 + v) (omega arith)) (omega (arith, small k))
-    ]
-  where
-    by-sum : (t : Bool) → getD (added sums b v) k 0 ≡ getD sums k 0 + cond t v 0 → getD (added sums b v) k 0 < m + 256
-    by-sum true e = omega (arith, e, small k)
-    by-sum false e = omega (arith, e, small k)
-
-pub four-of : (sums next : List ℕ) (base a b c d : ℕ) (w : ℕ → ℕ) → next ≡ addedFour sums base (byFour a b c d) → a ≡ w 0 → b ≡ w 1 → c ≡ w 2 → d ≡ w 3
-    → next ≡ addedFour sums base w
-four-of sums next base a b c d w e ea eb ec ed = e ∙ rw (ea, eb, ec, ed) refl
+use Rattle.masks.proofs.Added.{on, on-none, on-more, on-unit, added-at, added-length}
 
 module _ (row : Row) (one other : List ℕ) where
   -- ---- n places that count in sum m

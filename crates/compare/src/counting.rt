@@ -1,12 +1,10 @@
 // The fifteen sums of two lines, by the layout: the head of a set is places of one kind, or columns that have a place of each tributary, and so is the run
-// behind it. masks.rt counts each such stretch by the word. A frame that is equal in both is passed over.
-use crate::masks;
+// behind it. Crate `masks` counts each such stretch by the word. A frame that is equal in both is passed over.
 use levels::places;
 use table::Row;
 ghost use mathlib.Core.Path.{_≡_};
 ghost use mathlib.Core.Bool.{true};
 ghost use Prim.Native.Nat.{ℕ, _+_, _*_, _^_, _<_, _≤_};
-ghost use Prim.Native.Nat.{min};
 ghost use lib.ListN.{length, getD, replicate};
 ghost use Rattle.digits.specs.Sums.{sumTo};
 ghost use Rattle.levels.specs.Places.{headEnd};
@@ -14,16 +12,6 @@ ghost use Rattle.compare.specs.Counting.{Lines, SumsTo, InFrame, EqualBy
 
 // So many columns go in one turn.
 const MOST: usize = 192;
-
-// A number, or the most it may be.
-pub fn at_most(n: usize, most: usize) -> usize
-    ensures { λ r. ⌜ r ≡ min n most ⌝ }
-{
-    if n < most {
-        return n;
-    }
-    most
-}
 
 fn unequal(a: u8, b: u8) -> u16
     ensures { λ r. ⌜ (r ≡ 0 → a ≡ b) × (r < 2) ⌝ }

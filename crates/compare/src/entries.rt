@@ -125,7 +125,7 @@ pub fn list_lines(row: Row, one: &[u8], other: &[u8], places: &mut [u64; 128])
         if crate::LISTED_MOST <= all {
             return;
         }
-        let to = counting::at_most(from + BLOCK, end);
+        let to = masks::at_most(from + BLOCK, end);
         all = list_block(row, one, other, from, to, all, places);
         from = to;
     }

@@ -3,7 +3,6 @@
 pub mod counting;
 pub mod entries;
 pub mod lines;
-pub mod masks;
 pub mod stretches;
 
 use captures::Part;
@@ -101,7 +100,7 @@ pub fn counted_on(row: Row, one: &[u8], other: &[u8], places: &mut [u64; 128]) -
         byte: 0,
         sums,
         all,
-        listed: counting::at_most(all, LISTED_MOST),
+        listed: masks::at_most(all, LISTED_MOST),
     }
 }
 

@@ -1,3 +1,4 @@
+pub mod Lists
 pub mod Columns
 pub mod Spares
 pub mod Silent

@@ -12,9 +12,9 @@ use lib.ListN.{length, getD, replicate, length-replicate, getD-replicate}
 use lib.Seq.{ext-getD}
 use lib.Pow.{pow-pos}
 use borrow.Author.Tests.{eq-eqb, le-leb, lt-leb}
-use Rattle.digits.specs.Digits.{digitsOf, bytesOf, tab, Binary, differing}
+use Rattle.digits.specs.Digits.{tab, Binary, differing}
 use Rattle.digits.specs.Sums.{sumTo}
-use Rattle.digits.proofs.Laws.{by-digit, digits-binary, tab-at, tab-length, tab-binary, zeros-at, zeros-binary}
+use Rattle.digits.proofs.Laws.{by-digit, tab-at, tab-length, tab-binary, zeros-at, zeros-binary}
 use Rattle.digits.proofs.Lists.{of-four, differing-more}
 use Rattle.digits.proofs.Sums.{sum-all}
 use Rattle.table.specs.declared.Row.{Row}
@@ -25,25 +25,23 @@ use Rattle.levels.specs.declared.places.Kind.the-variants.{Word, Service, Contr
 use Rattle.table.specs.Table.{row2, row3, row4, row12, row14, levelOf}
 use Rattle.levels.specs.Table.{Shared}
 use Rattle.levels.specs.Sizes.{framesRefusal, sizeRefusal}
-use Rattle.levels.specs.Places.{firstSet, middleSet, lastSet, kindOf, kindAt, posOf}
-use Rattle.levels.specs.Order.{stuffed, actionOf, actions, carried, carries, before, placesOf, countOf}
-use Rattle.levels.specs.Vote.{groupOf, votesFor, voteBy}
+use Rattle.levels.specs.Places.{kindAt, posOf}
+use Rattle.levels.specs.Order.{stuffed, actionOf, actions, carried, before, countOf}
+use Rattle.levels.specs.Vote.{groupOf}
 use Rattle.levels.proofs.Rows.{shared2, shared3, shared4, shared12, shared14}
 use Rattle.levels.proofs.Positions.{stands, pos-of-sum}
 use Rattle.levels.proofs.Majority.{group-length}
 use Rattle.levels.proofs.Ways.{kind-control}
-use Rattle.levels.specs.Line.{digitBy, lineDigit}
+use Rattle.levels.specs.Line.{digitBy}
 use Rattle.levels.specs.Faults.{firstWith, unset, nationalBits, faultOf, sendFaultOf}
-use Rattle.reading.specs.Notes.{voteAt, serviceAt, noteOf}
-use Rattle.extraction.specs.Quarters.{takenTo, quarterFrom, quartersFrom}
 use Rattle.promises.specs.Damage.{Liberty, at-will, counted, kept, liberty, libertyAt, groupAt, allowed, DamageUpTo, Damage, controlsChanged, lineDigits}
 use Rattle.promises.specs.Carried.{Sound}
-use Rattle.promises.specs.Calls.{SendAccepted, sentLine, sentCounts, outcome, LentAt, DamageAt}
-use Rattle.promises.specs.Border.{inverted, spoilt, changes, early, late, noneStuffed, allStuffed, idle, Border, exampleSend, exampleLine, exampleDamaged, exampleRead, Example, fullSend, fullRead, Full}
+use Rattle.promises.specs.Calls.{SendAccepted, sentCounts, LentAt}
+use Rattle.promises.specs.Border.{inverted, spoilt, changes, early, late, noneStuffed, allStuffed, idle, Border, fullSend, fullRead, Full}
 use Rattle.promises.proofs.Sent.{control-place, in-line, sent-at}
 use Rattle.promises.proofs.Recovered.{dissent-changed}
 use Rattle.promises.proofs.RoundTrip.{line-binary}
-use Rattle.promises.proofs.Calls.{send-returned, send-back}
+use Rattle.promises.proofs.Calls.{send-back}
 
 inverted-small : (l : Liberty) (change : Bool) (d : ℕ) → d < 2 → inverted l change d < 2
 inverted-small at-will change d h = omega arith
@@ -305,56 +303,6 @@ two-of-three-at-12 earlier = border row12 shared12 earlier 2
 
 pub two-of-three-at-14 : (earlier : ℕ) → Border row14 earlier 2
 two-of-three-at-14 earlier = border row14 shared14 earlier 2
-
--- the example, by computation
-example-leaves : sentLine 2 0 exampleSend ≡ exampleLine
-unfolding levelOf sendFaultOf faultOf framesRefusal sizeRefusal firstWith bytesOf tab lineDigit before carries actionOf posOf kindOf firstSet middleSet lastSet digitsOf exampleLine
-example-leaves = refl
-
-example-spoilt : spoilt row2 0 (0x21 ∷ []) (early row2) 1 (digitsOf exampleLine) ≡ digitsOf exampleDamaged
-unfolding tab actionOf posOf kindOf firstSet middleSet lastSet digitsOf exampleLine exampleDamaged
-example-spoilt = refl
-
-example-accepted : SendAccepted 2 0 exampleSend
-unfolding levelOf sendFaultOf faultOf framesRefusal sizeRefusal firstWith
-example-accepted = refl
-
-example-seventeen : differing (digitsOf exampleLine) (digitsOf exampleDamaged) ≡ 17
-unfolding differing digitsOf exampleLine exampleDamaged
-example-seventeen = refl
-
-example-damaged : DamageAt 2 0 (exampleSend .notes) (sentLine 2 0 exampleSend) exampleDamaged
-unfolding levelOf
-example-damaged = rw (example-leaves, ← example-spoilt) (all-allowed row2 shared2 0 (0x21 ∷ []) 1 (digitsOf exampleLine) (digits-binary exampleLine))
-
-example-read : outcome 2 0 exampleRead
-    ≡ record {
-      refusal = 0;
-      frame = 0;
-      counts = 205 ∷ 206 ∷ 206 ∷ 206 ∷ [];
-      alignment = 10;
-      dissent = 1 ∷ 1 ∷ 1 ∷ 1 ∷ [];
-      notes = 0x11 ∷ [];
-      buffer = exampleSend .buffer;
-    }
-unfolding levelOf framesRefusal sizeRefusal firstWith faultOf noteOf voteAt serviceAt voteBy votesFor groupOf countOf sumTo quartersFrom
-    quarterFrom takenTo placesOf carries actionOf posOf kindOf firstSet middleSet lastSet tab bytesOf digitsOf exampleDamaged
-example-read = refl
-
-example-lent : LentAt 2 exampleSend exampleRead
-unfolding levelOf
-example-lent = record { noted = refl; quarters = refl; room = omega arith }
-
-pub example : Example
-example =
-    record {
-      accepted = example-accepted;
-      leaves = example-leaves;
-      damaged = example-damaged;
-      seventeen = example-seventeen;
-      returned = send-returned 2 0 exampleSend exampleRead example-accepted example-lent example-damaged;
-      answers = example-read;
-    }
 
 -- not one digit to spare
 full-accepted : SendAccepted 2 0 fullSend

@@ -1,4 +1,3 @@
-pub mod Cases
 pub mod Sent
 pub mod Reading
 pub mod Order

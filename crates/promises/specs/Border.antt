@@ -1,12 +1,12 @@
--- Examples for demand 3: damage as bad as it may be, of any line; and the two sends that one changed digit more makes equal.
+-- Examples for demand 3: the two sends that one changed digit more makes equal, and a send with not one digit to spare.
 use mathlib.Core.Path.{_≡_}
 use mathlib.Core.Logic.{_≢_}
 use mathlib.Core.Bool.{Bool, cond, not}
-use mathlib.Core.List.{List, [], _∷_, _++_}
+use mathlib.Core.List.{List, [], _∷_}
 use Prim.Native.Nat.{ℕ, _+_, _*_, _-_, _<_}
 use lib.Dec.{leb}
 use lib.ListN.{getD, replicate}
-use Rattle.digits.specs.Digits.{tab, digitsOf, differing}
+use Rattle.digits.specs.Digits.{tab}
 use Rattle.digits.specs.Sums.{sumTo}
 use Rattle.table.specs.declared.Row.{Row}
 use Rattle.levels.specs.Places.{posOf}
@@ -15,7 +15,7 @@ use Rattle.levels.specs.Faults.{nationalBits}
 use Rattle.reading.specs.Notes.{dissentTo}
 use Rattle.promises.specs.Damage.{Liberty, at-will, counted, kept, libertyAt, allowed, DamageUpTo, Damage, controlsChanged, lineDigits}
 use Rattle.promises.specs.Carried.{Sound}
-use Rattle.promises.specs.Calls.{Lent, SendAccepted, sentLine, sentCounts, outcome, DamageAt, SendReturned, SendBack}
+use Rattle.promises.specs.Calls.{Lent, SendAccepted, sentLine, sentCounts, SendBack}
 
 -- every digit that may be changed at will is inverted, and every control digit of the sets that change says
 abbrev pub inverted : Liberty → Bool → ℕ → ℕ
@@ -60,41 +60,6 @@ pub record Border (row : Row) (earlier F : ℕ) : Type 0 where
   pub dissenting : (j : ℕ) → j < 4 → dissentTo row line j F ≡ F * allowed row
   pub changed-other : (j : ℕ) → j < 4 → controlsChanged row F (lineDigits row earlier (allStuffed row F) (idle row F) F) line j ≡ F * (allowed row + 1)
   pub differ : (j f : ℕ) → j < 4 → f < F → decisions (noneStuffed row F) j f ≢ decisions (allStuffed row F) j f
-
--- one frame at 8448 kbit/s, stuffed for tributary 1, whose digit 154 is 1, all others 0: the line that is left, and that line damaged in every
--- way that is allowed at once. The word, the remote alarm digit and the national digit are inverted, the first control digit of each of the
--- four groups (0x08 is sent there, 0x07 comes) and the stuffing digit (0x88 is sent, 0x08 comes: digit 154 stands four places on)
-abbrev pub exampleSend : Lent
-exampleSend = record { line = replicate 106 0; notes = 0x21 ∷ []; buffer = replicate 19 0 ++ (0x20 ∷ replicate 84 0) }
-
-unfoldable pub exampleLine : List ℕ
-exampleLine = 0xF4 ∷ 0x10 ∷ (replicate 24 0 ++ (0x08 ∷ (replicate 26 0 ++ (0x80 ∷ (replicate 25 0 ++ (0x08 ∷ (0x88 ∷ replicate 25 0)))))))
-
-unfoldable pub exampleDamaged : List ℕ
-exampleDamaged = 0x0B ∷ 0xE0 ∷ (replicate 24 0 ++ (0x07 ∷ (replicate 26 0 ++ (0x80 ∷ (replicate 25 0 ++ (0x08 ∷ (0x08 ∷ replicate 25 0)))))))
-
--- the damaged line is read into notes and a buffer that hold something else
-abbrev pub exampleRead : Lent
-exampleRead = record { line = exampleDamaged; notes = 0xFF ∷ []; buffer = replicate 104 0xFF }
-
--- ten digits of the word, two service digits, four control digits and a stuffing digit differ: all the send's decision leaves free. The
--- reading counts the ten, and a dissenting digit of each tributary; its note has the send's decision, and the service digits as they came; its buffer is the send's
-pub record Example : Type 0 where
-  pub accepted : SendAccepted 2 0 exampleSend
-  pub leaves : sentLine 2 0 exampleSend ≡ exampleLine
-  pub damaged : DamageAt 2 0 (exampleSend .notes) (sentLine 2 0 exampleSend) exampleDamaged
-  pub seventeen : differing (digitsOf exampleLine) (digitsOf exampleDamaged) ≡ 17
-  pub returned : SendReturned 2 0 exampleSend exampleRead
-  pub answers : outcome 2 0 exampleRead
-      ≡ record {
-        refusal = 0;
-        frame = 0;
-        counts = 205 ∷ 206 ∷ 206 ∷ 206 ∷ [];
-        alignment = 10;
-        dissent = 1 ∷ 1 ∷ 1 ∷ 1 ∷ [];
-        notes = 0x11 ∷ [];
-        buffer = exampleSend .buffer;
-      }
 
 -- four frames at 8448 kbit/s, none stuffed, of zeros, with not one digit to spare: each carries 206 digits of a tributary, and a quarter of 103 bytes holds the 824
 abbrev pub fullSend : Lent

@@ -1,4 +1,3 @@
-pub mod Cases
 pub mod Damage
 pub mod Carried
 pub mod Together

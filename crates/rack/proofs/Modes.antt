@@ -5,7 +5,7 @@ use Prim.Native.Nat.{ℕ, zero, suc, _-_}
 use native.Mathlib.Omega.{arith}
 use borrow.Author.Tests.{ne-eqb, le-leb}
 use lib.Dec.{leb, eqb}
-use Rattle.receiver.specs.declared.Mode.the-variants.{Aligned}
+use Rattle.modes.specs.declared.Mode.the-variants.{Aligned}
 use Rattle.receiver.specs.Frame.{aligned}
 use Rattle.receiver.specs.Numbers.{modeOf}
 use Rattle.rack.specs.Record.{isAligned}

@@ -14,11 +14,11 @@ use Rattle.table.specs.declared.Level.{Level}
 use Rattle.table.specs.declared.Level.the-variants.{Of, NoSuchLevel}
 use Rattle.table.specs.Table.{levelOf}
 use Rattle.levels.proofs.Rows.{shared-row}
-use Rattle.receiver.specs.declared.Mode.{Mode}
-use Rattle.receiver.specs.declared.Mode.the-variants.{Hunting, OneFound, TwoFound, Aligned}
+use Rattle.modes.specs.declared.Mode.{Mode}
+use Rattle.modes.specs.declared.Mode.the-variants.{Hunting, OneFound, TwoFound, Aligned}
 use Rattle.receiver.specs.declared.State.{State}
 use Rattle.receiver.specs.declared.Fed.{Fed}
-use Rattle.receiver.specs.Modes.{missed}
+use Rattle.modes.specs.Modes.{missed}
 use Rattle.digits.specs.Runs.{pieceOf}
 use Rattle.receiver.specs.Feed.{freshState, freshOf, freshAt, feedOf, feedRow, refused, refusalOf, coreOf}
 use Rattle.receiver_promises.proofs.Pieces.{feed-valid, fresh-state, run-answer}

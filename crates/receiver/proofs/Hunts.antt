@@ -12,15 +12,16 @@ use lib.ListN.{length, getD}
 use Rattle.digits.specs.Digits.{digitsOf, between}
 use Rattle.table.specs.declared.Row.{Row}
 use Rattle.levels.specs.Table.{Shared}
-use Rattle.receiver.specs.declared.Mode.{Mode}
-use Rattle.receiver.specs.declared.Mode.the-variants.{Hunting, OneFound, TwoFound, Aligned}
-use Rattle.receiver.specs.declared.modes.Core.{Core}
+use Rattle.modes.specs.declared.Mode.{Mode}
+use Rattle.modes.specs.declared.Mode.the-variants.{Hunting, OneFound, TwoFound, Aligned}
+use Rattle.modes.specs.declared.Core.{Core}
 use Rattle.receiver.specs.declared.alarm.Stretch.{Stretch}
 use Rattle.receiver.specs.Alarm.{countOf, counted}
-use Rattle.receiver.specs.Modes.{hunting, windowOf, seenOf, good, asks, testedAt, placeAfter, afterDigit, stepOf}
+use Rattle.modes.specs.Modes.{hunting, windowOf, seenOf, good, asks, testedAt, placeAfter, afterDigit, stepOf}
 use Rattle.receiver.specs.Frame.{keepOf, readyOf}
 use Rattle.digits.specs.Runs.{pieceOf}
-use Rattle.receiver.specs.Feed.{stateOf, afterOf, runOf, Valid}
+use Rattle.receiver.specs.Feed.{stateOf, afterOf, runOf}
+use Rattle.modes.specs.Modes.{Valid}
 use Rattle.receiver.specs.Hunt.{stillHunting, testedIn, Hunted}
 use Rattle.receiver.proofs.Validity.{step-valid}
 use Rattle.receiver.proofs.Counts.{counted-none, counted-one}

@@ -8,13 +8,14 @@ use lib.ListN.{length, getD}
 use Rattle.digits.specs.Digits.{digitsOf, between}
 use Rattle.digits.proofs.Runs.{piece-step}
 use Rattle.table.specs.declared.Row.{Row}
-use Rattle.receiver.specs.declared.modes.Core.{Core}
+use Rattle.modes.specs.declared.Core.{Core}
 use Rattle.receiver.specs.declared.alarm.Stretch.{Stretch}
-use Rattle.receiver.specs.Modes.{stepOf, testedAt}
+use Rattle.modes.specs.Modes.{stepOf, testedAt}
 use Rattle.receiver.specs.Frame.{keepOf, readyOf}
 use Rattle.receiver.specs.Alarm.{counted, Counting}
 use Rattle.digits.specs.Runs.{pieceOf}
-use Rattle.receiver.specs.Feed.{stateOf, Valid, afterOf, accepted, runOf}
+use Rattle.receiver.specs.Feed.{stateOf, afterOf, accepted, runOf}
+use Rattle.modes.specs.Modes.{Valid}
 use Rattle.receiver.specs.Hunt.{Hunted}
 use Rattle.receiver.specs.Carry.{Carried}
 use Rattle.receiver.proofs.Counts.{counted-none, counted-one, counted-join}

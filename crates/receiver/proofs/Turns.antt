@@ -15,7 +15,7 @@ use Rattle.table.specs.Table.{levelOf}
 use Rattle.receiver.specs.declared.alarm.Stretch.{Stretch}
 use Rattle.receiver.specs.declared.State.{State}
 use Rattle.receiver.specs.declared.Fed.{Fed}
-use Rattle.receiver.specs.Modes.{testedAt}
+use Rattle.modes.specs.Modes.{testedAt}
 use Rattle.receiver.specs.Frame.{readyOf}
 use Rattle.receiver.specs.Alarm.{isFew, alarmAfter, ended, added}
 use Rattle.digits.specs.Runs.{pieceOf}

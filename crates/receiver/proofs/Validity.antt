@@ -10,13 +10,14 @@ use lib.Pow.{pow-pos}
 use Rattle.digits.proofs.Tests.{cond-told, or-neither, and-asked, not-true}
 use Rattle.table.specs.declared.Row.{Row}
 use Rattle.levels.specs.Table.{Shared}
-use Rattle.receiver.specs.declared.Mode.{Mode}
-use Rattle.receiver.specs.declared.Mode.the-variants.{Hunting, OneFound, TwoFound, Aligned}
-use Rattle.receiver.specs.declared.modes.Core.{Core}
-use Rattle.receiver.specs.Modes.{hunting, missed, windowOf, seenOf, good, asks, judged, placeAfter, afterDigit, stepOf}
+use Rattle.modes.specs.declared.Mode.{Mode}
+use Rattle.modes.specs.declared.Mode.the-variants.{Hunting, OneFound, TwoFound, Aligned}
+use Rattle.modes.specs.declared.Core.{Core}
+use Rattle.modes.specs.Modes.{hunting, missed, windowOf, seenOf, good, asks, judged, placeAfter, afterDigit, stepOf}
 use Rattle.receiver.specs.declared.alarm.Stretch.{Stretch}
 use Rattle.receiver.specs.Alarm.{uncounted, Counting}
-use Rattle.receiver.specs.Feed.{invalid, refusalOf, Valid}
+use Rattle.receiver.specs.Feed.{invalid, refusalOf}
+use Rattle.modes.specs.Modes.{Valid}
 
 -- ---- not refused with 6 is valid
 

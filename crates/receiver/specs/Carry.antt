@@ -5,11 +5,12 @@ use Prim.Native.Nat.{ℕ, _+_, _-_, _≤_, _<_}
 use Rattle.table.specs.declared.Row.{Row}
 use Rattle.digits.specs.Digits.{digitsOf, between}
 use Rattle.strides.specs.Strides.{windowFrom}
-use Rattle.receiver.specs.declared.modes.Core.{Core}
+use Rattle.modes.specs.declared.Core.{Core}
 use Rattle.receiver.specs.declared.alarm.Stretch.{Stretch}
 use Rattle.receiver.specs.Alarm.{counted}
 use Rattle.digits.specs.Runs.{pieceOf}
-use Rattle.receiver.specs.Feed.{stateOf, runOf, Valid}
+use Rattle.receiver.specs.Feed.{stateOf, runOf}
+use Rattle.modes.specs.Modes.{Valid}
 
 -- a core after k digits, from place p of a slice on, at which no rule looks
 unfoldable pub goneOn : Row → List ℕ → ℕ → Core → ℕ → Core

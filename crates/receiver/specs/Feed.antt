@@ -3,7 +3,7 @@
 use mathlib.Core.Path.{_≡_}
 use mathlib.Core.Bool.{Bool, cond, true, false, not, _&&_, _||_}
 use mathlib.Core.List.{List, [], _∷_}
-use Prim.Native.Nat.{ℕ, suc, _+_, _*_, _^_, _<_, _≤_}
+use Prim.Native.Nat.{ℕ, suc, _+_, _*_, _^_}
 use lib.Dec.{eqb, ltb, leb}
 use lib.ListN.{length, replicate}
 use Rattle.digits.specs.Runs.{pieceOf}
@@ -11,13 +11,13 @@ use Rattle.table.specs.declared.Row.{Row}
 use Rattle.table.specs.declared.Level.{Level}
 use Rattle.table.specs.declared.Level.the-variants.{Of, NoSuchLevel}
 use Rattle.table.specs.Table.{levelOf}
-use Rattle.receiver.specs.declared.Mode.the-variants.{Hunting}
-use Rattle.receiver.specs.declared.modes.Core.{Core}
+use Rattle.modes.specs.declared.Mode.the-variants.{Hunting}
+use Rattle.modes.specs.declared.Core.{Core}
 use Rattle.receiver.specs.declared.alarm.Stretch.{Stretch}
 use Rattle.receiver.specs.declared.State.{State}
 use Rattle.receiver.specs.declared.Made.{Made}
 use Rattle.receiver.specs.declared.Fed.{Fed}
-use Rattle.receiver.specs.Modes.{hunting, missed, stepOf, testedAt}
+use Rattle.modes.specs.Modes.{hunting, missed, stepOf, testedAt, Valid}
 use Rattle.receiver.specs.Frame.{keepOf, readyOf}
 use Rattle.receiver.specs.Alarm.{countOf, freshStretch, uncounted, Counting}
 
@@ -107,15 +107,6 @@ feedOf s slice first count = feedAt (levelOf (s .level)) s slice first count
 -- the whole statement of feeding a piece
 abbrev pub FeedMet : State → List ℕ → ℕ → ℕ → Fed → Type 0
 FeedMet s slice first count fed = fed ≡ feedOf s slice first count
-
--- ---- what validity says, item by item: proofs/Validity.antt shows that it is `invalid` answered with no
-pub record Valid (row : Row) (c : Core) : Type 0 where
-  pub window : c .window < 2 ^ row .len
-  pub seen : c .seen ≤ row .len
-  pub missed : missed (c .mode) ≤ 3
-  pub place : c .place < row .digits
-  pub rests : hunting (c .mode) ≡ true → c .place ≡ 0
-  pub came : hunting (c .mode) ≡ false → row .len ≤ c .seen
 
 -- a state of this row that is not refused with 6
 abbrev pub ValidState : Row → State → Type 0

@@ -7,10 +7,10 @@ use lib.Dec.{eqb, leb}
 use lib.ListN.{length, set, replicate}
 use Rattle.digits.specs.Digits.{digitsOf, bytesOf, written}
 use Rattle.table.specs.declared.Row.{Row}
-use Rattle.receiver.specs.declared.Mode.{Mode}
-use Rattle.receiver.specs.declared.Mode.the-variants.{Hunting, OneFound, TwoFound, Aligned}
-use Rattle.receiver.specs.declared.modes.Core.{Core}
-use Rattle.receiver.specs.Modes.{hunting}
+use Rattle.modes.specs.declared.Mode.{Mode}
+use Rattle.modes.specs.declared.Mode.the-variants.{Hunting, OneFound, TwoFound, Aligned}
+use Rattle.modes.specs.declared.Core.{Core}
+use Rattle.modes.specs.Modes.{hunting}
 
 -- the array that has these digits first and is zero after them
 unfoldable pub holding : List ℕ → List ℕ

@@ -3,13 +3,14 @@ use mathlib.Core.Path.{_≡_}
 use mathlib.Core.List.{List}
 use Prim.Native.Nat.{ℕ, _+_, _-_, _≤_, _<_, min}
 use Rattle.table.specs.declared.Row.{Row}
-use Rattle.receiver.specs.declared.Mode.the-variants.{Hunting}
+use Rattle.modes.specs.declared.Mode.the-variants.{Hunting}
 use Rattle.digits.specs.Digits.{between}
-use Rattle.receiver.specs.declared.modes.Core.{Core}
+use Rattle.modes.specs.declared.Core.{Core}
 use Rattle.receiver.specs.declared.alarm.Stretch.{Stretch}
 use Rattle.receiver.specs.Alarm.{counted}
 use Rattle.digits.specs.Runs.{pieceOf}
-use Rattle.receiver.specs.Feed.{stateOf, runOf, Valid}
+use Rattle.receiver.specs.Feed.{stateOf, runOf}
+use Rattle.modes.specs.Modes.{Valid}
 
 unfoldable pub stillHunting : Row → ℕ → ℕ → Core
 stillHunting row w came = record { window = w; seen = min came (row .len); mode = Hunting; place = 0 }

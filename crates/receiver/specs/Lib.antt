@@ -1,4 +1,3 @@
-pub mod Modes
 pub mod Frame
 pub mod Alarm
 pub mod Feed

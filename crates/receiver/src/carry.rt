@@ -1,13 +1,13 @@
 // Outside hunting, in a hurry: digits at which no rule looks move the window and the place, and are put in the frame. The digit at
 // which a rule looks, or the last one, is left to `step`.
 use crate::frame;
-use crate::modes::Core;
+use modes::Core;
 use table::Row;
 ghost use mathlib.Core.Path.{_≡_};
 ghost use Prim.Native.Nat.{_+_, _*_, _-_, _^_, _<_, _≤_};
 ghost use lib.ListN.{length};
 ghost use Rattle.levels.specs.Table.{Shared};
-ghost use Rattle.receiver.specs.Feed.{Valid};
+ghost use Rattle.modes.specs.Modes.{Valid};
 ghost use Rattle.receiver.specs.Carry.{goneOn, Carried};
 
 // The core, and the place of the next digit in the piece.
@@ -48,7 +48,7 @@ pub fn carry_on(
     ensures { λ r. ⌜ Carried row (now (piece .entry)) end first c (now (f .entry)) (r .at) (r .core) (now (f .exit)) ⌝ }
 {
     let mode = c.mode;
-    if crate::is_hunting(mode) {
+    if modes::is_hunting(mode) {
         return Carry { core: c, at: first };
     }
     let last = row.digits - row.len;

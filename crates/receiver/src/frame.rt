@@ -1,5 +1,5 @@
 // The frame in hand: what a digit does to it, and when it is handed over.
-use crate::modes::Core;
+use modes::Core;
 use table::Row;
 ghost use mathlib.Core.Path.{_≡_};
 ghost use Prim.Native.Nat.{_+_, _*_, _-_, _^_, _<_, _≤_};
@@ -7,7 +7,7 @@ ghost use lib.ListN.{length};
 ghost use Rattle.digits.specs.Digits.{between};
 ghost use Rattle.strides.specs.Copies.{puts};
 ghost use Rattle.levels.specs.Table.{Shared};
-ghost use Rattle.receiver.specs.Feed.{Valid};
+ghost use Rattle.modes.specs.Modes.{Valid};
 ghost use Rattle.receiver.specs.Frame.{begun, put, keepOf, readyOf};
 
 // Cleared, with the L digits of the window first: they are the first digits of the first two bytes.
@@ -43,7 +43,7 @@ pub fn keep(row: Row, shift: usize, c: Core, d: u8, f: &mut [u8; 366])
     ensures { λ _. ⌜ now (f .exit) ≡ keepOf row c d (now (f .entry)) ⌝ }
 {
     let mode = c.mode;
-    if crate::is_hunting(mode) {
+    if modes::is_hunting(mode) {
         return;
     }
     if c.place == 0 {

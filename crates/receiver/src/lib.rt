@@ -4,41 +4,24 @@
 pub mod alarm;
 mod carry;
 mod frame;
-mod modes;
+mod hurry;
 pub mod numbers;
 
 use crate::alarm::Stretch;
-use crate::modes::Core;
+use modes::Core;
+use modes::Mode;
 use table::Level;
 use table::Row;
 ghost use mathlib.Core.Path.{_≡_};
 ghost use Prim.Native.Nat.{_+_, _*_, _-_, _<_, _≤_};
 ghost use lib.ListN.{length};
 ghost use Rattle.levels.specs.Table.{Shared};
-ghost use Rattle.receiver.specs.Modes.{hunting};
 ghost use Rattle.receiver.specs.Frame.{aligned};
 ghost use Rattle.receiver.specs.Alarm.{Counting};
 ghost use Rattle.digits.specs.Runs.{pieceOf};
-ghost use Rattle.receiver.specs.Feed.{Valid, coreOf, stateOf, invalid, refusalOf, refused};
+ghost use Rattle.receiver.specs.Feed.{coreOf, stateOf, invalid, refusalOf, refused};
+ghost use Rattle.modes.specs.Modes.{Valid};
 ghost use Rattle.receiver.specs.Feed.{accepted, runOf, feedRow, freshState, FreshMet, FeedMet};
-
-pub enum Mode {
-    Hunting,
-    OneFound,
-    TwoFound,
-    Aligned(u8),
-}
-
-pub fn is_hunting(mode: Mode) -> bool
-    ensures { λ r. ⌜ r ≡ hunting mode ⌝ }
-{
-    match mode {
-        Mode::Hunting => true,
-        Mode::OneFound => false,
-        Mode::TwoFound => false,
-        Mode::Aligned(_) => false,
-    }
-}
 
 pub fn is_aligned(mode: Mode) -> bool
     ensures { λ r. ⌜ r ≡ aligned mode ⌝ }
@@ -145,7 +128,7 @@ fn is_invalid(row: Row, c: Core) -> bool
     if row.digits <= c.place {
         return true;
     }
-    if is_hunting(mode) {
+    if modes::is_hunting(mode) {
         return c.place != 0;
     }
     c.seen < row.len
@@ -236,7 +219,7 @@ fn take_piece(row: Row, s: State, piece: &[u8], first: usize, count: usize) -> F
     let end = first + count;
     let mut p = first;
     while p < end {
-        let h = modes::hunt_on(row, mask, c, piece, p, end);
+        let h = hurry::hunt_on(row, mask, c, piece, p, end);
         words += h.words;
         let on = carry::carry_on(row, mask, h.core, piece, h.at, end, &mut f);
         p = on.at;

@@ -1,9 +1,9 @@
 // A receiver's state, and the answer of a piece, as numbers: so the C face hands them on, and so a rack keeps them. specs/Numbers.antt says which
 // number stands for what.
 use crate::Fed;
-use crate::Mode;
 use crate::State;
 use crate::alarm::Stretch;
+use modes::Mode;
 ghost use mathlib.Core.Path.{_≡_};
 ghost use Prim.Native.Nat.{_+_, _<_};
 ghost use Rattle.receiver.specs.Numbers.{modeNumber, modeOf, stateFrom, stateNumbers, fedBy, fedAnswer};

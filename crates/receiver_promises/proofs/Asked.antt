@@ -12,8 +12,8 @@ use lib.ListN.{length}
 use Rattle.digits.proofs.Tests.{cond-told}
 use Rattle.table.specs.declared.Row.{Row}
 use Rattle.receiver.specs.declared.State.{State}
-use Rattle.receiver.specs.declared.modes.Core.{Core}
-use Rattle.receiver.specs.Modes.{hunting, seenOf, asks, afterDigit, stepOf, testedAt}
+use Rattle.modes.specs.declared.Core.{Core}
+use Rattle.modes.specs.Modes.{hunting, seenOf, asks, afterDigit, stepOf, testedAt}
 use Rattle.receiver.specs.Feed.{coreOf, freshState, afterOf}
 use Rattle.receiver_promises.specs.History.{testedBy}
 

@@ -11,9 +11,9 @@ use lib.ListN.{length, take}
 use Rattle.digits.specs.Runs as runs
 use Rattle.table.specs.declared.Row.{Row}
 use Rattle.levels.specs.Table.{Shared}
-use Rattle.receiver.specs.declared.Mode.the-variants.{Hunting, Aligned}
+use Rattle.modes.specs.declared.Mode.the-variants.{Hunting, Aligned}
 use Rattle.receiver.specs.declared.State.{State}
-use Rattle.receiver.specs.Modes.{seenOf, asks}
+use Rattle.modes.specs.Modes.{seenOf, asks}
 use Rattle.receiver.specs.Frame.{aligned, readyOf}
 use Rattle.receiver.specs.Feed.{coreOf, afterOf}
 use Rattle.receiver_promises.specs.History.{heard, readyAfter, Missed}

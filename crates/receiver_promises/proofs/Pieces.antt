@@ -21,10 +21,11 @@ use Rattle.levels.specs.Table.{Shared}
 use Rattle.levels.proofs.Rows.{shared-row}
 use Rattle.receiver.specs.declared.State.{State}
 use Rattle.receiver.specs.declared.Fed.{Fed}
-use Rattle.receiver.specs.Modes.{testedAt}
+use Rattle.modes.specs.Modes.{testedAt}
 use Rattle.receiver.specs.Frame.{readyOf}
 use Rattle.digits.specs.Runs.{pieceOf}
-use Rattle.receiver.specs.Feed.{coreOf, freshState, freshOf, invalid, refusalOf, afterOf, accepted, refused, runOf, feedRow, feedOf, Valid, ValidState}
+use Rattle.receiver.specs.Feed.{coreOf, freshState, freshOf, invalid, refusalOf, afterOf, accepted, refused, runOf, feedRow, feedOf, ValidState}
+use Rattle.modes.specs.Modes.{Valid}
 use Rattle.receiver.specs.Alarm.{uncounted, counted, Counting}
 use Rattle.receiver_promises.specs.History.{heard, testedBy, readyAt, readyAfter, since, joined, Handed}
 use Rattle.digits.proofs.Lists.{binary-append, binary-take}

@@ -13,13 +13,14 @@ use Rattle.digits.specs.Runs as runs
 use Rattle.digits.specs.Digits.{Binary, written}
 use Rattle.table.specs.declared.Row.{Row}
 use Rattle.levels.specs.Table.{Shared}
-use Rattle.receiver.specs.declared.Mode.{Mode}
-use Rattle.receiver.specs.declared.Mode.the-variants.{Hunting, OneFound, TwoFound, Aligned}
-use Rattle.receiver.specs.declared.modes.Core.{Core}
+use Rattle.modes.specs.declared.Mode.{Mode}
+use Rattle.modes.specs.declared.Mode.the-variants.{Hunting, OneFound, TwoFound, Aligned}
+use Rattle.modes.specs.declared.Core.{Core}
 use Rattle.receiver.specs.declared.State.{State}
-use Rattle.receiver.specs.Modes.{hunting, windowOf, seenOf, asks, placeAfter, afterDigit, stepOf}
+use Rattle.modes.specs.Modes.{hunting, windowOf, seenOf, asks, placeAfter, afterDigit, stepOf}
 use Rattle.receiver.specs.Frame.{holding, begun, put, keepOf, aligned, readyOf}
-use Rattle.receiver.specs.Feed.{coreOf, freshState, afterOf, Valid}
+use Rattle.receiver.specs.Feed.{coreOf, freshState, afterOf}
+use Rattle.modes.specs.Modes.{Valid}
 use Rattle.digits.specs.Histories.{lastOf}
 use Rattle.receiver_promises.specs.History.{heard, since, Handed}
 use Rattle.digits.proofs.Written.{written-zero}

@@ -12,10 +12,10 @@ use Rattle.digits.specs.Runs as runs
 use Rattle.digits.specs.Digits.{Binary, written}
 use Rattle.table.specs.declared.Row.{Row}
 use Rattle.levels.specs.Table.{Shared}
-use Rattle.receiver.specs.declared.Mode.{Mode}
-use Rattle.receiver.specs.declared.Mode.the-variants.{Hunting, OneFound, TwoFound, Aligned}
+use Rattle.modes.specs.declared.Mode.{Mode}
+use Rattle.modes.specs.declared.Mode.the-variants.{Hunting, OneFound, TwoFound, Aligned}
 use Rattle.receiver.specs.declared.State.{State}
-use Rattle.receiver.specs.Modes.{hunting, seenOf, good, asks, judged, placeAfter}
+use Rattle.modes.specs.Modes.{hunting, seenOf, good, asks, judged, placeAfter}
 use Rattle.receiver.specs.Frame.{aligned, readyOf}
 use Rattle.receiver.specs.Feed.{coreOf, freshState, afterOf}
 use Rattle.digits.specs.Histories.{lastOf, ago}

@@ -11,7 +11,7 @@ use Rattle.digits.specs.Runs as runs
 use Rattle.table.specs.declared.Row.{Row}
 use Rattle.receiver.specs.declared.State.{State}
 use Rattle.receiver.specs.declared.Fed.{Fed}
-use Rattle.receiver.specs.Modes.{good, testedAt}
+use Rattle.modes.specs.Modes.{good, testedAt}
 use Rattle.receiver.specs.Frame.{holding, readyOf}
 use Rattle.receiver.specs.Feed.{coreOf, afterOf, freshState}
 

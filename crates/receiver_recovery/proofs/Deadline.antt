@@ -10,9 +10,9 @@ use lib.Dec.{eqb}
 use Rattle.digits.proofs.Tests.{cond-told}
 use Rattle.digits.proofs.Deadline.{next, Search, Hunts, Holds, Due, none-hunting, none-holding, hunts-on, finds, goes-up, confirms, misses, loses}
 use Rattle.table.specs.declared.Row.{Row}
-use Rattle.receiver.specs.declared.Mode.{Mode}
-use Rattle.receiver.specs.declared.Mode.the-variants.{Hunting, OneFound, TwoFound, Aligned}
-use Rattle.receiver.specs.Modes.{hunting, missed, judged}
+use Rattle.modes.specs.declared.Mode.{Mode}
+use Rattle.modes.specs.declared.Mode.the-variants.{Hunting, OneFound, TwoFound, Aligned}
+use Rattle.modes.specs.Modes.{hunting, missed, judged}
 
 module _ (row : Row) where
   -- words come n digits apart, and a hunt needs three of them

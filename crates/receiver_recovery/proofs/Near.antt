@@ -12,11 +12,12 @@ use Rattle.digits.specs.Digits.{written, tab}
 use Rattle.digits.specs.Runs as runs
 use Rattle.table.specs.declared.Row.{Row}
 use Rattle.table.specs.Table.{row2, row3, row4, row12, row14}
-use Rattle.receiver.specs.declared.Mode.the-variants.{TwoFound, Aligned}
+use Rattle.modes.specs.declared.Mode.the-variants.{TwoFound, Aligned}
 use Rattle.receiver.specs.declared.State.{State}
 use Rattle.receiver.specs.Alarm.{freshStretch}
-use Rattle.receiver.specs.Modes.{windowOf, seenOf, good, asks, placeAfter, afterDigit, stepOf}
-use Rattle.receiver.specs.Feed.{stateOf, afterOf, Valid, coreOf}
+use Rattle.modes.specs.Modes.{windowOf, seenOf, good, asks, placeAfter, afterDigit, stepOf}
+use Rattle.receiver.specs.Feed.{stateOf, afterOf, coreOf}
+use Rattle.modes.specs.Modes.{Valid}
 use Rattle.receiver_promises.specs.History.{heard}
 use Rattle.receiver_recovery.specs.Line.{zeroLine}
 

@@ -18,11 +18,12 @@ use Rattle.table.specs.declared.Level.the-variants.{Of}
 use Rattle.table.specs.Table.{levelOf}
 use Rattle.levels.specs.Table.{Shared}
 use Rattle.levels.proofs.Rows.{shared-row}
-use Rattle.receiver.specs.declared.Mode.{Mode}
-use Rattle.receiver.specs.declared.Mode.the-variants.{Hunting, OneFound, TwoFound, Aligned}
+use Rattle.modes.specs.declared.Mode.{Mode}
+use Rattle.modes.specs.declared.Mode.the-variants.{Hunting, OneFound, TwoFound, Aligned}
 use Rattle.receiver.specs.declared.State.{State}
-use Rattle.receiver.specs.Modes.{hunting, windowOf, seenOf, good, asks}
-use Rattle.receiver.specs.Feed.{coreOf, freshState, afterOf, Valid, ValidState}
+use Rattle.modes.specs.Modes.{hunting, windowOf, seenOf, good, asks}
+use Rattle.receiver.specs.Feed.{coreOf, freshState, afterOf, ValidState}
+use Rattle.modes.specs.Modes.{Valid}
 use Rattle.receiver.proofs.Holding.{word-within}
 use Rattle.receiver_promises.specs.History.{heard, since}
 use Rattle.receiver_promises.specs.Calls.{callOf}

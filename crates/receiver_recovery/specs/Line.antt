@@ -10,7 +10,7 @@ use Rattle.levels.specs.declared.places.Kind.{Kind}
 use Rattle.levels.specs.declared.places.Kind.the-variants.{Word, Service, Control, Justification, Tributary}
 use Rattle.levels.specs.declared.places.ServiceDigit.the-variants.{RemoteAlarm, FirstNational, SecondNational, ThirdNational, Fixed}
 use Rattle.levels.specs.Places.{kindAt}
-use Rattle.receiver.specs.declared.Mode.the-variants.{Aligned}
+use Rattle.modes.specs.declared.Mode.the-variants.{Aligned}
 use Rattle.receiver.specs.declared.State.{State}
 use Rattle.receiver_promises.specs.Line.{inFrame, Framed}
 

@@ -24,7 +24,7 @@ use Rattle.captures.specs.Captures.{fileOf, writeRefusal, writtenOf, endAt, fie
 use Rattle.compare.specs.Compare as compare
 use Rattle.receiver.specs.declared.State.{State}
 use Rattle.receiver.specs.declared.Fed.{Fed}
-use Rattle.receiver.specs.Modes.{testedAt}
+use Rattle.modes.specs.Modes.{testedAt}
 use Rattle.receiver.specs.Frame.{readyOf}
 use Rattle.receiver.specs.Alarm.{uncounted}
 use Rattle.digits.specs.Runs.{pieceOf}

@@ -12,7 +12,8 @@ use Rattle.table.specs.declared.Level.the-variants.{Of, NoSuchLevel}
 use Rattle.table.specs.Table.{levelOf}
 use Rattle.levels.specs.Sizes.{onLevel, badLine}
 use Rattle.levels.specs.Faults.{badEarlier}
-use Rattle.verdict.specs.Feed.{stateFrom, badPattern, isValid, freshFault, freshRefusal, freshNumbers, FreshMet, feedFault, feedRefusal, stateOn, answerOn, FeedMet}
+use Rattle.verdict.specs.Feed.{feedFault, feedRefusal, stateOn, answerOn, FeedMet}
+use Rattle.verdict_states.specs.States.{stateFrom, badPattern, isValid, freshFault, freshRefusal, freshNumbers, FreshMet}
 use Rattle.refusals.specs.First.{FirstThatApplies}
 use Rattle.refusals.specs.Worn.{freshTable, feedTable, FreshNothing, FeedNothing}
 use Rattle.refusals.proofs.First.{firstOf, is-first}

@@ -8,7 +8,7 @@ use lib.ListN.{getD, replicate}
 use Rattle.table.specs.declared.Row.{Row}
 use Rattle.levels.specs.Sizes.{badLine}
 use Rattle.levels.specs.Faults.{badEarlier}
-use Rattle.verdict.specs.Feed.{stateFrom, badPattern, isValid, noState}
+use Rattle.verdict_states.specs.States.{stateFrom, badPattern, isValid, noState}
 use Rattle.refusals.specs.First.{Given, given}
 use Rattle.refusals.specs.Tables.{noLevel, onRow}
 

@@ -7,8 +7,10 @@ use contract.Lifetimes.{Lfts}
 use denote.Ref.{now}
 use denote.Triple.Clauses.{AtExit}
 use borrow.Fn.World.{ArgsD, ResD}
-use Rattle.verdict.specs.Feed.{FreshMet, FeedMet}
-use Rattle.verdict.proofs.Answers.{fresh-no-second-answer, feed-no-second-answer}
+use Rattle.verdict.specs.Feed.{FeedMet}
+use Rattle.verdict_states.specs.States.{FreshMet}
+use Rattle.verdict.proofs.Answers.{feed-no-second-answer}
+use Rattle.verdict_states.proofs.Answers.{fresh-no-second-answer}
 use Rattle.spritbobbin.proofs.verdict_face.spritbobbin_verdict_fresh as fresh
 use Rattle.spritbobbin.proofs.verdict_face.spritbobbin_verdict_fresh.Reads as fresh-reads
 use Rattle.spritbobbin.proofs.verdict_face.spritbobbin_verdict_feed as feed

@@ -5,7 +5,7 @@ use Prim.Native.Nat.{ℕ}
 use contract.Lifetimes.{Lfts}
 use denote.Triple.Clauses.{AtExit}
 use borrow.Fn.World.{ArgsD, ResD}
-use Rattle.spritbobbin.specs.VersionFace.{VersionMet}
+use Rattle.version.specs.Version.{VersionMet}
 use Rattle.spritbobbin.proofs.version_face.spritbobbin_version as version
 use Rattle.spritbobbin.proofs.version_face.spritbobbin_version.Reads as version-reads
 

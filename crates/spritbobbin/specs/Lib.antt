@@ -8,4 +8,3 @@ pub mod JudgeFace
 pub mod NamingFace
 pub mod LateFace
 pub mod BeginsFace
-pub mod VersionFace

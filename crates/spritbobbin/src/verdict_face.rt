@@ -1,6 +1,7 @@
 // The C face of the verdict on a worn line: a fresh state, and the next frames of a recording fed to a state. The contracts are those of the two calls
 // themselves (crates/verdict/specs/Feed.antt): they pass numbers and arrays already.
-ghost use Rattle.verdict.specs.Feed.{FreshMet, FeedMet};
+ghost use Rattle.verdict.specs.Feed.{FeedMet};
+ghost use Rattle.verdict_states.specs.States.{FreshMet};
 
 // Makes a fresh state for a level, with the vote before the first frame and the pattern sent, or 0. Returns the refusal number.
 #[no_mangle]
@@ -12,7 +13,7 @@ pub extern "C" fn spritbobbin_verdict_fresh(
 ) -> u64
     ensures { λ r. ⌜ FreshMet level earlier pattern r (now (state .exit)) ⌝ }
 {
-    verdict::fresh::fresh(level, earlier, pattern, state)
+    verdict_states::fresh::fresh(level, earlier, pattern, state)
 }
 
 // Feeds the next frames, with the vote of the frame after them or 16 and the digits sent from number `first` on; answer: 22 numbers for each tributary. Returns the

@@ -1,10 +1,6 @@
-pub mod Good
-pub mod Cutting
-pub mod Made
 pub mod Telling
 pub mod Numbers
 pub mod Answers
 pub mod Betters
-pub mod Heading
 pub mod Fed
 pub mod Unrefused

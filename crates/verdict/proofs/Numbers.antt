@@ -10,7 +10,8 @@ use Rattle.digits.specs.Digits.{tab}
 use Rattle.digits.proofs.Laws.{tab-of}
 use Rattle.verdict_blocks.specs.Blocks.{Block}
 use Rattle.verdict_blocks.specs.Keeping.{blockNumbers, blockFrom, blockAt}
-use Rattle.verdict.specs.Feed.{State, blocksNumbers, numbersOf, stateFrom, tributaryTold, answerOf}
+use Rattle.verdict.specs.Feed.{tributaryTold, answerOf}
+use Rattle.verdict_states.specs.States.{State, blocksNumbers, numbersOf, stateFrom}
 use Rattle.verdict_blocks.proofs.Kept.{take-all, numbers-length}
 use Rattle.verdict_blocks.proofs.Several.{partOf}
 use Rattle.verdict_blocks.proofs.Parts.{numbers-back, block-back, next-part}

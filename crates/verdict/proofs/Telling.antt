@@ -14,9 +14,10 @@ use Rattle.slips.specs.Slips.{leastOf, bestOf}
 use Rattle.slips.proofs.Relaid.{best-least}
 use Rattle.verdict_blocks.specs.Blocks.{Block, betterOf}
 use Rattle.verdict_blocks.specs.Keeping.{blockFrom, blockAt}
-use Rattle.verdict.specs.Feed.{stateFrom, signedShift, toldOf, tributaryTold, answerOf}
+use Rattle.verdict.specs.Feed.{signedShift, toldOf, tributaryTold, answerOf}
+use Rattle.verdict_states.specs.States.{stateFrom}
 use Rattle.verdict_blocks.proofs.Kept.{take-all}
-use Rattle.verdict.proofs.Cutting.{part-more, part-length, first-set}
+use Rattle.verdict_states.proofs.Cutting.{part-more, part-length, first-set}
 
 -- in the code's terms
 pub told-best : (l : List ℕ) → getD l 2 0 ≡ 1 → (v : List ℕ) → v ≡ take 17 (drop 8 l) → (c : ℕ) → c ≡ bestOf v → c ≤ 16 → (wrong : ℕ)

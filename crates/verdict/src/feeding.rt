@@ -1,11 +1,11 @@
 // The next frames of a recording fed to a state (specs/Feed.antt): the ways of reading one after the other, then what stands before the blocks; and the answer.
 use crate::answer;
 use crate::behind;
-use crate::head;
 use crate::refusals;
 use table::Level;
 use table::Row;
 use verdict_blocks::votes;
+use verdict_states::head;
 ghost use mathlib.Core.Path.{_≡_};
 ghost use Prim.Native.Nat.{ℕ, _+_, _/_, _%_, _<_, _≤_, min};
 ghost use lib.ListN.{length, getD, replicate};
@@ -16,7 +16,8 @@ ghost use Rattle.judge.specs.Counting.{Voted};
 ghost use Rattle.verdict_blocks.specs.Keeping.{blockAt};
 ghost use Rattle.levels.specs.Table.{Shared};
 ghost use Rattle.verdict_blocks.specs.Blocks.{zeroAt};
-ghost use Rattle.verdict.specs.Feed.{stateFrom, numbersOf, fedBlock, fedState, lentTo, feedFault, stateOn, answerOn, FeedMet};
+ghost use Rattle.verdict.specs.Feed.{fedBlock, fedState, lentTo, feedFault, stateOn, answerOn, FeedMet};
+ghost use Rattle.verdict_states.specs.States.{stateFrom, numbersOf};
 ghost use Rattle.verdict_blocks.specs.Going.{Ready, Running};
 ghost use Rattle.verdict.specs.Going.{FedTo, Feedable};
 

@@ -1,14 +1,15 @@
 // Why a feed is refused (specs/Feed.antt): 6, 2, 4 and 5, in this order.
-use crate::validity;
 use levels::sizes;
 use table::Row;
+use verdict_states::validity;
 ghost use mathlib.Core.Path.{_≡_};
 ghost use mathlib.Core.Bool.{_&&_, not};
 ghost use Prim.Native.Nat.{_%_};
 ghost use lib.Dec.{eqb};
 ghost use lib.ListN.{length};
 ghost use Rattle.levels.specs.Table.{Shared};
-ghost use Rattle.verdict.specs.Feed.{stateFrom, feedFault};
+ghost use Rattle.verdict.specs.Feed.{feedFault};
+ghost use Rattle.verdict_states.specs.States.{stateFrom};
 
 // Whether what was sent is not four equal quarters: asked with pattern 0 only.
 fn bad_sent(pattern: u64, sent: usize) -> bool

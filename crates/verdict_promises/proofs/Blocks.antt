@@ -8,7 +8,8 @@ use Rattle.table.specs.declared.Row.{Row}
 use Rattle.levels.specs.Order.{hasNegative}
 use Rattle.verdict_blocks.specs.Blocks.{Block, freshBlock}
 use Rattle.verdict_blocks.specs.Readings.{majorities, ranBy, ranAfter, ownVotes, beforeVotes}
-use Rattle.verdict.specs.Feed.{State, freshState, fedBlock, fedState}
+use Rattle.verdict.specs.Feed.{fedBlock, fedState}
+use Rattle.verdict_states.specs.States.{State, freshState}
 use Rattle.verdict_promises.specs.Steady.{recorded}
 
 module _ (row : Row) (level earlier pattern : ℕ) (line : List ℕ) (next : ℕ) (lent : ℕ → ℕ → ℕ) (j : ℕ) (hj : j < 4) where

@@ -31,7 +31,8 @@ use Rattle.slips.specs.Slips.{lentFrom, wrongOf}
 use Rattle.verdict_blocks.specs.Blocks.{Block, zeroAt, freshBlock, startOf, isBetter, betterOf}
 use Rattle.levels.specs.Order.{hasNegative}
 use Rattle.verdict_blocks.specs.Readings.{majorities, readBy, countsBy, ranBy, ranAfter, ownVotes, beforeVotes, afterVotes}
-use Rattle.verdict.specs.Feed.{State, lentTo}
+use Rattle.verdict.specs.Feed.{lentTo}
+use Rattle.verdict_states.specs.States.{State}
 use Rattle.verdict_promises.specs.Worn.{costTold}
 use Rattle.verdict_promises.specs.Fits.{byIndex, asRecording}
 use Rattle.verdict_promises.specs.Paths.{fromFresh}

@@ -24,7 +24,7 @@ use Rattle.promises.proofs.Order.{places-same}
 use Rattle.slips.specs.Slips.{leastOf}
 use Rattle.verdict_blocks.specs.Blocks.{Block, freshBlock, isBetter, betterOf}
 use Rattle.verdict_blocks.specs.Readings.{majorities, readBy, carriedIn, countsBy, ranBy, ranAfter, ownVotes, beforeVotes, afterVotes}
-use Rattle.verdict.specs.Feed.{State, freshState}
+use Rattle.verdict_states.specs.States.{State, freshState}
 use Rattle.verdict_promises.specs.Steady.{Steady, recorded, byBefore, byAfter, NoDearer}
 use Rattle.verdict_promises.proofs.Frames.{frames-alike}
 use Rattle.verdict_promises.proofs.Blocks.{own-block, none-block, all-block, after-block}

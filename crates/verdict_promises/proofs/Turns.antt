@@ -22,7 +22,8 @@ use Rattle.levels.specs.Order.{stuffed}
 use Rattle.reading.specs.Notes.{noteOf}
 use Rattle.verdict_blocks.specs.Blocks.{Block}
 use Rattle.verdict_blocks.specs.Readings.{majorities, ownVotes, beforeVotes, afterVotes, ranBy, ranAfter}
-use Rattle.verdict.specs.Feed.{State, decided, changesIn, voteAgo, fedBlock, fedState}
+use Rattle.verdict.specs.Feed.{fedBlock, fedState}
+use Rattle.verdict_states.specs.States.{State, decided, changesIn, voteAgo}
 use Rattle.verdict_promises.specs.Turns.{Same, fedInTurn, joined, Whole, AllWhole, no-more, one-more}
 use Rattle.verdict_promises.proofs.Cuts.{bitAt, frames-of, line-long, majorities-cat, ran-cat}
 

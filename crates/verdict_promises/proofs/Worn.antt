@@ -39,7 +39,7 @@ use Rattle.slips.specs.Slips.{wrongPrice, stepPrice, wrongOf, leastOf}
 use Rattle.verdict_blocks.specs.Blocks.{Block, zeroAt, freshBlock, isBetter, betterOf, digitsTo, startOf}
 use Rattle.verdict_blocks.specs.Readings.{majorities, readBy, countsBy, ranBy, ranAfter, ownVotes, beforeVotes, afterVotes}
 use Rattle.verdict_promises.specs.Paths.{wrongsOn, slipsOn, Path, fromFresh, lowIn}
-use Rattle.verdict.specs.Feed.{State}
+use Rattle.verdict_states.specs.States.{State}
 use Rattle.verdict_promises.specs.Steady.{recorded, byBefore, byAfter}
 use Rattle.verdict_promises.specs.Worn.{changedIn, Worn, Along, costTold, readCount, Explains, Few, tried}
 use Rattle.verdict_promises.proofs.Frames.{taken-more}

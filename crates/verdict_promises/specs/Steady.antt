@@ -10,7 +10,8 @@ use Rattle.levels.specs.Order.{stuffed, decisions, hasNegative}
 use Rattle.slips.specs.Slips.{leastOf}
 use Rattle.verdict_blocks.specs.Blocks.{Block, betterOf}
 use Rattle.verdict_blocks.specs.Readings.{majorities}
-use Rattle.verdict.specs.Feed.{State, freshState, fedState}
+use Rattle.verdict.specs.Feed.{fedState}
+use Rattle.verdict_states.specs.States.{State, freshState}
 
 -- tributary j's decision is `is` in every frame of a recording, and in the earlier vote where a level looks at it
 pub record Steady (row : Row) (earlier : ℕ) (line : List ℕ) (j : ℕ) (is : Bool) : Type 0 where

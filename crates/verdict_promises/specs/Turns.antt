@@ -5,7 +5,8 @@ use Prim.Native.Nat.{ℕ, _*_, _%_, _<_}
 use lib.ListN.{length, getD}
 use Rattle.table.specs.declared.Row.{Row}
 use Rattle.verdict_blocks.specs.Readings.{majorities}
-use Rattle.verdict.specs.Feed.{State, fedState}
+use Rattle.verdict.specs.Feed.{fedState}
+use Rattle.verdict_states.specs.States.{State}
 
 -- two states that are one: in everything that a feed looks at, that an answer tells and that a state's numbers hold, for the four tributaries and the sixteen blocks
 pub record Same (s t : State) : Type 0 where

@@ -2,7 +2,7 @@
 use mathlib.Core.List.{[], _∷_}
 use native.Mathlib.Omega.{arith}
 use lib.Seq.{length-sets}
-use Rattle.verdict.proofs.Cutting.{seven-set}
+use Rattle.verdict_states.proofs.Cutting.{seven-set}
 use borrow.Author.Needs.{needs}
 use Rattle.verdict.proofs.answer.put_told.Statement.{statement}
 use Rattle.verdict.proofs.answer.put_told.Tie as tie

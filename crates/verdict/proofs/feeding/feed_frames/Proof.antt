@@ -7,7 +7,7 @@ use borrow.Author.Needs.{needs}
 use Rattle.levels.specs.Sizes.{framesOf}
 use Rattle.judge.proofs.Quartered.{lent-length}
 use Rattle.verdict.specs.Feed.{lentTo}
-use Rattle.verdict.proofs.Good.{valid-pattern}
+use Rattle.verdict_states.proofs.Good.{valid-pattern}
 use Rattle.verdict.proofs.Unrefused.{last-low, last-all-low, changes-few, valid-ready, fed-same, fed-numbers, running}
 use Rattle.verdict.proofs.feeding.feed_frames.Statement.{statement}
 use Rattle.verdict.proofs.feeding.feed_frames.Tie as tie

@@ -6,7 +6,8 @@ use lib.Dec.{eqb}
 use lib.ListN.{getD}
 use borrow.Author.Tests.{lt-ltb, le-ltb, not-true, not-false}
 use Rattle.levels.specs.Sizes.{badLine}
-use Rattle.verdict.specs.Feed.{stateFrom, isValid, feedFault}
+use Rattle.verdict.specs.Feed.{feedFault}
+use Rattle.verdict_states.specs.States.{stateFrom, isValid}
 use borrow.Author.Needs.{needs}
 use Rattle.verdict.proofs.refusals.feed_fault.Statement.{statement}
 use Rattle.verdict.proofs.refusals.feed_fault.Tie as tie

@@ -1,0 +1,5 @@
+pub mod Good
+pub mod Cutting
+pub mod Made
+pub mod Heading
+pub mod Answers
