@@ -1,2 +1,2 @@
-// Theorems over the calls, and no code: the worked cases in one table, the round trip, and demand 3. They stand in proofs/, the
+// Theorems over the calls, and no code: the round trip, and demand 3. They stand in proofs/, the
 // definitions that their statements cite in specs/.
