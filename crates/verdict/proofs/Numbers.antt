@@ -11,7 +11,7 @@ use Rattle.digits.proofs.Laws.{tab-of}
 use Rattle.verdict_blocks.specs.Blocks.{Block}
 use Rattle.verdict_blocks.specs.Keeping.{blockNumbers, blockFrom, blockAt}
 use Rattle.verdict.specs.Feed.{tributaryTold, answerOf}
-use Rattle.verdict_states.specs.States.{State, blocksNumbers, numbersOf, stateFrom}
+use Rattle.verdict_states.specs.States.{headOf, State, blocksNumbers, numbersOf, stateFrom}
 use Rattle.verdict_blocks.proofs.Kept.{take-all, numbers-length}
 use Rattle.verdict_blocks.proofs.Several.{partOf}
 use Rattle.verdict_blocks.proofs.Parts.{numbers-back, block-back, next-part}
@@ -123,21 +123,6 @@ module _ (s : State) (whole : (b : ℕ) → b < 16 → Whole (s .blocks b)) wher
       (ap₂ (λ (x y : List ℕ). x ++ y) (tributary-again 2 (omega arith) (changes-again .2)) (tributary-again 3 (omega arith) (changes-again .3))))
 
 -- ---- and a state is told by its first numbers and its blocks'
-
-abbrev pub headOf : State → List ℕ
-headOf s =
-    s .level
-    ∷ s .pattern
-    ∷ s .came
-    ∷ s .older
-    ∷ s .last
-    ∷ s .olderAll
-    ∷ s .lastAll
-    ∷ s .changes 0
-    ∷ s .changes 1
-    ∷ s .changes 2
-    ∷ s .changes 3
-    ∷ []
 
 module _ (ns : List ℕ) (s : State) (size : length ns ≡ 683) (head : take 11 ns ≡ headOf s) (parts : (b : ℕ) → b < 16 → partOf ns b ≡ blockNumbers (s .blocks b)) where
   numbers-to : (n : ℕ) → n ≤ 16 → take (11 + 42 * n) ns ≡ headOf s ++ blocksNumbers n (s .blocks)

@@ -51,9 +51,10 @@ unfoldable pub blocksNumbers : ℕ → (ℕ → Block) → List ℕ
 blocksNumbers zero g = []
 blocksNumbers (suc n) g = blocksNumbers n g ++ blockNumbers (g n)
 
-unfoldable pub numbersOf : State → List ℕ
-numbersOf s =
-    (s .level
+-- the eleven that stand before the blocks
+abbrev pub headOf : State → List ℕ
+headOf s =
+    s .level
     ∷ s .pattern
     ∷ s .came
     ∷ s .older
@@ -64,8 +65,10 @@ numbersOf s =
     ∷ s .changes 1
     ∷ s .changes 2
     ∷ s .changes 3
-    ∷ [])
-    ++ blocksNumbers 16 (s .blocks)
+    ∷ []
+
+unfoldable pub numbersOf : State → List ℕ
+numbersOf s = headOf s ++ blocksNumbers 16 (s .blocks)
 
 abbrev pub stateSize : ℕ
 stateSize = 683

@@ -20,7 +20,7 @@ use Rattle.promises.specs.Calls.{SendAccepted, sentLine, outcome, LentAt, Damag
 use Rattle.promises.specs.Border.{spoilt, early}
 use Rattle.promises.proofs.Calls.{send-returned}
 use Rattle.promises.proofs.Border.{all-allowed}
-use Rattle.worked.specs.Example.{exampleSend, exampleLine, exampleDamaged, exampleRead, Example}
+use Rattle.worked.specs.Example.{exampleSend, exampleLine, exampleDamaged, exampleRead, exampleOutcome, Example}
 
 example-leaves : sentLine 2 0 exampleSend ≡ exampleLine
 unfolding levelOf sendFaultOf faultOf framesRefusal sizeRefusal firstWith bytesOf tab lineDigit before carries actionOf posOf kindOf firstSet middleSet lastSet digitsOf exampleLine
@@ -42,16 +42,7 @@ example-damaged : DamageAt 2 0 (exampleSend .notes) (sentLine 2 0 exampleSend) e
 unfolding levelOf
 example-damaged = rw (example-leaves, ← example-spoilt) (all-allowed row2 shared2 0 (0x21 ∷ []) 1 (digitsOf exampleLine) (digits-binary exampleLine))
 
-example-read : outcome 2 0 exampleRead
-    ≡ record {
-      refusal = 0;
-      frame = 0;
-      counts = 205 ∷ 206 ∷ 206 ∷ 206 ∷ [];
-      alignment = 10;
-      dissent = 1 ∷ 1 ∷ 1 ∷ 1 ∷ [];
-      notes = 0x11 ∷ [];
-      buffer = exampleSend .buffer;
-    }
+example-read : outcome 2 0 exampleRead ≡ exampleOutcome
 unfolding levelOf framesRefusal sizeRefusal firstWith faultOf noteOf voteAt serviceAt voteBy votesFor groupOf countOf sumTo quartersFrom
     quarterFrom takenTo placesOf carries actionOf posOf kindOf firstSet middleSet lastSet tab bytesOf digitsOf exampleDamaged
 example-read = refl

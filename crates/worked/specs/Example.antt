@@ -4,6 +4,7 @@ use mathlib.Core.List.{List, [], _∷_, _++_}
 use Prim.Native.Nat.{ℕ}
 use lib.ListN.{replicate}
 use Rattle.digits.specs.Digits.{digitsOf, differing}
+use Rattle.promises.specs.Together.{Outcome}
 use Rattle.promises.specs.Calls.{Lent, SendAccepted, sentLine, outcome, DamageAt, SendReturned}
 
 -- one frame at 8448 kbit/s, stuffed for tributary 1, whose digit 154 is 1, all others 0: the line that is left, and that line damaged in every
@@ -22,6 +23,19 @@ exampleDamaged = 0x0B ∷ 0xE0 ∷ (replicate 24 0 ++ (0x07 ∷ (replicate 26 0 
 abbrev pub exampleRead : Lent
 exampleRead = record { line = exampleDamaged; notes = 0xFF ∷ []; buffer = replicate 104 0xFF }
 
+-- what reading it answers and leaves
+abbrev pub exampleOutcome : Outcome
+exampleOutcome =
+    record {
+      refusal = 0;
+      frame = 0;
+      counts = 205 ∷ 206 ∷ 206 ∷ 206 ∷ [];
+      alignment = 10;
+      dissent = 1 ∷ 1 ∷ 1 ∷ 1 ∷ [];
+      notes = 0x11 ∷ [];
+      buffer = exampleSend .buffer;
+    }
+
 -- ten digits of the word, two service digits, four control digits and a stuffing digit differ: all the send's decision leaves free. The
 -- reading counts the ten, and a dissenting digit of each tributary; its note has the send's decision, and the service digits as they came; its buffer is the send's
 pub record Example : Type 0 where
@@ -30,13 +44,4 @@ pub record Example : Type 0 where
   pub damaged : DamageAt 2 0 (exampleSend .notes) (sentLine 2 0 exampleSend) exampleDamaged
   pub seventeen : differing (digitsOf exampleLine) (digitsOf exampleDamaged) ≡ 17
   pub returned : SendReturned 2 0 exampleSend exampleRead
-  pub answers : outcome 2 0 exampleRead
-      ≡ record {
-        refusal = 0;
-        frame = 0;
-        counts = 205 ∷ 206 ∷ 206 ∷ 206 ∷ [];
-        alignment = 10;
-        dissent = 1 ∷ 1 ∷ 1 ∷ 1 ∷ [];
-        notes = 0x11 ∷ [];
-        buffer = exampleSend .buffer;
-      }
+  pub answers : outcome 2 0 exampleRead ≡ exampleOutcome
