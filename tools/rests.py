@@ -129,6 +129,10 @@ class Rests:
                 todo += self.above.get(part, ())
         return out
 
+    def on_itself(self, part):
+        """Whether a part rests on another that rests on it, as a function whose proof cites a law about this very function."""
+        return any(part in self.resting_on({other}) for other in self.above[part])
+
     def changed_by(self, texts):
         """The parts that an edit changes, by the files as it leaves them; nothing where it leaves a file of other parts, or changes the code outside functions."""
         out = set()
