@@ -7,9 +7,9 @@ use contract.Lifetimes.{Lfts}
 use denote.Ref.{now}
 use denote.Triple.Clauses.{AtExit}
 use borrow.Fn.World.{ArgsD, ResD}
-use Rattle.plain.specs.declared.Answered.{Answered}
-use Rattle.plain.specs.declared.NotesRead.{NotesRead}
-use Rattle.plain.specs.Engine.{MultiplexMet, ReadNotesMet, ExtractMet}
+use Rattle.engine.specs.declared.Answered.{Answered}
+use Rattle.engine.specs.declared.NotesRead.{NotesRead}
+use Rattle.engine.specs.Engine.{MultiplexMet, ReadNotesMet, ExtractMet}
 use Rattle.plain.proofs.multiplex as multiplex
 use Rattle.plain.proofs.multiplex.Reads as multiplex-reads
 use Rattle.plain.proofs.read_notes as read-notes

@@ -15,9 +15,9 @@ use Rattle.levels.specs.Faults.{badEarlier, sendFaultOf, sendAnswered, answered
 use Rattle.multiplex.specs.Multiplex as multiplex
 use Rattle.reading.specs.Reading.{noted, notesAfter}
 use Rattle.extraction.specs.Extract.{bufferAfter}
-use Rattle.plain.specs.declared.Answered.{Answered}
-use Rattle.plain.specs.declared.NotesRead.{NotesRead}
-use Rattle.plain.specs.Engine as plain
+use Rattle.engine.specs.declared.Answered.{Answered}
+use Rattle.engine.specs.declared.NotesRead.{NotesRead}
+use Rattle.engine.specs.Engine as plain
 use Rattle.plain_promises.proofs.Engines.{same-multiplexing, same-reading, same-extraction}
 use Rattle.judge.specs.Verdict as judge
 use Rattle.judge.specs.Verdict.{badPattern, judged}

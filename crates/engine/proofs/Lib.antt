@@ -1,0 +1,7 @@
+pub mod Bits
+pub mod Packing
+pub mod Rows
+pub mod Counting
+pub mod Search
+pub mod Quarters
+pub mod Judged
