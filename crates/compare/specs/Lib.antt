@@ -1,6 +1,4 @@
 pub mod Compare
-pub mod Counting
 pub mod Lines
-pub mod Promises
+pub mod Summing
 pub mod Stretches
-pub mod AllListed

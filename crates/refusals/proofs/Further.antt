@@ -21,7 +21,7 @@ use Rattle.engine.specs.Engine as plain
 use Rattle.plain_promises.proofs.Engines.{same-multiplexing, same-reading, same-extraction}
 use Rattle.judge.specs.Verdict as judge
 use Rattle.judge.specs.Verdict.{badPattern, judged}
-use Rattle.compare.specs.Compare.{countedOn}
+use Rattle.differing.specs.Differing.{countedOn}
 use Rattle.compare.specs.Lines.{linesRefusal, linesOf, stretchOn, stretchOf}
 use Rattle.copying.specs.Copying.{hasDigits, copies, CopyMet}
 use Rattle.naming.specs.Frames as frames

@@ -28,8 +28,9 @@ use Rattle.repair.specs.Repair as repair
 use Rattle.captures.specs.declared.Written.{Written}
 use Rattle.captures.specs.declared.Reading.{Reading}
 use Rattle.captures.specs.Captures.{writeRefusal, writtenOf, leftOf, WriteMet, endAt, fieldAt, unread, afterLine, fieldsOf, readOf, ReadMet}
+use Rattle.differing.specs.declared.Compared.{Compared}
+use Rattle.differing.specs.Differing.{countedOn}
 use Rattle.compare.specs.declared.Fault as compared
-use Rattle.compare.specs.declared.Compared.{Compared}
 use Rattle.compare.specs.Compare as comparing
 use Rattle.compare.specs.Lines as two-lines
 use Rattle.copying.specs.Copying.{copies, CopyMet}
@@ -222,7 +223,7 @@ fault-byte one other =
 
 pub compare-nothing : (one other lent : List ℕ) (answer : Compared) (left : List ℕ) → comparing.CompareMet one other lent answer left
     → (answer .refusal ≡ 0 → ⊥) → ComparedNothing answer lent left
-unfolding comparing.comparedOf comparing.listedOf comparing.countedOn
+unfolding comparing.comparedOf comparing.listedOf countedOn
 compare-nothing one other lent answer left met h =
     rw (met .0, met .1) (go (eqb (f .refusal) 0) refl (levelOf (readOf one .level)) refl (λ e. h (ap (λ (a : Compared). a .refusal) (met .0) ∙ e)))
   where
@@ -237,7 +238,7 @@ compare-nothing one other lent answer left met h =
 
 pub lines-nothing : (level : ℕ) (one other lent : List ℕ) (answer : Compared) (left : List ℕ) → two-lines.LinesMet level one other lent answer left
     → (answer .refusal ≡ 0 → ⊥) → ComparedNothing answer lent left
-unfolding two-lines.linesOf two-lines.linesListed comparing.countedOn
+unfolding two-lines.linesOf two-lines.linesListed countedOn
 lines-nothing level one other lent answer left met h = rw (met .0, met .1) (go (levelOf level) refl (λ e. h (ap (λ (a : Compared). a .refusal) (met .0) ∙ e)))
   where
     go : (l : Level) → levelOf level ≡ l → (two-lines.linesOf level one other .refusal ≡ 0 → ⊥)

@@ -21,6 +21,7 @@ use Rattle.repair.specs.Repair as repair
 use Rattle.repair.specs.Repair.{repaired}
 use Rattle.captures.specs.declared.Reading.{Reading}
 use Rattle.captures.specs.Captures.{fileOf, writeRefusal, writtenOf, endAt, fieldAt, afterLine, fieldsOf, readOf}
+use Rattle.differing.specs.Differing.{countedOn}
 use Rattle.compare.specs.Compare as compare
 use Rattle.receiver.specs.declared.State.{State}
 use Rattle.receiver.specs.declared.Fed.{Fed}
@@ -226,13 +227,13 @@ has-level file ok none = go (eqb (fieldsOf file .refusal) 0) refl (levelOf (fiel
         by-line false z = some (sym y ∙ (rw (x, y, z) at none))
 
 pub compare-order : (one other : List ℕ) → FirstThatApplies (compareTable one other) (compare.comparedOf one other .refusal)
-unfolding compare.faultOf compare.comparedOf compare.countedOn
+unfolding compare.faultOf compare.comparedOf countedOn
 compare-order one other =
     is-first (compareTable one other) (compare.comparedOf one other .refusal)
     (by (eqb (readOf one .refusal) 0) (eqb (readOf other .refusal) 0) (eqb (readOf one .level) (readOf other .level)) (eqb (readOf one .line .bytes) (readOf other .line .bytes)) refl refl refl refl)
   where
     accepted : (l : Level) → levelOf (readOf one .level) ≡ l → readOf one .refusal ≡ 0
-        → 0 ≡ onLevel l (λ (row : Row). compare.countedOn row (compare.lineOf one) (compare.lineOf other)) (compare.refusedBy (compare.faultIn 1 0 0)) .refusal
+        → 0 ≡ onLevel l (λ (row : Row). countedOn row (compare.lineOf one) (compare.lineOf other)) (compare.refusedBy (compare.faultIn 1 0 0)) .refusal
     accepted (Of row) e ok = refl
     accepted NoSuchLevel e ok = absurd (has-level one ok e)
 

@@ -10,7 +10,7 @@ use Rattle.levels.specs.declared.faults.Counted.{Counted}
 use Rattle.reading.specs.declared.Noted.{Noted}
 use Rattle.swap.specs.declared.Swapped.{Swapped}
 use Rattle.repair.specs.declared.Repaired.{Repaired}
-use Rattle.compare.specs.declared.Compared.{Compared}
+use Rattle.differing.specs.declared.Compared.{Compared}
 use Rattle.captures.specs.declared.Written.{Written}
 use Rattle.captures.specs.declared.Reading.{Reading}
 use Rattle.captures.specs.Captures.{nowhere}
