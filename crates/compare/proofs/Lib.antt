@@ -3,4 +3,3 @@ pub mod TwoLines
 pub mod Answers
 pub mod LineAnswers
 pub mod Growing
-pub mod StretchAnswers

@@ -1,4 +1,3 @@
 pub mod Compare
 pub mod Lines
 pub mod Summing
-pub mod Stretches

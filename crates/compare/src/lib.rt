@@ -1,7 +1,6 @@
 // Where two recordings differ (request 6): two captures are read, held against each other and compared. specs/Compare.antt says what the comparison
 // answers and what it lists. lines.rt compares two lines that stand in no file. What differs crate `differing` counts and lists.
 pub mod lines;
-pub mod stretches;
 
 use captures::Part;
 use captures::Reading;

@@ -5,3 +5,4 @@ pub mod Counting
 pub mod Search
 pub mod Quarters
 pub mod Judged
+pub mod Answers
