@@ -44,10 +44,11 @@ use Rattle.receiver.specs.declared.Fed.{Fed}
 use Rattle.receiver.specs.Feed.{freshState}
 use Rattle.receiver.specs.Turns.{Nothing}
 use Rattle.receiver.proofs.Turns.{refused-nothing}
-use Rattle.rack.specs.declared.record.Record.{Record}
+use Rattle.records.specs.declared.record.Record.{Record}
 use Rattle.receiver.specs.Numbers.{fedBy}
-use Rattle.rack.specs.Record.{stateFrom, recordOf, fedRecord}
+use Rattle.records.specs.Record.{stateFrom, recordOf, fedRecord}
 use Rattle.rack.specs.Rack as rack
+use Rattle.records.specs.Rule.{listRefusal}
 use Rattle.refusals.specs.Nothing.{CountedNothing, NotedNothing, SwappedNothing, RepairedNothing, ComparedNothing, WrittenNothing, ReadNothing, BuiltNothing, FoundNothing, RackNothing}
 
 -- ---- lines
@@ -315,7 +316,7 @@ fed-nothing r piece first count =
 
 pub rack-nothing : (records : List Record) (line : ℕ) (piece : List ℕ) (first count returned : ℕ) (left : List Record) (answer : List ℕ)
     → rack.FeedMet records line piece first count returned left answer → (returned ≡ 0 → ⊥) → RackNothing records left answer
-rack-nothing records line piece first count returned left answer met h = by (eqb (rack.listRefusal (length records) line) 0) refl
+rack-nothing records line piece first count returned left answer met h = by (eqb (listRefusal (length records) line) 0) refl
   where
     r : Record
     r = rack.at records line
@@ -323,7 +324,7 @@ rack-nothing records line piece first count returned left answer met h = by (eqb
     f : Fed
     f = fedRecord r piece first count
 
-    alone : (f .refusal ≡ 0 → ⊥) → eqb (rack.listRefusal (length records) line) 0 ≡ true → RackNothing records left answer
+    alone : (f .refusal ≡ 0 → ⊥) → eqb (listRefusal (length records) line) 0 ≡ true → RackNothing records left answer
     alone refused t =
         let s = fed-nothing r piece first count refused in
         record {
@@ -331,6 +332,6 @@ rack-nothing records line piece first count returned left answer met h = by (eqb
           kept = met .1 ∙ rw (t, ne-eqb (f .refusal) 0 refused) (set-getD records line (recordOf (freshState 0)));
         }
 
-    by : (t : Bool) → eqb (rack.listRefusal (length records) line) 0 ≡ t → RackNothing records left answer
+    by : (t : Bool) → eqb (listRefusal (length records) line) 0 ≡ t → RackNothing records left answer
     by false t = record { none = met .2 ∙ rw t; kept = met .1 ∙ rw t }
     by true t = alone (λ e. h (met .0 ∙ rw t e)) t

@@ -30,11 +30,13 @@ use Rattle.receiver.specs.Frame.{readyOf}
 use Rattle.receiver.specs.Alarm.{uncounted}
 use Rattle.digits.specs.Runs.{pieceOf}
 use Rattle.receiver.specs.Feed.{coreOf, freshOf, invalid, refusalOf, afterOf, runOf, feedRow, feedOf}
-use Rattle.rack.specs.declared.record.Record.{Record}
-use Rattle.rack.specs.declared.record.Kept.{Kept}
+use Rattle.records.specs.declared.record.Record.{Record}
+use Rattle.records.specs.declared.record.Kept.{Kept}
 use Rattle.receiver.specs.Numbers.{fedBy}
-use Rattle.rack.specs.Record.{stateFrom, fedRecord, keptReset}
-use Rattle.rack.specs.Rack.{at, listRefusal, refusalBy, fedAlone, countRefusal}
+use Rattle.rack.specs.Rack.{keptReset}
+use Rattle.records.specs.Record.{stateFrom, fedRecord}
+use Rattle.rack.specs.Rack.{at, refusalBy, fedAlone}
+use Rattle.records.specs.Rule.{listRefusal, countRefusal}
 use Rattle.multiframe.specs.Calls.{lengthsRight, silentFrom, firstSilent, builtOf}
 use Rattle.finder_2048.specs.declared.State as finder
 use Rattle.finder_2048.specs.Feed as finding

@@ -17,7 +17,7 @@ use Rattle.captures.specs.Captures.{nowhere}
 use Rattle.multiframe.specs.declared.Built.{Built}
 use Rattle.finder_2048.specs.declared.State as finder
 use Rattle.finder_2048.specs.declared.Fed as found
-use Rattle.rack.specs.declared.record.Record.{Record}
+use Rattle.records.specs.declared.record.Record.{Record}
 
 abbrev pub fourZeros : List ℕ
 fourZeros = 0 ∷ 0 ∷ 0 ∷ 0 ∷ []

@@ -6,7 +6,7 @@ use receiver::alarm::Stretch;
 use receiver::numbers;
 ghost use mathlib.Core.Path.{_≡_};
 ghost use Rattle.receiver.specs.Numbers.{fedAnswer};
-ghost use Rattle.rack.specs.Record.{stateFrom, recordOf, fedRecord, keptAfter, isAligned};
+ghost use Rattle.records.specs.Record.{stateFrom, recordOf, fedRecord, keptAfter, isAligned};
 
 // The state's numbers in the order in which the C face has them; the mode is 0 hunting, 1 one found, 2 two found, 3 + m aligned with m missed.
 #[repr(C)]

@@ -8,7 +8,7 @@ use lib.Dec.{leb, eqb}
 use Rattle.modes.specs.declared.Mode.the-variants.{Aligned}
 use Rattle.receiver.specs.Frame.{aligned}
 use Rattle.receiver.specs.Numbers.{modeOf}
-use Rattle.rack.specs.Record.{isAligned}
+use Rattle.records.specs.Record.{isAligned}
 
 either : (t : Bool) (a b : ℕ) → aligned (cond t (Aligned a) (Aligned b)) ≡ true
 either true a b = refl

@@ -4,8 +4,8 @@ ghost use mathlib.Core.Path.{_≡_};
 ghost use mathlib.Core.Bool.{cond};
 ghost use mathlib.Core.List.{[], _∷_};
 ghost use Prim.Native.Nat.{_+_, _<_};
-ghost use Rattle.rack.specs.Record.{isAligned};
-ghost use Rattle.rack.specs.Rack.{listRefusal, countRefusal, countedTo, madeOf, noneTaken};
+ghost use Rattle.records.specs.Record.{isAligned};
+ghost use Rattle.records.specs.Rule.{listRefusal, countRefusal, countedTo, madeOf, noneTaken};
 
 // A number beyond the list is refused with 8 first, a list of more than 64 with 2 next.
 pub fn list_refusal(number: usize, line: u64) -> u64

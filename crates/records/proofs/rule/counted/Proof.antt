@@ -1,8 +1,8 @@
 -- None of a list of more than 64, else all.
 use borrow.Author.Tests.{lt-ltb, le-ltb}
-use Rattle.rack.specs.Rack.{countedTo}
-use Rattle.rack.proofs.rule.counted.Statement.{statement}
-use Rattle.rack.proofs.rule.counted.Tie as tie
+use Rattle.records.specs.Rule.{countedTo}
+use Rattle.records.proofs.rule.counted.Statement.{statement}
+use Rattle.records.proofs.rule.counted.Tie as tie
 
 returns : tie.Need-returns
 unfolding countedTo

@@ -8,10 +8,9 @@ use Rattle.digits.specs.Digits.{isYes}
 use Rattle.receiver.specs.declared.State.{State}
 use Rattle.receiver.specs.declared.Fed.{Fed}
 use Rattle.receiver.specs.Frame.{aligned}
-use Rattle.receiver.specs.Feed.{freshOf}
 use Rattle.receiver.specs.Numbers.{modeNumber, modeOf, fedBy}
-use Rattle.rack.specs.declared.record.Record.{Record}
-use Rattle.rack.specs.declared.record.Kept.{Kept}
+use Rattle.records.specs.declared.record.Record.{Record}
+use Rattle.records.specs.declared.record.Kept.{Kept}
 
 -- the state that a record keeps, and the record of a state
 abbrev pub stateFrom : Record → State
@@ -41,7 +40,7 @@ recordOf s =
       frame = s .frame;
     }
 
--- ---- what the calls make of one record
+-- ---- what feeding makes of one record
 
 -- a piece fed to the receiver that a record keeps
 abbrev pub fedRecord : Record → List ℕ → ℕ → ℕ → Fed
@@ -50,10 +49,6 @@ fedRecord r piece first count = fedBy (stateFrom r) (r .few) (r .alarm) piece fi
 -- "Under a refusal nothing lent is written": the record stays as it was
 abbrev pub keptAfter : Fed → Record → Kept
 keptAfter f r = record { refusal = f .refusal; kept = cond (eqb (f .refusal) 0) (recordOf (f .state)) r }
-
--- a reset: the record of a fresh state; where that is refused with 1, the record stays as it was
-abbrev pub keptReset : ℕ → Record → Kept
-keptReset level r = record { refusal = freshOf level .refusal; kept = cond (eqb (freshOf level .refusal) 0) (recordOf (freshOf level .state)) r }
 
 -- a record in mode aligned; "neither asks whether a record is valid"
 unfoldable pub isAligned : ℕ → Bool

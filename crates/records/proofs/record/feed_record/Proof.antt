@@ -1,7 +1,7 @@
 -- The record kept and the answer are those of the receiver that the record keeps.
 use borrow.Author.Needs.{needs}
-use Rattle.rack.proofs.record.feed_record.Statement.{statement}
-use Rattle.rack.proofs.record.feed_record.Tie as tie
+use Rattle.records.proofs.record.feed_record.Statement.{statement}
+use Rattle.records.proofs.record.feed_record.Tie as tie
 
 returns : tie.Need-returns
 returns c =

@@ -1,8 +1,8 @@
 -- 8 first, 2 next: each return rewrites with the tests that lead to it.
 use borrow.Author.Tests.{lt-ltb, le-ltb, le-leb, lt-leb}
-use Rattle.rack.specs.Rack.{listRefusal}
-use Rattle.rack.proofs.rule.list_refusal.Statement.{statement}
-use Rattle.rack.proofs.rule.list_refusal.Tie as tie
+use Rattle.records.specs.Rule.{listRefusal}
+use Rattle.records.proofs.rule.list_refusal.Statement.{statement}
+use Rattle.records.proofs.rule.list_refusal.Tie as tie
 
 returns : tie.Need-returns
 unfolding listRefusal

@@ -1,8 +1,8 @@
 -- Under a refusal the record stays; else it is the record of the state after the piece.
 use borrow.Author.Tests.{eq-eqb, ne-eqb}
 use borrow.Author.Needs.{needs}
-use Rattle.rack.proofs.record.kept_after.Statement.{statement}
-use Rattle.rack.proofs.record.kept_after.Tie as tie
+use Rattle.records.proofs.record.kept_after.Statement.{statement}
+use Rattle.records.proofs.record.kept_after.Tie as tie
 
 returns : tie.Need-returns
 returns c = rw (ne-eqb _ _ (c .if1 .taken))

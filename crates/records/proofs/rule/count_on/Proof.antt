@@ -2,8 +2,8 @@
 use native.Mathlib.Omega.{arith}
 use mathlib.Core.Path.{sym, _∙_}
 use borrow.Author.Needs.{needs}
-use Rattle.rack.proofs.rule.count_on.Statement.{statement}
-use Rattle.rack.proofs.rule.count_on.Tie as tie
+use Rattle.records.proofs.rule.count_on.Statement.{statement}
+use Rattle.records.proofs.rule.count_on.Tie as tie
 
 returns : tie.Need-returns
 returns c = rw (sym (c .before .is-aligned .ensures) ∙ c .if1 .taken)

@@ -1,7 +1,7 @@
 -- The record of a state: three of its numbers are as their calls give them.
 use borrow.Author.Needs.{needs}
-use Rattle.rack.proofs.record.record_of.Statement.{statement}
-use Rattle.rack.proofs.record.record_of.Tie as tie
+use Rattle.records.proofs.record.record_of.Statement.{statement}
+use Rattle.records.proofs.record.record_of.Tie as tie
 
 returns : tie.Need-returns
 returns c = rw (c .before .before .mode-number .ensures, c .before .as-number .ensures, c .as-number2 .ensures)

@@ -1,9 +1,9 @@
 -- 2 for a list of more than 64, and the count.
 use mathlib.Core.Path.{refl}
 use borrow.Author.Tests.{lt-ltb, le-ltb}
-use Rattle.rack.specs.Rack.{countRefusal}
-use Rattle.rack.proofs.rule.tell.Statement.{statement}
-use Rattle.rack.proofs.rule.tell.Tie as tie
+use Rattle.records.specs.Rule.{countRefusal}
+use Rattle.records.proofs.rule.tell.Statement.{statement}
+use Rattle.records.proofs.rule.tell.Tie as tie
 
 returns : tie.Need-returns
 unfolding countRefusal

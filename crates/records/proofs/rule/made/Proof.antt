@@ -1,8 +1,8 @@
 -- What the list refuses first, then what making a fresh state gives.
 use borrow.Author.Tests.{eq-eqb, ne-eqb}
 use borrow.Author.Needs.{needs}
-use Rattle.rack.proofs.rule.made.Statement.{statement}
-use Rattle.rack.proofs.rule.made.Tie as tie
+use Rattle.records.proofs.rule.made.Statement.{statement}
+use Rattle.records.proofs.rule.made.Tie as tie
 
 returns : tie.Need-returns
 returns c =
