@@ -3,8 +3,8 @@ use native.Mathlib.Omega.{arith}
 use borrow.Author.Needs.{needs}
 use Rattle.levels.specs.Places.{headEnd}
 use Rattle.levels.proofs.Runs.{head-end-short}
-use Rattle.multiplex.proofs.head_column.Statement.{statement}
-use Rattle.multiplex.proofs.head_column.Tie as tie
+use Rattle.heads.proofs.head_column.Statement.{statement}
+use Rattle.heads.proofs.head_column.Tie as tie
 
 start-column-requires : tie.Need-start-column-requires
 unfolding headEnd

@@ -10,10 +10,10 @@ use Rattle.words.specs.Words.{outFrom}
 use Rattle.levels.specs.Places.{headEnd}
 use Rattle.levels.proofs.Room.{set-in-line}
 use Rattle.levels.proofs.Runs.{head-end-fours, head-end-short, head-end-in}
-use Rattle.multiplex.proofs.Placing.{Headed, headed-start, headed-more, sent-column, column-rely}
-use Rattle.multiplex.proofs.Running.{head-sent}
-use Rattle.multiplex.proofs.send_head.Statement.{statement}
-use Rattle.multiplex.proofs.send_head.Tie as tie
+use Rattle.heads.proofs.Placing.{Headed, headed-start, headed-more, sent-column, column-rely}
+use Rattle.heads.proofs.Sending.{head-sent}
+use Rattle.heads.proofs.send_head.Statement.{statement}
+use Rattle.heads.proofs.send_head.Tie as tie
 
 abbrev Inv-loop : tie.InvT-loop
 Inv-loop row earlier line notes buffer next₀ w f set note preceding end word₀ r₀ next word r =

@@ -4,9 +4,9 @@ use native.Mathlib.Omega.{arith}
 use borrow.Author.Needs.{needs}
 use lib.ListN.{length}
 use Rattle.levels.proofs.Buffers.{quarter-in, quarter-part, quarter-length}
-use Rattle.multiplex.proofs.Placing.{placed-carried, placed-idle}
-use Rattle.multiplex.proofs.place_digit.Statement.{statement}
-use Rattle.multiplex.proofs.place_digit.Tie as tie
+use Rattle.heads.proofs.Placing.{placed-carried, placed-idle}
+use Rattle.heads.proofs.place_digit.Statement.{statement}
+use Rattle.heads.proofs.place_digit.Tie as tie
 
 mul-a : tie.Need-mul-a
 mul-a c =

@@ -1,7 +1,7 @@
 -- `start_column`: a column of the word, or place by place.
 use borrow.Author.Needs.{needs}
-use Rattle.multiplex.proofs.start_column.Statement.{statement}
-use Rattle.multiplex.proofs.start_column.Tie as tie
+use Rattle.heads.proofs.start_column.Statement.{statement}
+use Rattle.heads.proofs.start_column.Tie as tie
 
 returns : tie.Need-returns
 returns c = c .word-column .ensures _

@@ -18,7 +18,7 @@ use Rattle.levels.specs.Table.{Shared}
 use Rattle.levels.specs.Places.{kindOf}
 use Rattle.levels.specs.Word.{wordDigit}
 use Rattle.levels.proofs.Ways.{kind-word}
-use Rattle.multiplex.specs.Sending.{PlacedTo}
+use Rattle.heads.specs.Columns.{PlacedTo}
 
 module _ (row : Row) (sh : Shared row) (r : ℕ) (inside : r + 4 ≤ row .len) where
   abbrev column : ℕ

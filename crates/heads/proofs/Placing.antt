@@ -31,7 +31,8 @@ use Rattle.levels.proofs.Columns.{frame-start}
 use Rattle.levels.proofs.Walk.{Walking, column as walked}
 use Rattle.levels.proofs.Ways.{kind-word, kind-service}
 use Rattle.levels.specs.Line.{digitBy, lineDigit}
-use Rattle.multiplex.specs.Sending.{tributaryOf, Placed, PlacedTo, Rely, Sent}
+use Rattle.heads.specs.Columns.{tributaryOf, Placed, PlacedTo, Rely}
+use Rattle.heads.specs.Sending.{Sent}
 use Rattle.levels.proofs.Line.{digit-carried}
 
 module _ (row : Row) (note : ℕ) (act : Action) (kind : Kind) (j r : ℕ) (buffer next : List ℕ) (jh : j < 4) (four : length next ≡ 4) where

@@ -1,8 +1,8 @@
 -- `word_column` is four digits of the word.
-use Rattle.multiplex.proofs.WordColumns.{placed-word}
+use Rattle.heads.proofs.WordColumns.{placed-word}
 use borrow.Author.Needs.{needs}
-use Rattle.multiplex.proofs.word_column.Statement.{statement}
-use Rattle.multiplex.proofs.word_column.Tie as tie
+use Rattle.heads.proofs.word_column.Statement.{statement}
+use Rattle.heads.proofs.word_column.Tie as tie
 
 returns : tie.Need-returns
 returns c = let b = c .before .before in placed-word (b .args .row) (b .pre .0) (b .args .r) (b .pre .1)

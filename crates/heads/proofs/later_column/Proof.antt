@@ -5,11 +5,11 @@ use native.Mathlib.Omega.{arith}
 use borrow.Author.Needs.{needs}
 use lib.Pow.{pow-mono}
 use Rattle.levels.specs.Order.{actsBy}
-use Rattle.multiplex.specs.Sending.{PlacedTo}
+use Rattle.heads.specs.Columns.{PlacedTo}
 use Rattle.levels.proofs.Line.{word-within}
-use Rattle.multiplex.proofs.Placing.{placed-none, placed-now, placed-more, one-kind}
-use Rattle.multiplex.proofs.later_column.Statement.{statement}
-use Rattle.multiplex.proofs.later_column.Tie as tie
+use Rattle.heads.proofs.Placing.{placed-none, placed-now, placed-more, one-kind}
+use Rattle.heads.proofs.later_column.Statement.{statement}
+use Rattle.heads.proofs.later_column.Tie as tie
 
 abbrev Inv-loop : tie.InvT-loop
 Inv-loop row buffer next₀ preceding note set r kind word₀ j₀ next word j =

@@ -9,11 +9,11 @@ use Rattle.digits.proofs.Windows.{window-more}
 use Rattle.levels.specs.declared.order.Action.{Action}
 use Rattle.levels.specs.Places.{headEnd}
 use Rattle.levels.proofs.Runs.{head-end-short}
-use Rattle.multiplex.specs.Sending.{PlacedTo}
+use Rattle.heads.specs.Columns.{PlacedTo}
 use Rattle.levels.proofs.Line.{word-within}
-use Rattle.multiplex.proofs.Placing.{placed-idle, placed-none, placed-more, first-idle}
-use Rattle.multiplex.proofs.first_column.Statement.{statement}
-use Rattle.multiplex.proofs.first_column.Tie as tie
+use Rattle.heads.proofs.Placing.{placed-idle, placed-none, placed-more, first-idle}
+use Rattle.heads.proofs.first_column.Statement.{statement}
+use Rattle.heads.proofs.first_column.Tie as tie
 
 abbrev Inv-loop : tie.InvT-loop
 Inv-loop row note r word₀ j₀ word j =
