@@ -1,8 +1,8 @@
 -- `came_after`: test by test.
 use lib.Dec.{eqb}
 use borrow.Author.Tests.{eq-eqb, ne-eqb}
-use Rattle.verdict_states.proofs.head.came_after.Statement.{statement}
-use Rattle.verdict_states.proofs.head.came_after.Tie as tie
+use Rattle.verdict_heads.proofs.came_after.Statement.{statement}
+use Rattle.verdict_heads.proofs.came_after.Tie as tie
 
 returns : tie.Need-returns
 returns c = rw (eq-eqb ((c .before .args) .frames) 0 ((c .if1) .taken))

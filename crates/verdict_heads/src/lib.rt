@@ -1,4 +1,5 @@
-// The first numbers of a state after frames were fed: whether one came, the last two votes, and the changes (specs/Feed.antt, `fedState`).
+// The first numbers of a verdict's state after frames were fed: whether one came, the last two votes, and the changes (crate `verdict`, specs/Feed.antt, `fedState`). A crate of its
+// own below `verdict`, so that it and the wrong programs that change it are checked quickly.
 ghost use mathlib.Core.Path.{_≡_};
 ghost use mathlib.Core.Bool.{cond, _&&_};
 ghost use mathlib.Core.List.{_∷_};
@@ -6,8 +7,8 @@ ghost use Prim.Native.Nat.{ℕ, _+_, _%_, _<_, _≤_};
 ghost use lib.Dec.{eqb};
 ghost use lib.ListN.{length, getD, set, drop};
 ghost use lib.Seq.{sets};
 ghost use Rattle.verdict_states.specs.States.{decided, changesIn};
-ghost use Rattle.verdict_states.specs.Heads.{votesAfter, changesAfter};
+ghost use Rattle.verdict_heads.specs.Heads.{votesAfter, changesAfter};
 
 // Whether this is the very first frame of all.
 fn is_first(came: u64, f: usize) -> bool

@@ -4,8 +4,8 @@ use lib.ListN.{length}
 use native.Mathlib.Omega.{arith}
 use borrow.Author.Needs.{needs}
 use lib.Seq.{length-sets}
-use Rattle.verdict_states.proofs.head.put_votes.Statement.{statement}
-use Rattle.verdict_states.proofs.head.put_votes.Tie as tie
+use Rattle.verdict_heads.proofs.put_votes.Statement.{statement}
+use Rattle.verdict_heads.proofs.put_votes.Tie as tie
 
 vote-at-requires : tie.Need-vote-at-requires
 vote-at-requires c κs = omega (arith, (c .before .pre) .1)

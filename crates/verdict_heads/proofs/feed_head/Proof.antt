@@ -5,9 +5,9 @@ use Prim.Native.Nat.{ℕ}
 use lib.ListN.{getD}
 use lib.Seq.{sets}
 use borrow.Author.Needs.{needs}
-use Rattle.verdict_states.specs.Heads.{votesAfter}
-use Rattle.verdict_states.proofs.head.feed_head.Statement.{statement}
-use Rattle.verdict_states.proofs.head.feed_head.Tie as tie
+use Rattle.verdict_heads.specs.Heads.{votesAfter}
+use Rattle.verdict_heads.proofs.feed_head.Statement.{statement}
+use Rattle.verdict_heads.proofs.feed_head.Tie as tie
 
 returns : tie.Need-returns
 returns c =

@@ -1,8 +1,8 @@
 -- `is_first`: test by test.
 use lib.Dec.{eqb}
 use borrow.Author.Tests.{eq-eqb, ne-eqb}
-use Rattle.verdict_states.proofs.head.is_first.Statement.{statement}
-use Rattle.verdict_states.proofs.head.is_first.Tie as tie
+use Rattle.verdict_heads.proofs.is_first.Statement.{statement}
+use Rattle.verdict_heads.proofs.is_first.Tie as tie
 
 returns : tie.Need-returns
 returns c = rw (ne-eqb ((c .before .args) .came) 0 ((c .if1) .taken))

@@ -2,8 +2,8 @@
 use lib.ListN.{length}
 use native.Mathlib.Omega.{arith}
 use borrow.Author.Needs.{needs}
-use Rattle.verdict_states.proofs.head.put_changes.Statement.{statement}
-use Rattle.verdict_states.proofs.head.put_changes.Tie as tie
+use Rattle.verdict_heads.proofs.put_changes.Statement.{statement}
+use Rattle.verdict_heads.proofs.put_changes.Tie as tie
 
 changes-of-requires : tie.Need-changes-of-requires
 changes-of-requires c κs = (omega arith, (c .before .before .pre) .1)

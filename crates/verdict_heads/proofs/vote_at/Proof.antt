@@ -3,11 +3,11 @@ use mathlib.Core.Path.{ap}
 use Prim.Native.Nat.{ℕ, _%_}
 use native.Mathlib.Omega.{arith}
 use borrow.Author.Needs.{needs}
-use Rattle.verdict_states.proofs.Heading.{vote-far}
-use Rattle.verdict_states.proofs.head.vote_at.Statement.{statement}
-use Rattle.verdict_states.proofs.head.vote_at.Tie as tie
-use Rattle.verdict_states.proofs.head.vote_at.Reads as reads
-use Rattle.verdict_states.proofs.head.vote_at.Lts as lts
+use Rattle.verdict_heads.proofs.Heading.{vote-far}
+use Rattle.verdict_heads.proofs.vote_at.Statement.{statement}
+use Rattle.verdict_heads.proofs.vote_at.Tie as tie
+use Rattle.verdict_heads.proofs.vote_at.Reads as reads
+use Rattle.verdict_heads.proofs.vote_at.Lts as lts
 
 returns : tie.Need-returns
 returns c = rw ((c .if1) .taken)

@@ -8,9 +8,9 @@ use lib.ListN.{getD}
 use native.Mathlib.Omega.{arith}
 use native.Mathlib.Numerals.{add-one}
 use Rattle.digits.specs.Sums.{sumTo}
 use Rattle.verdict_states.specs.States.{decided, changesIn}
-use Rattle.verdict_states.proofs.head.changes_of.Statement.{statement}
-use Rattle.verdict_states.proofs.head.changes_of.Tie as tie
+use Rattle.verdict_heads.proofs.changes_of.Statement.{statement}
+use Rattle.verdict_heads.proofs.changes_of.Tie as tie
 
 abbrev changed : List ℕ → ℕ → ℕ → ℕ → ℕ
 changed votes came j f = cond (eqb came 0 && eqb f 0) 0 (cond (eqb (decided (getD votes (suc f) 0) j) (decided (getD votes f 0) j)) 0 1)

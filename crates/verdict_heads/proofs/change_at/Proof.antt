@@ -4,8 +4,8 @@ use lib.Dec.{eqb}
 use native.Mathlib.Omega.{arith}
 use borrow.Author.Needs.{needs}
 use borrow.Author.Tests.{eq-eqb, ne-eqb}
-use Rattle.verdict_states.proofs.head.change_at.Statement.{statement}
-use Rattle.verdict_states.proofs.head.change_at.Tie as tie
+use Rattle.verdict_heads.proofs.change_at.Statement.{statement}
+use Rattle.verdict_heads.proofs.change_at.Tie as tie
 
 returns : tie.Need-returns
 returns c = rw (sym ((c .before .is-first) .ensures) ∙ (c .if1) .taken) (refl, omega arith)
