@@ -6,7 +6,7 @@ use native.Mathlib.Omega.{arith}
 use borrow.Author.Tests.{ne-eqb, le-leb}
 use lib.Dec.{leb, eqb}
 use Rattle.modes.specs.declared.Mode.the-variants.{Aligned}
-use Rattle.receiver.specs.Frame.{aligned}
+use Rattle.pieces.specs.Frame.{aligned}
 use Rattle.receiver.specs.Numbers.{modeOf}
 use Rattle.records.specs.Record.{isAligned}
 

@@ -7,7 +7,7 @@ use lib.Dec.{eqb}
 use Rattle.digits.specs.Digits.{isYes}
 use Rattle.receiver.specs.declared.State.{State}
 use Rattle.receiver.specs.declared.Fed.{Fed}
-use Rattle.receiver.specs.Frame.{aligned}
+use Rattle.pieces.specs.Frame.{aligned}
 use Rattle.receiver.specs.Numbers.{modeNumber, modeOf, fedBy}
 use Rattle.records.specs.declared.record.Record.{Record}
 use Rattle.records.specs.declared.record.Kept.{Kept}

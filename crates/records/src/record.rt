@@ -1,8 +1,8 @@
 // A receiver kept as a record: nine numbers and the frame in hand, laid out as C lays them out, so that a list of them can be lent. Beside it the
 // functions of a receiver on one record, by value: a record is taken out of its list, these are called, and it is put back.
+use pieces::alarm::Stretch;
 use receiver::Fed;
 use receiver::State;
-use receiver::alarm::Stretch;
 use receiver::numbers;
 ghost use mathlib.Core.Path.{_≡_};
 ghost use Rattle.receiver.specs.Numbers.{fedAnswer};

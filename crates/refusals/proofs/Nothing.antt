@@ -42,8 +42,8 @@ use Rattle.finder_2048.specs.declared.Fed as found
 use Rattle.finder_2048.specs.Feed as finding
 use Rattle.receiver.specs.declared.Fed.{Fed}
 use Rattle.receiver.specs.Feed.{freshState}
-use Rattle.receiver.specs.Turns.{Nothing}
-use Rattle.receiver.proofs.Turns.{refused-nothing}
+use Rattle.receiver.specs.Nothing.{Nothing}
+use Rattle.receiver.proofs.Nothing.{refused-nothing}
 use Rattle.records.specs.declared.record.Record.{Record}
 use Rattle.receiver.specs.Numbers.{fedBy}
 use Rattle.records.specs.Record.{stateFrom, recordOf, fedRecord}

@@ -26,8 +26,8 @@ use Rattle.compare.specs.Compare as compare
 use Rattle.receiver.specs.declared.State.{State}
 use Rattle.receiver.specs.declared.Fed.{Fed}
 use Rattle.modes.specs.Modes.{testedAt}
-use Rattle.receiver.specs.Frame.{readyOf}
-use Rattle.receiver.specs.Alarm.{uncounted}
+use Rattle.pieces.specs.Frame.{readyOf}
+use Rattle.pieces.specs.Alarm.{uncounted}
 use Rattle.digits.specs.Runs.{pieceOf}
 use Rattle.receiver.specs.Feed.{coreOf, freshOf, invalid, refusalOf, afterOf, runOf, feedRow, feedOf}
 use Rattle.records.specs.declared.record.Record.{Record}

@@ -1,6 +1,6 @@
 -- Demand 1: "A refusal writes nothing and hands a state back unchanged." Document 01: "Under a refusal nothing lent is written, all counts and digits taken are 0, ..
 -- and the named frame is 0 except under 5", and 10. What each call answers and leaves where it is refused: lent is what was lent for writing, left what is there at the end.
--- (The receiver's is crate receiver, specs/Turns.antt.)
+-- (The receiver's is crate receiver, specs/Nothing.antt.)
 use mathlib.Core.Path.{_≡_}
 use mathlib.Core.Bool.{false}
 use mathlib.Core.List.{List, [], _∷_}

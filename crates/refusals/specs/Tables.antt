@@ -11,7 +11,7 @@ use Rattle.levels.specs.Faults.{overfull, unset, badEarlier}
 use Rattle.swap.specs.Swap.{badTributary, badRoom}
 use Rattle.captures.specs.Captures.{fileOf, fieldsOf, readOf}
 use Rattle.receiver.specs.declared.State.{State}
-use Rattle.receiver.specs.Alarm.{uncounted}
+use Rattle.pieces.specs.Alarm.{uncounted}
 use Rattle.receiver.specs.Feed.{coreOf, invalid}
 use Rattle.records.specs.declared.record.Record.{Record}
 use Rattle.records.specs.Record.{stateFrom}
