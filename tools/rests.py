@@ -92,7 +92,7 @@ class Rests:
         return list(self.texts) if '+' in name or CODE not in self.texts else [CODE]
 
     def brought_by(self, path):
-        """What a file's lines bring in: {name: the parts it may mean}."""
+        """What a file's lines bring in: {the words that may stand for it, where it is an operator its own as well: the parts it may mean}."""
         out = {}
         for folder, module, names, other in (found.groups() for found in map(BRINGS.match, self.crate.texts[path].split('\n')) if found):
             parts = self.module(folder, module)
@@ -100,7 +100,7 @@ class Rests:
                 means = [part for part in parts if name in self.declares.get(part, ())] if names else parts
                 if not means:  # of a function or a declared type; else it is not known whose it is
                     means = parts if all(part[0] in ('fn', 'code') for part in parts) else self.texts
-                out.setdefault(name, set()).update(means)
+                out.setdefault((name, *filter(None, name.split('_') if names else [])), set()).update(means)
         return out
 
     def named_in(self, part):
@@ -109,8 +109,8 @@ class Rests:
         for path, body in self.texts[part]:
             words = set(WORDS.split('\n'.join(line for line in body.split('\n') if not line.lstrip().startswith(('use ', 'pub use ', 'ghost use ', '--')))))
             brought = self.brought_by(path)
-            for name, parts in brought.items():
-                if any(word in words for word in [name, *filter(None, name.split('_'))]):
+            for spelt, parts in brought.items():
+                if words.intersection(spelt):
                     out |= parts
             if part[0] == path:
                 out |= {other for other in self.where[path] if other[1] == 0 or self.declares[other] & words}
@@ -128,6 +128,10 @@ class Rests:
                 out.add(part)
                 todo += self.above.get(part, ())
         return out
+
+    def on_itself(self, part):
+        """Whether a part rests on another that rests on it, as a function whose proof cites a law about this very function."""
+        return any(part in self.resting_on({other}) for other in self.above[part])
 
     def changed_by(self, texts):
         """The parts that an edit changes, by the files as it leaves them; nothing where it leaves a file of other parts, or changes the code outside functions."""

@@ -11,7 +11,7 @@ def text_of(path):
         return file.read()
 
 
-FUNCTION = re.compile(r'(?:pub )?(?:extern "C" )?fn (\w+)\(')
+FUNCTION = re.compile(r'(?:pub )?(?:extern "C" )?fn (\w+)(?:<[^>]*>)?\(')
 IN_A_LINE = re.compile(r'[^{]*\)(?: -> (?:\[[^\]]*\]|\S+))? \{.*\}$')
 
 
@@ -63,7 +63,7 @@ def copy_of(function, k):
 def copied(crate, function, k, code):
     """A function under another name, from the lines of its code, and its proof, if it has one: the lines, and {path: text}."""
     short, new = function.split('::')[-1], copy_of(function, k).split('::')[-1]
-    code = [code[0].replace(f'fn {short}(', f'fn {new}(', 1).replace('pub extern "C" fn', 'fn', 1), *code[1:], '}']
+    code = [re.sub(rf'fn {short}\b', f'fn {new}', code[0], 1).replace('pub extern "C" fn', 'fn', 1), *code[1:], '}']
     proof = crate.texts.get(f'proofs/{function.replace("::", "/")}/Proof.antt')
     if proof is None:
         return code, {}

@@ -453,11 +453,7 @@ const RECEIVINGS: [Receiving; 10] = [
 ];
 
 fn main() {
-    let mut k: usize = 0;
-    while k < 37 {
-        send(SENDINGS[k]);
-        k += 1;
-    }
+    send_all();
     votes::vote_all();
     receive_all();
     stream::feed_all();
@@ -477,6 +473,14 @@ fn main() {
     hunt::frames(1);
     hunt::frames(7);
     hunt::frames(1000);
+}
+
+fn send_all() {
+    let mut k: usize = 0;
+    while k < 37 {
+        send(SENDINGS[k]);
+        k += 1;
+    }
 }
 
 fn receive_all() {

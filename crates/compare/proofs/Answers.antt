@@ -29,16 +29,17 @@ use Rattle.captures.specs.declared.Reading.{Reading}
 use Rattle.captures.specs.Captures.{readOf}
 use Rattle.tally.specs.Tally.{differAt}
 use Rattle.tally.proofs.Sums.{sums-agree, all-agree, adds-up}
+use Rattle.differing.specs.declared.Compared.{Compared}
+use Rattle.differing.specs.Differing.{placesTo, countedOn, listedOn}
+use Rattle.differing.specs.Counting.{Counted}
+use Rattle.differing.specs.Promises.{Lists}
+use Rattle.differing.proofs.Listing.{places-length}
+use Rattle.differing.proofs.Walking.{counted-none, counted-over, not-differ}
+use Rattle.differing.proofs.Picked.{places-agree}
+use Rattle.differing.proofs.Lists.{lists-all}
 use Rattle.compare.specs.declared.Fault.{Fault}
-use Rattle.compare.specs.declared.Compared.{Compared}
-use Rattle.compare.specs.Compare.{faultIn, faultOf, refusedBy, placesTo, countedOn, listedOn, lineOf, comparedOf, listedOf, CompareMet}
-use Rattle.compare.specs.Counting.{Counted}
-use Rattle.compare.specs.Promises.{Lists}
-use Rattle.compare.proofs.Listing.{places-length}
-use Rattle.compare.proofs.Walking.{counted-none, counted-over, not-differ}
-use Rattle.compare.proofs.Picked.{places-agree}
+use Rattle.compare.specs.Compare.{faultIn, faultOf, refusedBy, lineOf, comparedOf, listedOf, CompareMet}
 use Rattle.compare.proofs.Files.{Fitting, fitting, line-length}
-use Rattle.compare.proofs.Lists.{lists-all}
 use Rattle.compare.proofs.compare as compare
 use Rattle.compare.proofs.compare.Reads as compare-reads
 

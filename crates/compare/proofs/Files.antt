@@ -1,13 +1,13 @@
--- Two files and their lines: where a reading's line stands in its file, what two readings that fit each other have in common, and what the walk over
--- their lines answers.
+-- Two files and their lines: where a reading's line stands in its file, what two readings that fit each other have in common, and what is
+-- answered of their lines as they are lent.
 use mathlib.Core.Path.{_≡_, refl, sym, _∙_, ap}
 use mathlib.Core.Bool.{Bool, cond, true, false}
 use mathlib.Core.List.{List}
-use Prim.Native.Nat.{ℕ, _+_, _-_, _*_, _≤_, _<_, min}
+use Prim.Native.Nat.{ℕ, _+_, _-_, _*_, _≤_, _<_}
 use native.Mathlib.Omega.{arith}
-use native.Mathlib.Nat.{min-comm, div-add-mod'}
+use native.Mathlib.Nat.{div-add-mod'}
 use lib.Dec.{eqb}
-use lib.ListN.{length, take, drop, length-take, length-drop}
+use lib.ListN.{length, take, drop, length-drop}
 use lib.Seq.{length-take-le}
 use borrow.Author.Tests.{eqb-true, eqb-false}
 use Rattle.digits.proofs.Tests.{cond-told}
@@ -23,11 +23,10 @@ use Rattle.captures.specs.declared.Part.{Part}
 use Rattle.captures.specs.declared.Reading.{Reading}
 use Rattle.captures.specs.Captures.{endAt, partAt, fieldAt, unread, afterLine, fieldsOf, readOf, bytesIn}
 use Rattle.captures.proofs.Walking.{stands}
-use Rattle.tally.specs.Tally.{differAt}
-use Rattle.compare.specs.declared.Compared.{Compared}
-use Rattle.compare.specs.Compare.{lineOf, faultIn, faultOf, placesTo, countedOn, listedOn}
-use Rattle.compare.specs.Counting.{Lines, Counted}
-use Rattle.compare.proofs.Listing.{places-length}
+use Rattle.differing.specs.declared.Compared.{Compared}
+use Rattle.differing.specs.Differing.{countedOn, listedOn}
+use Rattle.differing.specs.Counting.{Lines}
+use Rattle.compare.specs.Compare.{lineOf, faultIn, faultOf}
 
 -- ---- where the line of a reading stands
 
@@ -141,7 +140,7 @@ fitting one other =
     go true false c d x y z w e = absurd (eqb-false (other .refusal) 0 y e)
     go false b c d x y z w e = absurd (eqb-false (one .refusal) 0 x e)
 
--- ---- the walk over their lines
+-- ---- their lines as they are lent
 
 -- a part as it is lent, from its start to its end
 abbrev pub lent : List ℕ → Part → List ℕ
@@ -163,21 +162,7 @@ lent-lines row sh one other first second a b same short whole =
     y : length (bytesIn other second) ≡ second .bytes
     y = length-take-le (second .bytes) (drop (second .start) other) (omega (arith, length-drop (second .start) other))
 
--- what was counted and listed at the end of the lines is the answer
-pub finished : (row : Row) (one other : List ℕ) (all listed : ℕ) (sums places : List ℕ) → Counted row one other (8 * length one) all sums places
-    → listed ≡ min all 64
-    → (record { refusal = 0; file = 0; byte = 0; sums = sums; all = all; listed = listed } ≡ countedOn row one other)
-    × (places ≡ listedOn row one other)
-unfolding countedOn
-finished row one other all listed sums places c few = (rw (shown, c .the-all, c .the-sums) refl, c .the-places)
-  where
-    ps : List ℕ
-    ps = placesTo (differAt one other) (8 * length one)
-
-    shown : listed ≡ length (take 64 ps)
-    shown = few ∙ min-comm all 64 ∙ rw (c .the-all, ← places-length (differAt one other) (8 * length one)) (sym (length-take 64 ps))
-
--- and that of the parts of two files as they are lent is that of their bytes
+-- what is answered of the parts of two files as they are lent is what is answered of their bytes
 pub of-parts : (row : Row) (one other : List ℕ) (first second : Part) (a : Compared) (l : List ℕ)
     → (a ≡ countedOn row (lent one first) (lent other second)) × (l ≡ listedOn row (lent one first) (lent other second))
     → (a ≡ countedOn row (bytesIn one first) (bytesIn other second)) × (l ≡ listedOn row (bytesIn one first) (bytesIn other second))

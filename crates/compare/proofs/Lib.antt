@@ -1,12 +1,5 @@
-pub mod Listing
-pub mod Walking
 pub mod Files
-pub mod SumsByKind
 pub mod TwoLines
-pub mod Picked
-pub mod Lists
 pub mod Answers
 pub mod LineAnswers
 pub mod Growing
-pub mod StretchAnswers
-pub mod AllListed

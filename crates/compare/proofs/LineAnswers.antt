@@ -25,12 +25,13 @@ use Rattle.levels.proofs.Choice.{cond-by}
 use Rattle.levels.proofs.Rows.{shared-row}
 use Rattle.tally.specs.Tally.{numberAt, allOf, differAt}
 use Rattle.tally.proofs.Sums.{sums-at, sums-agree, all-agree}
-use Rattle.compare.specs.declared.Compared.{Compared}
+use Rattle.differing.specs.declared.Compared.{Compared}
+use Rattle.differing.specs.Differing.{countedOn, listedOn}
+use Rattle.differing.specs.Promises.{Lists}
+use Rattle.differing.proofs.Lists.{lists-all}
 use Rattle.compare.specs.declared.lines.Stretch.{Stretch}
-use Rattle.compare.specs.Compare.{faultIn, refusedBy, countedOn, listedOn}
+use Rattle.compare.specs.Compare.{faultIn, refusedBy}
 use Rattle.compare.specs.Lines.{linesRefusal, linesOf, linesListed, LinesMet, differFrom, stretchOn, StretchAnswered}
-use Rattle.compare.specs.Promises.{Lists}
-use Rattle.compare.proofs.Lists.{lists-all}
 use Rattle.compare.proofs.TwoLines.{lines-fit}
 use Rattle.compare.proofs.Answers.{AddsUp, refused-adds, counted-adds, nothing-counted, counted-turned}
 use Rattle.compare.proofs.lines.compare_lines as lines

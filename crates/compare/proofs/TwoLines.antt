@@ -17,8 +17,9 @@ use Rattle.levels.specs.Sizes.{framesOf, badLine}
 use Rattle.levels.proofs.Judged.{line-frames, unrefused, short-line}
 use Rattle.tally.specs.Tally.{numberAt, oneMore, differAt}
 use Rattle.tally.proofs.Sums.{all-more, sums-same, sums-more, sums-none, sum-small}
-use Rattle.compare.specs.Counting.{Lines, Summed}
+use Rattle.differing.specs.Counting.{Lines}
 use Rattle.compare.specs.Lines.{linesRefusal, differFrom}
+use Rattle.compare.specs.Summing.{Summed}
 
 equal-told : (t : Bool) → _≡_ {A = ℕ} (cond t 0 2) 0 → t ≡ true
 equal-told true e = refl

@@ -1,20 +1,20 @@
 -- Where two recordings differ: what a comparison of two captures answers and lists, refused or not, for any bytes. Request 6 of document 02. A file
--- is read as by the reader (crate captures), and what differs is counted in the fifteen sums (crate tally). specs/Lines.antt says the same of two
--- lines without their files.
+-- is read as by the reader (crate captures), and what differs is counted in the fifteen sums and listed (crate differing). specs/Lines.antt says the
+-- same of two lines without their files.
 use mathlib.Core.Path.{_≡_}
-use mathlib.Core.Bool.{Bool, cond}
-use mathlib.Core.List.{List, [], _∷_, _++_}
-use Prim.Native.Nat.{ℕ, zero, suc, _-_, _*_, _/_, _%_}
+use mathlib.Core.Bool.{cond}
+use mathlib.Core.List.{List}
+use Prim.Native.Nat.{ℕ}
 use lib.Dec.{eqb}
-use lib.ListN.{length, take, replicate}
+use lib.ListN.{replicate}
 use Rattle.table.specs.declared.Row.{Row}
 use Rattle.table.specs.Table.{levelOf}
 use Rattle.levels.specs.Sizes.{onLevel}
 use Rattle.captures.specs.declared.Reading.{Reading}
 use Rattle.captures.specs.Captures.{readOf, bytesIn}
-use Rattle.tally.specs.Tally.{allOf, sumsOf, differAt}
+use Rattle.differing.specs.declared.Compared.{Compared}
+use Rattle.differing.specs.Differing.{countedOn, listedOn}
 use Rattle.compare.specs.declared.Fault.{Fault}
-use Rattle.compare.specs.declared.Compared.{Compared}
 
 -- ---- refusals
 
@@ -34,37 +34,6 @@ faultOf one other =
 -- refused: nothing is counted and nothing listed
 abbrev pub refusedBy : Fault → Compared
 refusedBy f = record { refusal = f .refusal; file = f .file; byte = f .byte; sums = replicate 15 0; all = 0; listed = 0 }
-
--- ---- what differs
-
--- the places among the first n at which the test is true, in order
-unfoldable pub placesTo : (ℕ → Bool) → ℕ → List ℕ
-placesTo test zero = []
-placesTo test (suc n) = placesTo test n ++ cond (test n) (n ∷ []) []
-
--- "the frame and place" of each, place after place: frames from 0, places in their frame
-unfoldable pub pairsOf : Row → List ℕ → List ℕ
-pairsOf row [] = []
-pairsOf row (p ∷ ps) = p / row .digits ∷ p % row .digits ∷ pairsOf row ps
-
--- "of the first 64, in order", and zeros after them
-unfoldable pub listOf : Row → List ℕ → List ℕ
-listOf row places = pairsOf row (take 64 places) ++ replicate (128 - 2 * length (take 64 places)) 0
-
--- two lines of one length: the fifteen sums over their places, all differing digits, and how many of them are listed
-unfoldable pub countedOn : Row → List ℕ → List ℕ → Compared
-countedOn row one other =
-    record {
-      refusal = 0;
-      file = 0;
-      byte = 0;
-      sums = sumsOf row (differAt one other) (8 * length one);
-      all = allOf (differAt one other) (8 * length one);
-      listed = length (take 64 (placesTo (differAt one other) (8 * length one)));
-    }
-
-abbrev pub listedOn : Row → List ℕ → List ℕ → List ℕ
-listedOn row one other = listOf row (placesTo (differAt one other) (8 * length one))
 
 -- ---- the answer
 

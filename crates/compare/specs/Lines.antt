@@ -10,9 +10,10 @@ use Rattle.table.specs.declared.Row.{Row}
 use Rattle.table.specs.Table.{levelOf}
 use Rattle.levels.specs.Sizes.{onLevel, badLine}
 use Rattle.tally.specs.Tally.{allOf, sumsOf, differAt}
-use Rattle.compare.specs.declared.Compared.{Compared}
+use Rattle.differing.specs.declared.Compared.{Compared}
+use Rattle.differing.specs.Differing.{countedOn, listedOn}
 use Rattle.compare.specs.declared.lines.Stretch.{Stretch}
-use Rattle.compare.specs.Compare.{faultIn, refusedBy, countedOn, listedOn}
+use Rattle.compare.specs.Compare.{faultIn, refusedBy}
 
 -- ---- two lines
 

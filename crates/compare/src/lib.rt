@@ -1,12 +1,10 @@
 // Where two recordings differ (request 6): two captures are read, held against each other and compared. specs/Compare.antt says what the comparison
-// answers and what it lists. lines.rt compares two lines that stand in no file.
-pub mod counting;
-pub mod entries;
+// answers and what it lists. lines.rt compares two lines that stand in no file. What differs crate `differing` counts and lists.
 pub mod lines;
-pub mod stretches;
 
 use captures::Part;
 use captures::Reading;
+use differing::Compared;
 use table::Level;
 use table::Row;
 ghost use mathlib.Core.Path.{_≡_};
@@ -15,28 +13,14 @@ ghost use lib.ListN.{length};
 ghost use Rattle.levels.specs.Table.{Shared};
 ghost use Rattle.levels.specs.Sizes.{framesOf};
 ghost use Rattle.captures.specs.Captures.{bytesIn};
-ghost use Rattle.compare.specs.Compare.{faultIn, faultOf, refusedBy, countedOn, listedOn, CompareMet};
-ghost use Rattle.compare.specs.Counting.{Lines};
-
-// The first so many differing digits are listed.
-pub const LISTED_MOST: usize = 64;
+ghost use Rattle.differing.specs.Differing.{countedOn, listedOn};
+ghost use Rattle.compare.specs.Compare.{faultIn, faultOf, refusedBy, CompareMet};
 
 // Why two files are not compared: the refusal, or 0; the file at fault, 1 or 2, or 0 where the two do not fit each other; the byte it names.
 pub struct Fault {
     pub refusal: u64,
     pub file: u64,
     pub byte: usize,
-}
-
-// The answer: the refusal, the file at fault and the byte named; the fifteen sums of differing digits by kind and tributary; all differing digits;
-// how many of them are listed.
-pub struct Compared {
-    pub refusal: u64,
-    pub file: u64,
-    pub byte: usize,
-    pub sums: [usize; 15],
-    pub all: usize,
-    pub listed: usize,
 }
 
 pub fn fault_in(refusal: u64, file: u64, byte: usize) -> Fault
@@ -81,29 +65,6 @@ pub fn refused(fault: Fault) -> Compared
     }
 }
 
-// Two lines of one length are counted and listed: the core of every comparison.
-pub fn counted_on(row: Row, one: &[u8], other: &[u8], places: &mut [u64; 128]) -> Compared
-    requires { ⌜ Lines row (now one) (now other) ⌝ }
-    ensures { λ r. ⌜
-        (r ≡ countedOn row (now (one .entry)) (now (other .entry)))
-        × (now (places .exit) ≡ listedOn row (now (one .entry)) (now (other .entry)))
-        ⌝ }
-{
-    *places = [0; 128];
-    let mut sums: [usize; 15] = [0; 15];
-    entries::list_lines(row, one, other, places);
-    counting::count_frames(row, one, other, &mut sums);
-    let all = counting::total(&sums);
-    Compared {
-        refusal: 0,
-        file: 0,
-        byte: 0,
-        sums,
-        all,
-        listed: masks::at_most(all, LISTED_MOST),
-    }
-}
-
 // The row is known, and the lines stand in these parts of the files.
 fn compared_on(
     row: Row,
@@ -130,7 +91,7 @@ fn compared_on(
     let b = a + first.bytes;
     let c = second.start;
     let d = c + second.bytes;
-    counted_on(row, &one[a..b], &other[c..d], places)
+    differing::counted_on(row, &one[a..b], &other[c..d], places)
 }
 
 // Compares two captures. Any bytes: where they are no two captures of one level and length, the list stays as it was, and all is zero but what the

@@ -1,6 +1,6 @@
 // Where two lines differ, which stand in no file: the whole of them, or a stretch of their places, as a picture draws it. specs/Lines.antt says what
 // both calls answer.
-use crate::Compared;
+use differing::Compared;
 use levels::places::FramePlace;
 use levels::sizes;
 use table::Level;
@@ -11,9 +11,11 @@ ghost use lib.ListN.{length};
 ghost use mathlib.Core.Bool.{cond};
 ghost use lib.Dec.{eqb, ltb};
 ghost use Rattle.levels.specs.Table.{Shared};
-ghost use Rattle.compare.specs.Compare.{faultIn, refusedBy, countedOn, listedOn};
-ghost use Rattle.compare.specs.Counting.{Lines, Summed};
+ghost use Rattle.differing.specs.Differing.{countedOn, listedOn};
+ghost use Rattle.differing.specs.Counting.{Lines};
+ghost use Rattle.compare.specs.Compare.{faultIn, refusedBy};
 ghost use Rattle.compare.specs.Lines.{linesRefusal, stretchRefused, stretchOn, LinesMet, StretchAnswered};
+ghost use Rattle.compare.specs.Summing.{Summed};
 
 // What a stretch of two lines answers: the refusal, the fifteen sums of differing digits by kind and tributary, and all of them.
 pub struct Stretch {
@@ -53,7 +55,7 @@ fn lines_on(row: Row, one: &[u8], other: &[u8], places: &mut [u64; 128]) -> Comp
     if lines_refusal(row, one.len(), other.len()) != 0 {
         return crate::refused(crate::fault_in(2, 0, 0));
     }
-    crate::counted_on(row, one, other, places)
+    differing::counted_on(row, one, other, places)
 }
 
 // Compares two lines of a level. Any number, any bytes: where the call is refused the list stays as it was.

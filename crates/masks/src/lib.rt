@@ -1,6 +1,6 @@
 // Differing digits by the word. The digits of two lines side by side are one number, with a one where they differ, and its ones are counted: those of a
 // stretch of one kind all together, those of columns by tributary, which a mask keeps apart. Columns are added up in groups of four digits, one group to
-// a column, so that up to fifteen turns need no carry; then the groups are added up at once. specs/Masks.antt says what each number is. A crate of its own below `compare`, so that
+// a column, so that up to fifteen turns need no carry; then the groups are added up at once. specs/Masks.antt says what each number is. A crate of its own below `differing`, so that
 // each of the two is checked quickly.
 ghost use mathlib.Core.Path.{_≡_};
 ghost use Prim.Native.Nat.{ℕ, _+_, _*_, _/_, _^_, _<_, _≤_, min};

@@ -78,7 +78,7 @@ signalling-there i h =
     let p = 256 * (i / 8 + 1) + 128 + i % 8 in
     from-signalling p i (omega arith) (kindAt p) refl (all-at 120 _ signalling-right i h)
 
--- the tables by the byte of the frame: byte 0 of a frame with the word and of one without it, byte 16 of frame 0 and of any other
+-- the tables by the byte of the frame: byte 0 of a frame with the word and of one without it
 module _ (p : ℕ) where
   pub kind-word : p / 8 % 32 ≡ 0 → p / 256 % 2 ≡ 0 → kindAt p ≡ getD withWord (p % 8) (Fixed 0)
   unfolding kindAt
@@ -88,13 +88,14 @@ module _ (p : ℕ) where
   unfolding kindAt
   kind-other b f = rw (eq-eqb (p / 8 % 32) 0 b, ne-eqb (p / 256 % 2) 0 f) refl
 
-  pub kind-first : p / 8 % 32 ≡ 16 → p / 256 ≡ 0 → kindAt p ≡ getD multiframeByte (p % 8) (Fixed 0)
+  -- byte 0 and byte 16 of any frame
+  pub kind-first : p / 8 % 32 ≡ 0 → kindAt p ≡ getD (cond (eqb (p / 256 % 2) 0) withWord withoutWord) (p % 8) (Fixed 0)
   unfolding kindAt
-  kind-first b f = rw (ne-eqb (p / 8 % 32) 0 (λ e. omega arith), eq-eqb (p / 8 % 32) 16 b, eq-eqb (p / 256) 0 f) refl
+  kind-first b = rw (eq-eqb (p / 8 % 32) 0 b) refl
 
-  pub kind-signalling : p / 8 % 32 ≡ 16 → (p / 256 ≡ 0 → ⊥) → kindAt p ≡ getD (signallingByte (p / 256)) (p % 8) (Fixed 0)
+  pub kind-sixteenth : p / 8 % 32 ≡ 16 → kindAt p ≡ getD (cond (eqb (p / 256) 0) multiframeByte (signallingByte (p / 256))) (p % 8) (Fixed 0)
   unfolding kindAt
-  kind-signalling b f = rw (ne-eqb (p / 8 % 32) 0 (λ e. omega arith), eq-eqb (p / 8 % 32) 16 b, ne-eqb (p / 256) 0 f) refl
+  kind-sixteenth b = rw (ne-eqb (p / 8 % 32) 0 (λ e. omega arith), eq-eqb (p / 8 % 32) 16 b) refl
 
 -- every other byte is a channel's
 pub kind-channel : (p : ℕ) → 0 < p / 8 % 16 → kindAt p ≡ Channel (channelOf (p / 8 % 32))

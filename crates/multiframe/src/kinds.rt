@@ -2,8 +2,12 @@
 use crate::Kind;
 use crate::SpareDigit;
 ghost use mathlib.Core.Path.{_≡_};
-ghost use Prim.Native.Nat.{_<_};
-ghost use Rattle.multiframe.specs.Multiframe.{signallingByte, channelOf, kindAt};
+ghost use mathlib.Core.Bool.{cond};
+ghost use Prim.Native.Nat.{_<_, _%_};
+ghost use lib.Dec.{eqb};
+ghost use lib.ListN.{getD};
+ghost use Rattle.multiframe.specs.declared.Kind.the-variants.{Fixed};
+ghost use Rattle.multiframe.specs.Multiframe.{withWord, withoutWord, multiframeByte, signallingByte, channelOf, kindAt};
 
 // Table 1, byte 0 of a frame with the word: M 0 0 1 1 0 1 1.
 const WITH_WORD: [Kind; 8] = [
@@ -62,26 +66,40 @@ fn channel_of(b: usize) -> usize
     b - 1
 }
 
+// Digit i of byte 0 of a frame: even frames have the word.
+fn first_byte(frame: usize, i: usize) -> Kind
+    requires { ⌜ i < 8 ⌝ }
+    ensures { λ r. ⌜ r ≡ getD (cond (eqb (frame % 2) 0) withWord withoutWord) i (Fixed 0) ⌝ }
+{
+    if frame % 2 == 0 {
+        return WITH_WORD[i];
+    }
+    WITHOUT_WORD[i]
+}
+
+// Digit i of byte 16 of a frame.
+fn sixteenth_byte(frame: usize, i: usize) -> Kind
+    requires { ⌜ (frame < 16) × (i < 8) ⌝ }
+    ensures { λ r. ⌜ r ≡ getD (cond (eqb frame 0) multiframeByte (signallingByte frame)) i (Fixed 0) ⌝ }
+{
+    if frame == 0 {
+        return MULTIFRAME_BYTE[i];
+    }
+    let signalling = signalling_byte(frame);
+    signalling[i]
+}
+
 // Place p of the multiframe.
 pub fn kind_at(p: usize) -> Kind
     requires { ⌜ p < 4096 ⌝ }
     ensures { λ r. ⌜ r ≡ kindAt p ⌝ }
 {
-    let frame = p / 256;
     let byte = p / 8 % 32;
-    let i = p % 8;
     if byte == 0 {
-        if frame % 2 == 0 {
-            return WITH_WORD[i];
-        }
-        return WITHOUT_WORD[i];
+        return first_byte(p / 256, p % 8);
     }
     if byte == 16 {
-        if frame == 0 {
-            return MULTIFRAME_BYTE[i];
-        }
-        let signalling = signalling_byte(frame);
-        return signalling[i];
+        return sixteenth_byte(p / 256, p % 8);
     }
     Kind::Channel(channel_of(byte))
 }

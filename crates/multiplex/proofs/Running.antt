@@ -1,5 +1,5 @@
--- The line as it goes out: heads and runs one after the other, set after set. A run is the columns that `woven` makes of the four
--- quarters; the start, and the whole line at the end.
+-- The line as it goes out, set after set. The run behind a head is the columns that `woven` makes of the four quarters; the start, and the whole
+-- line at the end.
 use mathlib.Core.Path.{_≡_, refl, sym, _∙_, ap}
 use mathlib.Core.List.{List, [], _∷_, _++_, append-nil}
 use Prim.Native.Nat.{ℕ, zero, suc, _+_, _*_, _-_, _/_, _%_, _≤_, _<_}
@@ -26,29 +26,14 @@ use Rattle.levels.proofs.Room.{line-whole, set-in-line, before-room}
 use Rattle.levels.proofs.Runs.{Body, before-run, run-body, head-end-fours, head-end-in}
 use Rattle.levels.proofs.Sentences.{set-start}
 use Rattle.levels.specs.Line.{lineDigit}
-use Rattle.multiplex.specs.Sending.{tributaryOf, nextOf, Ran, Sent, Sending, AllSent}
-use Rattle.multiplex.proofs.Placing.{Headed}
+use Rattle.heads.specs.Columns.{tributaryOf}
+use Rattle.heads.specs.Sending.{Sent, Sending}
+use Rattle.heads.proofs.Sending.{sending-more}
+use Rattle.multiplex.specs.Running.{nextOf, Ran, AllSent}
 
 module _ (row : Row) (earlier : ℕ) (notes buffer : List ℕ) where
   abbrev line : ℕ → ℕ
   line = lineDigit row earlier notes (tributaryOf buffer)
-
-  -- n digits more
-  pub sending-more : (p p′ n : ℕ) (l l′ : List ℕ) (w r : Writer) (next next′ ds : List ℕ) → Sending row earlier notes buffer p l w next → Appended l l′ w r n ds
-      → length l′ ≡ length l → p′ ≡ p + n → Sent row earlier notes buffer p′ next′ (outFrom 0 l w ++ ds) → Sending row earlier notes buffer p′ l′ r next′
-  sending-more p p′ n l l′ w r next next′ ds s more kept e sent =
-      record {
-        fits = rw kept (s .fits);
-        ready = more .ready;
-        place = omega (arith, more .place, s .place);
-        sent = rw (more .out 0 (omega arith)) sent;
-      }
-
-  -- a head more
-  pub head-sent : (p end word : ℕ) (l l′ : List ℕ) (w r : Writer) (next next′ : List ℕ) → Sending row earlier notes buffer p l w next
-      → Appended l l′ w r end (written end word) → length l′ ≡ length l → Headed row earlier notes buffer p (outFrom 0 l w) end word next′
-      → Sending row earlier notes buffer (p + end) l′ r next′
-  head-sent p end word l l′ w r next next′ s more kept h = sending-more p (p + end) end l l′ w r next next′ (written end word) s more kept refl (h .sent)
 
   -- ---- a run
 

@@ -13,10 +13,11 @@ use lib.ListN.{length, getD, replicate, length-append, length-replicate, List·g
 use lib.Seq.{getD-append-seam}
 use borrow.Author.Tests.{eq-eqb, ne-eqb}
 use Rattle.table.specs.declared.Row.{Row}
-use Rattle.plain.specs.Engine.{digitAt, packed, sumOver, carriesAt, carriesFor, countTo, takenTo, handedAt}
-use Rattle.plain.specs.Walk.{Bytes, Taken}
-use Rattle.plain.proofs.Rows.{cond-by}
-use Rattle.plain.proofs.Packing.{packed-is}
+use Rattle.engine.specs.Engine.{digitAt, packed, sumOver, carriesAt, carriesFor, countTo, takenTo, handedAt}
+use Rattle.engine.specs.Walk.{Bytes}
+use Rattle.plain.specs.Walk.{Taken}
+use Rattle.engine.proofs.Rows.{cond-by}
+use Rattle.engine.proofs.Packing.{packed-is}
 
 -- an element after a list
 one-more : (xs : List ℕ) (d i : ℕ) → getD (xs ++ (d ∷ [])) i 0 ≡ cond (eqb i (length xs)) d (getD xs i 0)

@@ -1,12 +1,5 @@
-pub mod Bits
-pub mod Packing
-pub mod Rows
 pub mod Places
-pub mod Counting
 pub mod Sending
-pub mod Search
-pub mod Quarters
-pub mod Judged
 pub mod Votes
 pub mod Noting
 pub mod Handing

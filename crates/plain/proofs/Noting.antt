@@ -11,9 +11,10 @@ use lib.ListN.{length, getD, set, length-set, length-append, List·getD-append}
 use lib.Seq.{ext-getD, getD-set-same, getD-set-other, getD-append-seam}
 use borrow.Author.Count.{below-none, below-more}
 use Rattle.table.specs.declared.Row.{Row}
-use Rattle.plain.specs.Engine.{sumOver, votesTo, wrongTo, noteIn, notesTo, alignmentTo, dissentIn, dissentTo, dissentsTo}
-use Rattle.plain.specs.Walk.{Regular, Fits, Within, fourSums}
-use Rattle.plain.proofs.Counting.{line-short}
+use Rattle.engine.specs.Engine.{sumOver, votesTo, wrongTo, noteIn, notesTo, alignmentTo, dissentIn, dissentTo, dissentsTo}
+use Rattle.engine.specs.Walk.{Regular, Fits}
+use Rattle.plain.specs.Walk.{Within, fourSums}
+use Rattle.engine.proofs.Counting.{line-short}
 use Rattle.plain.proofs.Votes.{votes-most}
 
 -- the list of notes by its frames

@@ -6,10 +6,10 @@ use Prim.Native.Nat.{ℕ, _+_, _%_, _≤_, _<_}
 use lib.Dec.{ltb}
 use borrow.Author.Tests.{ltb-true, ltb-false}
 use Rattle.table.specs.declared.Row.{Row}
-use Rattle.plain.specs.declared.frame.Place.{Place}
-use Rattle.plain.specs.declared.frame.Place.the-variants.{Alignment, Service, Fixed, Control, Negative, Positive, Tributary}
-use Rattle.plain.specs.Engine.{placeIn}
-use Rattle.plain.proofs.Rows.{cond-by}
+use Rattle.engine.specs.declared.frame.Place.{Place}
+use Rattle.engine.specs.declared.frame.Place.the-variants.{Alignment, Service, Fixed, Control, Negative, Positive, Tributary}
+use Rattle.engine.specs.Engine.{placeIn}
+use Rattle.engine.proofs.Rows.{cond-by}
 
 -- the same where the test says what it found
 pub cond-known {ℓ} : {A : Type 0} (P : A → Type ℓ) (t : Bool) {a b : A} → (t ≡ true → P a) → (t ≡ false → P b) → P (cond t a b)

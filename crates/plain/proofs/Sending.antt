@@ -9,9 +9,10 @@ use lib.Dec.{eqb}
 use lib.ListN.{length}
 use borrow.Author.Tests.{eq-eqb, ne-eqb}
 use Rattle.table.specs.declared.Row.{Row}
-use Rattle.plain.specs.Engine.{digitAt, packed, sentAt}
-use Rattle.plain.specs.Walk.{Bytes, Sent}
-use Rattle.plain.proofs.Packing.{packed-is}
+use Rattle.engine.specs.Engine.{digitAt, packed, sentAt}
+use Rattle.engine.specs.Walk.{Bytes}
+use Rattle.plain.specs.Walk.{Sent}
+use Rattle.engine.proofs.Packing.{packed-is}
 
 module _ (row : Row) (earlier : ℕ) (notes buffer : List ℕ) (n : ℕ) where
   pub sent-more : (p : ℕ) (line new : List ℕ) → Sent row earlier notes buffer p n line → (d : ℕ) → d ≡ sentAt row earlier notes buffer p

@@ -11,11 +11,11 @@ use lib.ListN.{length, getD, set}
 use lib.Seq.{getD-set-same, getD-set-other}
 use borrow.Author.Tests.{eq-eqb, ne-eqb}
 use Rattle.table.specs.declared.Row.{Row}
-use Rattle.plain.specs.declared.frame.Place.{Place}
-use Rattle.plain.specs.declared.frame.Place.the-variants.{Alignment, Service, Fixed, Control, Negative, Positive, Tributary}
-use Rattle.plain.specs.Engine.{sumOver, placeIn, received, wrongBy, wrongTo, votesBy, votesTo, noteIn, dissentIn}
+use Rattle.engine.specs.declared.frame.Place.{Place}
+use Rattle.engine.specs.declared.frame.Place.the-variants.{Alignment, Service, Fixed, Control, Negative, Positive, Tributary}
+use Rattle.engine.specs.Engine.{sumOver, placeIn, received, wrongBy, wrongTo, votesBy, votesTo, noteIn, dissentIn}
 use Rattle.plain.specs.Walk.{isControl, Voted, decisionsOf, minoritiesOf, servicesIn}
-use Rattle.plain.proofs.Rows.{cond-by}
+use Rattle.engine.proofs.Rows.{cond-by}
 
 -- only a control digit votes
 pub control-votes : (j v q d : ℕ) (place : Place) → votesBy j v q d place ≡ cond (isControl place) (cond (eqb (q % 4) j) (cond (eqb d v) 1 0) 0) 0

@@ -1,3 +1,1 @@
-pub mod Engine
 pub mod Walk
-pub mod Change

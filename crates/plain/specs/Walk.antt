@@ -1,5 +1,5 @@
--- What the plain engine's functions carry along the places of a line. The specification of its calls is specs/Engine.antt; these lie
--- between it and the loops.
+-- What each of the plain engine's three calls alone carries along the places of a line. Their specification is specs/Engine.antt of crate
+-- engine, and what they share specs/Walk.antt there; these lie between it and the loops.
 use mathlib.Core.Path.{_≡_}
 use mathlib.Core.Bool.{Bool, cond, true, false}
 use mathlib.Core.List.{List, [], _∷_}
@@ -7,41 +7,15 @@ use Prim.Native.Nat.{ℕ, _+_, _*_, _≤_, _<_, min}
 use lib.Dec.{ltb}
 use lib.ListN.{length, getD}
 use Rattle.table.specs.declared.Row.{Row}
-use Rattle.plain.specs.declared.frame.Place.{Place}
-use Rattle.plain.specs.declared.frame.Place.the-variants.{Alignment, Service, Fixed, Control, Negative, Positive, Tributary}
-use Rattle.plain.specs.Engine.{digitAt, countTo, sentAt, votesTo, alarmIn, nationalIn, takenTo}
-
--- what the code needs of a row of the table
-pub record Regular (row : Row) : Type 0 where
-  pub packed : row .digits ≡ 8 * row .bytes
-  pub some : 0 < row .bytes
-  pub short : row .digits ≤ 4096
-  pub sets : 0 < row .set
-  pub word : row .len ≤ 16
-  pub alarms : row .alarms ≤ 1
-  pub national : row .national + row .nationals ≤ row .digits
-  pub nationals : row .nationals ≤ 3
-  pub alarmed : row .alarm < row .digits
-  pub room : row .room ≤ 4096
-
--- a line of so many bytes is as many frames as there are notes, at most 64
-pub record Fits (row : Row) (line notes : ℕ) : Type 0 where
-  pub whole : 8 * line ≡ notes * row .digits
-  pub few : notes ≤ 64
+use Rattle.engine.specs.declared.frame.Place.{Place}
+use Rattle.engine.specs.declared.frame.Place.the-variants.{Alignment, Service, Fixed, Control, Negative, Positive, Tributary}
+use Rattle.engine.specs.Engine.{digitAt, sentAt, votesTo, alarmIn, nationalIn, takenTo}
+use Rattle.engine.specs.Walk.{Bytes}
 
 -- frame f lies in a line of so many bytes, which is short
 pub record Within (row : Row) (line f : ℕ) : Type 0 where
   pub inside : f * row .digits + row .digits ≤ 8 * line
   pub short : 8 * line ≤ 262144
-
--- every element is a byte
-abbrev pub Bytes : List ℕ → Type 0
-Bytes bs = (i : ℕ) → getD bs i 0 < 256
-
--- the four running indices before place p: each is the number of its tributary's next digit
-pub record Counted (row : Row) (earlier : ℕ) (notes : List ℕ) (p : ℕ) (next : List ℕ) : Type 0 where
-  pub four : length next ≡ 4
-  pub each : (j : ℕ) → j < 4 → getD next j 0 ≡ countTo row earlier notes j p
 
 -- the line before place p: the places behind are sent
 pub record Sent (row : Row) (earlier : ℕ) (notes buffer : List ℕ) (p n : ℕ) (line : List ℕ) : Type 0 where

@@ -1,34 +1,20 @@
 // The plain engine: multiplexing and demultiplexing digit by digit. Besides the level table it shares nothing with the quick engine (crates
-// multiplex, reading and extraction); specs/Engine.antt is the whole of its specification. For each place of a line, in order: ask what the
-// place is, then read or write one digit.
-pub mod frame;
-pub mod packed;
+// multiplex, reading and extraction); the whole of its specification is specs/Engine.antt of crate engine, where what the three calls share
+// stands too. For each place of a line, in order: ask what the place is, then read or write one digit.
 pub mod reading;
-pub mod refusals;
 pub mod send;
 pub mod take;
 
+use engine::Answered;
+use engine::NotesRead;
+use engine::refusals;
 use table::Level;
 use table::Row;
 ghost use mathlib.Core.Path.{_≡_};
 ghost use lib.ListN.{length};
-ghost use Rattle.plain.specs.Engine.{refusalOn, sendingOn, readingOn, MultiplexMet, ReadNotesMet, ExtractMet};
-ghost use Rattle.plain.specs.Engine.{answerBy, sentLine, readAnswer, readLeft, takenBuffer};
-ghost use Rattle.plain.specs.Walk.{Regular};
-
-// What multiplexing and extraction answer: the refusal, the frame that refusal 5 or 10 names, the digits of each tributary.
-pub struct Answered {
-    pub refusal: u64,
-    pub frame: usize,
-    pub counts: [usize; 4],
-}
-
-// What reading the notes answers: alignment digits that differ from the word and dissenting digits of each tributary, over all frames.
-pub struct NotesRead {
-    pub refusal: u64,
-    pub alignment: usize,
-    pub dissent: [usize; 4],
-}
+ghost use Rattle.engine.specs.Engine.{refusalOn, sendingOn, readingOn, MultiplexMet, ReadNotesMet, ExtractMet};
+ghost use Rattle.engine.specs.Engine.{answerBy, sentLine, readAnswer, readLeft, takenBuffer};
+ghost use Rattle.engine.specs.Walk.{Regular};
 
 // A level's row is known.
 fn multiplex_on(row: Row, earlier: u64, line: &mut [u8], notes: &[u8], buffer: &[u8]) -> Answered

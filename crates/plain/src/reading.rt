@@ -1,8 +1,7 @@
 // What is received: the notes of the frames, the wrong digits of the frame alignment signals, the votes.
-use crate::frame;
-use crate::frame::Place;
-use crate::packed;
-use crate::send;
+use engine::frame;
+use engine::frame::Place;
+use engine::packed;
 use table::Row;
 ghost use mathlib.Core.Path.{_≡_};
 ghost use mathlib.Core.Bool.{cond};
@@ -10,9 +9,10 @@ ghost use mathlib.Core.List.{[], _∷_};
 ghost use Prim.Native.Nat.{ℕ, _+_, _*_, _%_, _<_, _≤_, min};
 ghost use lib.Dec.{ltb};
 ghost use lib.ListN.{length, getD};
-ghost use Rattle.plain.specs.Engine.{placeIn, received, wrongBy, votesBy, wrongTo, alarmIn, nationalIn, noteIn};
-ghost use Rattle.plain.specs.Engine.{notesTo, alignmentTo, dissentIn, dissentsTo};
-ghost use Rattle.plain.specs.Walk.{Regular, Fits, Within, isControl, Voted, decisionsOf, minoritiesOf, servicesIn, fourSums};
+ghost use Rattle.engine.specs.Engine.{placeIn, received, wrongBy, votesBy, wrongTo, alarmIn, nationalIn, noteIn};
+ghost use Rattle.engine.specs.Engine.{notesTo, alignmentTo, dissentIn, dissentsTo};
+ghost use Rattle.engine.specs.Walk.{Regular, Fits};
+ghost use Rattle.plain.specs.Walk.{Within, isControl, Voted, decisionsOf, minoritiesOf, servicesIn, fourSums};
 
 // What a frame says: its note, the wrong digits of its alignment signal, the dissenting digits of each tributary.
 pub struct Said {
@@ -35,7 +35,7 @@ fn wrong_by(row: Row, q: usize, d: u8) -> usize
     let place = frame::place_in(row, q);
     match place {
         Place::Alignment => {
-            if d == send::word_digit(row, q) {
+            if d == frame::word_digit(row, q) {
                 return 0;
             }
             1

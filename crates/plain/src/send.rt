@@ -1,22 +1,14 @@
 // What is sent: the line, digit by digit.
-use crate::frame;
-use crate::frame::Place;
-use crate::packed;
+use engine::frame;
+use engine::frame::Place;
+use engine::packed;
 use table::Row;
 ghost use mathlib.Core.Path.{_≡_};
 ghost use mathlib.Core.Bool.{cond};
 ghost use Prim.Native.Nat.{_+_, _*_, _-_, _/_, _%_, _<_};
 ghost use lib.ListN.{length};
-ghost use Rattle.plain.specs.Engine.{packed, wordDigit, carriesAt, sentAt, countsTo};
-ghost use Rattle.plain.specs.Walk.{Regular, Fits, Counted};
-
-// Digit q of the frame alignment signal.
-pub fn word_digit(row: Row, q: usize) -> u8
-    requires { ⌜ Regular row × (q < row .len) ⌝ }
-    ensures { λ d. ⌜ (d ≡ wordDigit row q) × (d < 2) ⌝ }
-{
-    ((row.word >> (row.len - 1 - q)) % 2) as u8
-}
+ghost use Rattle.engine.specs.Engine.{packed, carriesAt, sentAt, countsTo};
+ghost use Rattle.engine.specs.Walk.{Regular, Fits, Counted};
 
 // The digit at a place for justification: the tributary's next, where the place carries one, and else the digit of an unused place.
 fn justified(row: Row, earlier: u64, notes: &[u8], p: usize, next: u8, unused: u8) -> u8
@@ -42,7 +34,7 @@ fn sent_at(row: Row, earlier: u64, notes: &[u8], buffer: &[u8], next: &[usize; 4
     let digit = packed::quarter_digit(buffer, j, next[j]);
     let place = frame::place_in(row, q);
     match place {
-        Place::Alignment => word_digit(row, q),
+        Place::Alignment => frame::word_digit(row, q),
         Place::Service => frame::note_bit(note, 4 + (q - row.len)),
         Place::Fixed => 1,
         Place::Control => vote,

@@ -1,12 +1,13 @@
 // What is extracted: the digits of the tributaries, each into its quarter, by the notes. No control digit is looked at.
-use crate::frame;
-use crate::packed;
+use engine::frame;
+use engine::packed;
 use table::Row;
 ghost use mathlib.Core.Path.{_≡_};
 ghost use Prim.Native.Nat.{_+_, _*_, _/_, _<_};
 ghost use lib.ListN.{length, replicate};
-ghost use Rattle.plain.specs.Engine.{packed, countsTo, handedAt};
-ghost use Rattle.plain.specs.Walk.{Regular, Fits, Counted, Taken};
+ghost use Rattle.engine.specs.Engine.{packed, countsTo, handedAt};
+ghost use Rattle.engine.specs.Walk.{Regular, Fits, Counted};
+ghost use Rattle.plain.specs.Walk.{Taken};
 
 // Every byte zero.
 fn clear(bytes: &mut [u8])

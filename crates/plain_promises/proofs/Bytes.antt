@@ -11,8 +11,8 @@ use Rattle.digits.specs.Digits.{digitsOf, bytesOf, tab}
 use Rattle.digits.proofs.Laws.{digit-at, digits-length, digits-of-bytes, bytes-are-bytes, bytes-length, tab-binary, tab-length, tab-at, part-digit}
 use Rattle.levels.specs.Sizes.{quarterOf}
 use Rattle.levels.proofs.Buffers.{quarter-length}
-use Rattle.plain.specs.Engine.{digitAt, packed, quarterDigit}
-use Rattle.plain.proofs.Packing.{packed-is}
+use Rattle.engine.specs.Engine.{digitAt, packed, quarterDigit}
+use Rattle.engine.proofs.Packing.{packed-is}
 
 pub digit-same : (bs : List ℕ) (p : ℕ) → digitAt bs p ≡ getD (digitsOf bs) p 0
 unfolding digitAt

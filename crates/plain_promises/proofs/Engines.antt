@@ -22,9 +22,9 @@ use Rattle.reading.specs.declared.Noted.{Noted}
 use Rattle.reading.specs.Notes.{notesOf}
 use Rattle.reading.specs.Reading as reading
 use Rattle.extraction.specs.Extract as extraction
-use Rattle.plain.specs.declared.Answered.{Answered}
-use Rattle.plain.specs.declared.NotesRead.{NotesRead}
-use Rattle.plain.specs.Engine as plain
+use Rattle.engine.specs.declared.Answered.{Answered}
+use Rattle.engine.specs.declared.NotesRead.{NotesRead}
+use Rattle.engine.specs.Engine as plain
 use Rattle.plain_promises.specs.Same.{SameCounted, SameNoted}
 use Rattle.plain_promises.proofs.Line.{line-same}
 use Rattle.plain_promises.proofs.Notes.{notes-same, alignment-same, dissents-same}

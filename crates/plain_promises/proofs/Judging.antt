@@ -16,8 +16,8 @@ use Rattle.levels.specs.Places.{notedOf}
 use Rattle.levels.specs.Sizes.{badLine, badNotes, badBuffer, framesRefusal, sizeRefusal}
 use Rattle.levels.specs.Faults as quick
 use Rattle.levels.proofs.Judged.{accepted}
-use Rattle.plain.specs.declared.refusals.Refusal.{Refusal}
-use Rattle.plain.specs.Engine as plain
+use Rattle.engine.specs.declared.refusals.Refusal.{Refusal}
+use Rattle.engine.specs.Engine as plain
 use Rattle.plain_promises.specs.Same.{SameCounted}
 use Rattle.plain_promises.proofs.Order.{counts-same}
 

@@ -22,9 +22,9 @@ use Rattle.levels.proofs.Majority.{digit-counts}
 use Rattle.levels.proofs.Choice.{cond-by}
 use Rattle.levels.specs.Line.{digitBy, lineDigit, lineOf}
 use Rattle.levels.proofs.Line.{noted-bit}
-use Rattle.plain.specs.declared.frame.Place.{Place}
-use Rattle.plain.specs.declared.frame.Place.the-variants as places
-use Rattle.plain.specs.Engine.{digitAt, packed, quarterDigit, placeIn, stuffedIn, negativeIn, carriesBy, carriesAt, countTo, sentBy, sentAt}
+use Rattle.engine.specs.declared.frame.Place.{Place}
+use Rattle.engine.specs.declared.frame.Place.the-variants as places
+use Rattle.engine.specs.Engine.{digitAt, packed, quarterDigit, placeIn, stuffedIn, negativeIn, carriesBy, carriesAt, countTo, sentBy, sentAt}
 use Rattle.plain_promises.proofs.Bytes.{quarter-same, packed-same}
 use Rattle.plain_promises.proofs.Places.{by-place}
 use Rattle.plain_promises.proofs.Order.{acts-same, some, fours, count-place}

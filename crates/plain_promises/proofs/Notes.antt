@@ -25,8 +25,8 @@ use Rattle.levels.proofs.Groups.{group-binary}
 use Rattle.levels.proofs.Majority.{votes-append, votes-all}
 use Rattle.levels.proofs.Sentences.{set-start}
 use Rattle.reading.specs.Notes as quick
-use Rattle.plain.specs.declared.frame.Place.{Place}
-use Rattle.plain.specs.Engine.{sumOver, placeIn, received, wrongBy, wrongTo, votesBy, votesTo, majority, dissentIn, alarmIn, nationalIn, noteIn, notesTo, alignmentTo, dissentTo, dissentsTo}
+use Rattle.engine.specs.declared.frame.Place.{Place}
+use Rattle.engine.specs.Engine.{sumOver, placeIn, received, wrongBy, wrongTo, votesBy, votesTo, majority, dissentIn, alarmIn, nationalIn, noteIn, notesTo, alignmentTo, dissentTo, dissentsTo}
 use Rattle.plain.specs.Walk.{isControl}
 use Rattle.plain.proofs.Votes.{control-votes}
 use Rattle.plain.proofs.Noting.{notes-length, note-at}

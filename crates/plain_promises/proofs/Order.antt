@@ -19,9 +19,9 @@ use Rattle.levels.specs.Places.{posOf}
 use Rattle.levels.specs.Order.{decisions, hasNegative, byOwn, byBoth, actionOf, actions, isStuffed, bothCarry, carried, carries, before, countOf, countsOf}
 use Rattle.levels.proofs.Columns.{frame-start}
 use Rattle.levels.proofs.Counts.{count-of}
-use Rattle.plain.specs.declared.frame.Place.{Place}
-use Rattle.plain.specs.Engine.{sumOver, negativePlaces, stuffedIn, negativeIn, carriesBy, carriesAt, carriesFor, countTo, countsTo}
-use Rattle.plain.proofs.Counting.{count-more}
+use Rattle.engine.specs.declared.frame.Place.{Place}
+use Rattle.engine.specs.Engine.{sumOver, negativePlaces, stuffedIn, negativeIn, carriesBy, carriesAt, carriesFor, countTo, countsTo}
+use Rattle.engine.proofs.Counting.{count-more}
 use Rattle.plain_promises.proofs.Places.{by-place}
 
 -- what a frame does for a tributary is the same: its positive place is stuffed by both, or by neither, and its negative place carries so

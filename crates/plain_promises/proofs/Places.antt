@@ -16,9 +16,9 @@ use Rattle.levels.specs.declared.places.Sign.the-variants as signs
 use Rattle.levels.specs.Table.{Shared}
 use Rattle.levels.specs.Places.{kindOf, notedOf, notedDigit}
 use Rattle.levels.proofs.Ways.{kind-word, kind-noted, kind-unnoted, kind-first, kind-control, kind-negative, kind-positive, kind-after, kind-fixed, kind-between}
-use Rattle.plain.specs.declared.frame.Place.{Place}
-use Rattle.plain.specs.declared.frame.Place.the-variants as places
-use Rattle.plain.specs.Engine.{placeIn}
+use Rattle.engine.specs.declared.frame.Place.{Place}
+use Rattle.engine.specs.declared.frame.Place.the-variants as places
+use Rattle.engine.specs.Engine.{placeIn}
 
 module _ (row : Row) (sh : Shared row) (q : ℕ) where
   noted : row .len + row .alarms + row .nationals ≤ row .first

@@ -17,8 +17,8 @@ use Rattle.levels.specs.Order.{actions, carries, placesOf}
 use Rattle.levels.proofs.Counts.{count-of, count-room}
 use Rattle.extraction.specs.Quarters as quick
 use Rattle.extraction.proofs.Taking as taking
-use Rattle.plain.specs.Engine.{digitAt, packed, takenTo, handedAt}
-use Rattle.plain.proofs.Packing.{packed-is}
+use Rattle.engine.specs.Engine.{digitAt, packed, takenTo, handedAt}
+use Rattle.engine.proofs.Packing.{packed-is}
 use Rattle.plain.proofs.Handing as plain
 use Rattle.plain_promises.proofs.Bytes.{digit-same}
 use Rattle.plain_promises.proofs.Order.{column}

@@ -3,8 +3,8 @@
 use mathlib.Core.Path.{_≡_, refl}
 use mathlib.Core.List.{[], _∷_}
 use Rattle.table.specs.Table.{row2, row4, row12, row14}
-use Rattle.plain.specs.declared.frame.Place.the-variants.{Alignment, Fixed, Control, Negative, Positive, Tributary}
-use Rattle.plain.specs.Engine.{sumOver, placeIn, carriesAt, carriesFor, countTo, digitAt, quarterDigit, sentAt, firstWith, nationalOnes, refusalWith, refusalOn, sendingOn}
+use Rattle.engine.specs.declared.frame.Place.the-variants.{Alignment, Fixed, Control, Negative, Positive, Tributary}
+use Rattle.engine.specs.Engine.{sumOver, placeIn, carriesAt, carriesFor, countTo, digitAt, quarterDigit, sentAt, firstWith, nationalOnes, refusalWith, refusalOn, sendingOn}
 
 -- level 12: the word, tributary digits from "9" on; in groups II and III control at "1 to 4", service at "5 to 8"; in group IV, which begins at
 -- place 792, "negative places 5 to 8, positive places 9 to 12, then tributary digits"

@@ -2,8 +2,8 @@
 use mathlib.Core.Path.{_≡_}
 use Rattle.levels.specs.declared.faults.Counted as counted
 use Rattle.reading.specs.declared.Noted as noted
-use Rattle.plain.specs.declared.Answered as answered
-use Rattle.plain.specs.declared.NotesRead as notes-read
+use Rattle.engine.specs.declared.Answered as answered
+use Rattle.engine.specs.declared.NotesRead as notes-read
 
 -- of multiplexing and of extraction
 pub record SameCounted (a : counted.Counted) (b : answered.Answered) : Type 0 where

@@ -14,7 +14,7 @@ use contract.Monad.{Fun, fact}
 use denote.Ref.{now}
 use denote.Triple.Clauses.{AtExit}
 use borrow.Fn.World.{ArgsD, ResD}
-use Rattle.rack.specs.declared.record.Record.{Record}
+use Rattle.records.specs.declared.record.Record.{Record}
 use Rattle.rack.specs.Rack.{FeedMet, ResetMet, AlignedMet}
 use Rattle.rack.proofs.feed as feed
 use Rattle.rack.proofs.reset as reset

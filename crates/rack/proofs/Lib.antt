@@ -1,4 +1,3 @@
-pub mod Modes
 pub mod Lists
 pub mod Walks
 pub mod Answers

@@ -13,11 +13,13 @@ use borrow.Author.Tests.{leb-false, ltb-false}
 use Rattle.digits.specs.Sums.{sumTo}
 use Rattle.digits.proofs.Tests.{cond-told}
 use Rattle.receiver.specs.Feed.{freshState, freshOf}
-use Rattle.rack.specs.declared.record.Record.{Record}
-use Rattle.rack.specs.declared.record.Kept.{Kept}
+use Rattle.records.specs.declared.record.Record.{Record}
+use Rattle.records.specs.declared.record.Kept.{Kept}
 use Rattle.receiver.specs.Numbers.{fedAnswer}
-use Rattle.rack.specs.Record.{recordOf, fedRecord, keptReset, isAligned}
-use Rattle.rack.specs.Rack.{at, listRefusal, refusalBy, listBy, madeOf, FeedMet, ResetMet, fedAlone, noneTaken, countRefusal, countedTo, alignedOf, AlignedMet}
+use Rattle.rack.specs.Rack.{keptReset}
+use Rattle.records.specs.Record.{recordOf, fedRecord, isAligned}
+use Rattle.rack.specs.Rack.{at, refusalBy, listBy, FeedMet, ResetMet, fedAlone, alignedOf, AlignedMet}
+use Rattle.records.specs.Rule.{listRefusal, madeOf, noneTaken, countRefusal, countedTo}
 
 -- ---- what the machine's tests tell
 pub fails : (t : Bool) → T (not t) → t ≡ false

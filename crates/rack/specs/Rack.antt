@@ -3,22 +3,19 @@ use mathlib.Core.Path.{_≡_}
 use mathlib.Core.Bool.{cond}
 use mathlib.Core.List.{List, [], _∷_}
 use Prim.Native.Nat.{ℕ, _+_}
-use lib.Dec.{eqb, leb, ltb}
+use lib.Dec.{eqb}
 use lib.ListN.{length, getD, set}
 use Rattle.digits.specs.Sums.{sumTo}
 use Rattle.receiver.specs.Feed.{freshState, freshOf}
-use Rattle.rack.specs.declared.record.Record.{Record}
-use Rattle.rack.specs.declared.record.Kept.{Kept}
+use Rattle.records.specs.declared.record.Record.{Record}
+use Rattle.records.specs.declared.record.Kept.{Kept}
 use Rattle.receiver.specs.Numbers.{fedAnswer}
-use Rattle.rack.specs.Record.{recordOf, fedRecord, keptAfter, keptReset, isAligned}
+use Rattle.records.specs.Record.{recordOf, fedRecord, keptAfter, isAligned}
+use Rattle.records.specs.Rule.{listRefusal, noneTaken, countRefusal}
 
 -- record number `line` of the list, from 0; past its end a record that no call looks at
 abbrev pub at : List Record → ℕ → Record
 at records line = getD records line (recordOf (freshState 0))
-
--- "A number beyond the list is refused with 8 first; a list of more than 64 with 2 next"
-unfoldable pub listRefusal : ℕ → ℕ → ℕ
-listRefusal number line = cond (leb number line) 8 (cond (ltb 64 number) 2 0)
 
 -- ---- a call on line number `line`: `alone` is what the call gives to the record of that line
 
@@ -36,10 +33,6 @@ listBy records line alone = cond (eqb (listRefusal (length records) line) 0) (se
 abbrev pub fedAlone : List Record → ℕ → List ℕ → ℕ → ℕ → Kept
 fedAlone records line piece first count = keptAfter (fedRecord (at records line) piece first count) (at records line)
 
--- refused by the list: nothing taken, no frame ready, no alarm, no words tested
-abbrev pub noneTaken : List ℕ
-noneTaken = 0 ∷ 0 ∷ 0 ∷ 0 ∷ []
-
 abbrev pub feedAnswer : List Record → ℕ → List ℕ → ℕ → ℕ → List ℕ
 feedAnswer records line piece first count =
     cond (eqb (listRefusal (length records) line) 0) (fedAnswer (fedRecord (at records line) piece first count)) noneTaken
@@ -50,29 +43,17 @@ FeedMet records line piece first count returned recordsLeft answerLeft =
     × (recordsLeft ≡ listBy records line (fedAlone records line piece first count))
     × (answerLeft ≡ feedAnswer records line piece first count)
 
+-- a reset: the record of a fresh state; where that is refused with 1, the record stays as it was
+abbrev pub keptReset : ℕ → Record → Kept
+keptReset level r = record { refusal = freshOf level .refusal; kept = cond (eqb (freshOf level .refusal) 0) (recordOf (freshOf level .state)) r }
+
 -- resetting: "Reset takes a level and refuses in the order 8, 2, 1"
 abbrev pub ResetMet : List Record → ℕ → ℕ → ℕ → List Record → Type 0
 ResetMet records line level returned recordsLeft =
     (returned ≡ refusalBy (length records) line (keptReset level (at records line)))
     × (recordsLeft ≡ listBy records line (keptReset level (at records line)))
 
--- what a reset decides without the list's records
-abbrev pub madeOf : ℕ → ℕ → ℕ → Kept
-madeOf number line level =
-    record {
-      refusal = cond (eqb (listRefusal number line) 0) (freshOf level .refusal) (listRefusal number line);
-      kept = recordOf (freshOf level .state);
-    }
-
--- counting: "the count only with 2, giving 0"
-unfoldable pub countRefusal : ℕ → ℕ
-countRefusal number = cond (ltb 64 number) 2 0
-
--- so many records are looked at
-unfoldable pub countedTo : ℕ → ℕ
-countedTo number = cond (ltb 64 number) 0 number
-
--- the count of aligned lines is a sum over records
+-- counting: the count of aligned lines is a sum over records
 abbrev pub alignedOf : List Record → ℕ → ℕ
 alignedOf records n = sumTo n (λ i. cond (isAligned (at records i .mode)) 1 0)
 

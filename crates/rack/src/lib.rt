@@ -1,10 +1,9 @@
-// A rack of lines: up to 64 receivers kept as records in one lent list. Three calls, kept thin: `rule` has what they decide and `record`
-// what a receiver makes of one record, both without the list; the calls take a record out of the list, and put it back. The borrow checker
+// A rack of lines: up to 64 receivers kept as records in one lent list. Three calls, kept thin: crate `records` has what they decide (`rule`) and
+// what a receiver makes of one record (`record`), both without the list; the calls take a record out of the list, and put it back. The borrow checker
 // does not cover a reference to a struct, so each of the three is proved by a walk by hand.
-pub mod record;
-pub mod rule;
-
-use crate::record::Record;
+use records::record;
+use records::record::Record;
+use records::rule;
 ghost use Rattle.rack.specs.Rack.{FeedMet, ResetMet, AlignedMet};
 
 // Feeds a piece to line number `line`, from 0; answer: digits taken, 1 if a frame is ready, 1 if the alarm stands at the end, words tested.

@@ -22,12 +22,14 @@ use Rattle.modes.specs.Modes.{missed}
 use Rattle.digits.specs.Runs.{pieceOf}
 use Rattle.receiver.specs.Feed.{freshState, freshOf, freshAt, feedOf, feedRow, refused, refusalOf, coreOf}
 use Rattle.receiver_promises.proofs.Pieces.{feed-valid, fresh-state, run-answer}
-use Rattle.rack.specs.declared.record.Record.{Record}
-use Rattle.rack.specs.declared.record.Kept.{Kept}
+use Rattle.records.specs.declared.record.Record.{Record}
+use Rattle.records.specs.declared.record.Kept.{Kept}
 use Rattle.digits.specs.Digits.{isYes}
 use Rattle.receiver.specs.Numbers.{modeNumber, modeOf, fedBy}
-use Rattle.rack.specs.Record.{recordOf, fedRecord, keptReset}
-use Rattle.rack.specs.Rack.{at, listRefusal, listBy, fedAlone, FeedMet, ResetMet}
+use Rattle.rack.specs.Rack.{keptReset}
+use Rattle.records.specs.Record.{recordOf, fedRecord}
+use Rattle.rack.specs.Rack.{at, listBy, fedAlone, FeedMet, ResetMet}
+use Rattle.records.specs.Rule.{listRefusal}
 use Rattle.rack.proofs.Lists.{blank}
 use Rattle.rack_promises.specs.Alone.{Call, Feed, Reset, toldAlone, leftAlone, alone, aloneLeft, toldOne, leftOne, ofOne, oneLeft}
 use Rattle.rack_promises.specs.Alone.{toldBy, leftBy, rackTold, rackLeft, own, Sound}

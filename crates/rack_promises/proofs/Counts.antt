@@ -7,9 +7,10 @@ use native.Mathlib.Omega.{arith}
 use lib.ListN.{length}
 use borrow.Author.Tests.{le-ltb}
 use Rattle.digits.specs.Sums.{sumTo}
-use Rattle.rack.specs.declared.record.Record.{Record}
-use Rattle.rack.specs.Record.{isAligned}
-use Rattle.rack.specs.Rack.{at, alignedOf, countRefusal, AlignedMet}
+use Rattle.records.specs.declared.record.Record.{Record}
+use Rattle.records.specs.Record.{isAligned}
+use Rattle.rack.specs.Rack.{at, alignedOf, AlignedMet}
+use Rattle.records.specs.Rule.{countRefusal}
 use Rattle.rack_promises.specs.Alone.{alignedIn}
 
 -- the first term of a sum, taken out

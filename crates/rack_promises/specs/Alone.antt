@@ -11,9 +11,10 @@ use Rattle.table.specs.declared.Level.the-variants.{Of}
 use Rattle.table.specs.Table.{levelOf}
 use Rattle.receiver.specs.declared.State.{State}
 use Rattle.receiver.specs.Feed.{freshOf, feedOf, ValidState}
-use Rattle.rack.specs.declared.record.Record.{Record}
+use Rattle.records.specs.declared.record.Record.{Record}
 use Rattle.receiver.specs.Numbers.{fedAnswer}
-use Rattle.rack.specs.Record.{fedRecord, keptAfter, keptReset, isAligned}
+use Rattle.rack.specs.Rack.{keptReset}
+use Rattle.records.specs.Record.{fedRecord, keptAfter, isAligned}
 use Rattle.rack.specs.Rack.{at, refusalBy, listBy, fedAlone, feedAnswer}
 
 -- a call on a line: a piece fed (slice, first digit, number of digits), or a reset to a level

@@ -13,16 +13,17 @@ use Rattle.digits.proofs.Runs.{piece-step}
 use Rattle.table.specs.declared.Row.{Row}
 use Rattle.levels.specs.Table.{Shared}
 use Rattle.modes.specs.declared.Core.{Core}
-use Rattle.receiver.specs.declared.alarm.Stretch.{Stretch}
-use Rattle.receiver.specs.Alarm.{countOf, counted}
+use Rattle.pieces.specs.declared.alarm.Stretch.{Stretch}
+use Rattle.pieces.specs.Alarm.{countOf, counted}
 use Rattle.modes.specs.Modes.{hunting, windowOf, seenOf, asks, testedAt, placeAfter, afterDigit, stepOf}
-use Rattle.receiver.specs.Frame.{put, keepOf, aligned, readyOf}
+use Rattle.pieces.specs.Frame.{put, keepOf, aligned, readyOf}
 use Rattle.digits.specs.Runs.{pieceOf}
 use Rattle.receiver.specs.Feed.{stateOf, afterOf, runOf}
 use Rattle.modes.specs.Modes.{Valid}
-use Rattle.receiver.specs.Carry.{goneOn, Carried}
+use Rattle.pieces.specs.Carry.{goneOn}
+use Rattle.receiver.specs.Carry.{Carried}
 use Rattle.receiver.proofs.Validity.{step-valid}
-use Rattle.receiver.proofs.Counts.{counted-none, counted-one}
+use Rattle.pieces.proofs.Counts.{counted-none, counted-one}
 use Rattle.strides.specs.Strides.{windowOn, windowFrom}
 use Rattle.strides.specs.Copies.{puts}
 use Rattle.strides.specs.Copies as copies

@@ -15,16 +15,17 @@ use Rattle.levels.specs.Table.{Shared}
 use Rattle.modes.specs.declared.Mode.{Mode}
 use Rattle.modes.specs.declared.Mode.the-variants.{Hunting, OneFound, TwoFound, Aligned}
 use Rattle.modes.specs.declared.Core.{Core}
-use Rattle.receiver.specs.declared.alarm.Stretch.{Stretch}
-use Rattle.receiver.specs.Alarm.{countOf, counted}
+use Rattle.pieces.specs.declared.alarm.Stretch.{Stretch}
+use Rattle.pieces.specs.Alarm.{countOf, counted}
 use Rattle.modes.specs.Modes.{hunting, windowOf, seenOf, good, asks, testedAt, placeAfter, afterDigit, stepOf}
-use Rattle.receiver.specs.Frame.{keepOf, readyOf}
+use Rattle.pieces.specs.Frame.{keepOf, readyOf}
 use Rattle.digits.specs.Runs.{pieceOf}
 use Rattle.receiver.specs.Feed.{stateOf, afterOf, runOf}
 use Rattle.modes.specs.Modes.{Valid}
-use Rattle.receiver.specs.Hunt.{stillHunting, testedIn, Hunted}
+use Rattle.pieces.specs.Hunt.{stillHunting, testedIn}
+use Rattle.receiver.specs.Hunt.{Hunted}
 use Rattle.receiver.proofs.Validity.{step-valid}
-use Rattle.receiver.proofs.Counts.{counted-none, counted-one}
+use Rattle.pieces.proofs.Counts.{counted-none, counted-one}
 use Rattle.digits.proofs.Runs.{piece-step}
 use Rattle.digits.proofs.Tests.{cond-told}
 use Rattle.strides.specs.Strides.{windowOn, windowFrom, Word, Passed}

@@ -9,16 +9,16 @@ use Rattle.digits.specs.Digits.{digitsOf, between}
 use Rattle.digits.proofs.Runs.{piece-step}
 use Rattle.table.specs.declared.Row.{Row}
 use Rattle.modes.specs.declared.Core.{Core}
-use Rattle.receiver.specs.declared.alarm.Stretch.{Stretch}
+use Rattle.pieces.specs.declared.alarm.Stretch.{Stretch}
 use Rattle.modes.specs.Modes.{stepOf, testedAt}
-use Rattle.receiver.specs.Frame.{keepOf, readyOf}
-use Rattle.receiver.specs.Alarm.{counted, Counting}
+use Rattle.pieces.specs.Frame.{keepOf, readyOf}
+use Rattle.pieces.specs.Alarm.{counted, Counting}
 use Rattle.digits.specs.Runs.{pieceOf}
 use Rattle.receiver.specs.Feed.{stateOf, afterOf, accepted, runOf}
 use Rattle.modes.specs.Modes.{Valid}
 use Rattle.receiver.specs.Hunt.{Hunted}
 use Rattle.receiver.specs.Carry.{Carried}
-use Rattle.receiver.proofs.Counts.{counted-none, counted-one, counted-join}
+use Rattle.pieces.proofs.Counts.{counted-none, counted-one, counted-join}
 
 -- what is left to do at place p, with core c, frame f and the digits so far counted, is what was to do at the start
 pub record Going (row : Row) (slice : List ℕ) (first count end level : ℕ) (st₀ : Stretch) (c₀ : Core) (f₀ : List ℕ) (c : Core) (f : List ℕ) (words p : ℕ) : Type 0 where

@@ -14,8 +14,8 @@ use Rattle.modes.specs.declared.Mode.{Mode}
 use Rattle.modes.specs.declared.Mode.the-variants.{Hunting, OneFound, TwoFound, Aligned}
 use Rattle.modes.specs.declared.Core.{Core}
 use Rattle.modes.specs.Modes.{hunting, missed, windowOf, seenOf, good, asks, judged, placeAfter, afterDigit, stepOf}
-use Rattle.receiver.specs.declared.alarm.Stretch.{Stretch}
-use Rattle.receiver.specs.Alarm.{uncounted, Counting}
+use Rattle.pieces.specs.declared.alarm.Stretch.{Stretch}
+use Rattle.pieces.specs.Alarm.{uncounted, Counting}
 use Rattle.receiver.specs.Feed.{invalid, refusalOf}
 use Rattle.modes.specs.Modes.{Valid}
 

@@ -3,19 +3,13 @@ use mathlib.Core.Path.{_≡_}
 use mathlib.Core.List.{List}
 use Prim.Native.Nat.{ℕ, _+_, _-_, _≤_, _<_}
 use Rattle.table.specs.declared.Row.{Row}
-use Rattle.digits.specs.Digits.{digitsOf, between}
-use Rattle.strides.specs.Strides.{windowFrom}
+use Rattle.digits.specs.Digits.{between}
 use Rattle.modes.specs.declared.Core.{Core}
-use Rattle.receiver.specs.declared.alarm.Stretch.{Stretch}
-use Rattle.receiver.specs.Alarm.{counted}
+use Rattle.pieces.specs.declared.alarm.Stretch.{Stretch}
+use Rattle.pieces.specs.Alarm.{counted}
 use Rattle.digits.specs.Runs.{pieceOf}
 use Rattle.receiver.specs.Feed.{stateOf, runOf}
 use Rattle.modes.specs.Modes.{Valid}
-
--- a core after k digits, from place p of a slice on, at which no rule looks
-unfoldable pub goneOn : Row → List ℕ → ℕ → Core → ℕ → Core
-goneOn row slice p c k =
-    record { window = windowFrom (row .len) (digitsOf slice) p (c .window) k; seen = c .seen; mode = c .mode; place = c .place + k }
 
 -- from core c and frame f at digit p of a slice, of which the digits before `end` are to be taken, it went to core c′ and frame f′ at digit
 -- at, and tested no word

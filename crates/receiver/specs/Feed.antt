@@ -13,13 +13,13 @@ use Rattle.table.specs.declared.Level.the-variants.{Of, NoSuchLevel}
 use Rattle.table.specs.Table.{levelOf}
 use Rattle.modes.specs.declared.Mode.the-variants.{Hunting}
 use Rattle.modes.specs.declared.Core.{Core}
-use Rattle.receiver.specs.declared.alarm.Stretch.{Stretch}
+use Rattle.pieces.specs.declared.alarm.Stretch.{Stretch}
 use Rattle.receiver.specs.declared.State.{State}
 use Rattle.receiver.specs.declared.Made.{Made}
 use Rattle.receiver.specs.declared.Fed.{Fed}
 use Rattle.modes.specs.Modes.{hunting, missed, stepOf, testedAt, Valid}
-use Rattle.receiver.specs.Frame.{keepOf, readyOf}
-use Rattle.receiver.specs.Alarm.{countOf, freshStretch, uncounted, Counting}
+use Rattle.pieces.specs.Frame.{keepOf, readyOf}
+use Rattle.pieces.specs.Alarm.{countOf, freshStretch, uncounted, Counting}
 
 -- a state is its level, its core, the frame in hand and the stretch that is being cut
 abbrev pub coreOf : State → Core
@@ -50,7 +50,7 @@ FreshMet level made = made ≡ freshOf level
 -- ---- refusals
 
 -- 6: "receiver state is not valid: [level wrong,] window at or over 2 to the L, digits seen over L, missed over 3, place at or
--- over N, hunting with a place other than 0, or not hunting with fewer than L digits seen"; and `uncounted` of specs/Alarm.antt
+-- over N, hunting with a place other than 0, or not hunting with fewer than L digits seen"; and `uncounted` of crates/pieces/specs/Alarm.antt
 unfoldable pub invalid : Row → Core → Bool
 invalid row c =
     leb (2 ^ row .len) (c .window)

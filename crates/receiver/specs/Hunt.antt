@@ -1,23 +1,15 @@
 -- The hunt in a hurry: what an inner function of the run promises. What is left to do after it is what was to do before.
 use mathlib.Core.Path.{_≡_}
 use mathlib.Core.List.{List}
-use Prim.Native.Nat.{ℕ, _+_, _-_, _≤_, _<_, min}
+use Prim.Native.Nat.{ℕ, _+_, _-_, _≤_, _<_}
 use Rattle.table.specs.declared.Row.{Row}
-use Rattle.modes.specs.declared.Mode.the-variants.{Hunting}
 use Rattle.digits.specs.Digits.{between}
 use Rattle.modes.specs.declared.Core.{Core}
-use Rattle.receiver.specs.declared.alarm.Stretch.{Stretch}
-use Rattle.receiver.specs.Alarm.{counted}
+use Rattle.pieces.specs.declared.alarm.Stretch.{Stretch}
+use Rattle.pieces.specs.Alarm.{counted}
 use Rattle.digits.specs.Runs.{pieceOf}
 use Rattle.receiver.specs.Feed.{stateOf, runOf}
 use Rattle.modes.specs.Modes.{Valid}
-
-unfoldable pub stillHunting : Row → ℕ → ℕ → Core
-stillHunting row w came = record { window = w; seen = min came (row .len); mode = Hunting; place = 0 }
-
--- hunting, every digit from the L-th since reset on tests a word: so many while the digits that came grow from seen to came
-abbrev pub testedIn : Row → ℕ → ℕ → ℕ
-testedIn row seen came = came + 1 - row .len - (seen + 1 - row .len)
 
 -- from core c at digit p of a slice, of which the digits before `end` are to be taken, it went to core c′ at digit at, and tested so
 -- many words

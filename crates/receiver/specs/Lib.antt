@@ -1,7 +1,5 @@
-pub mod Frame
-pub mod Alarm
 pub mod Feed
 pub mod Numbers
 pub mod Hunt
-pub mod Turns
 pub mod Carry
+pub mod Nothing

@@ -9,7 +9,7 @@ use Rattle.modes.specs.declared.Mode.{Mode}
 use Rattle.modes.specs.declared.Mode.the-variants.{Hunting, OneFound, TwoFound, Aligned}
 use Rattle.receiver.specs.declared.State.{State}
 use Rattle.receiver.specs.declared.Fed.{Fed}
-use Rattle.receiver.specs.declared.alarm.Stretch.{Stretch}
+use Rattle.pieces.specs.declared.alarm.Stretch.{Stretch}
 use Rattle.receiver.specs.Feed.{refused, feedOf}
 
 -- mode: 0 hunting, 1 one found, 2 two found, 3 + m aligned with m missed

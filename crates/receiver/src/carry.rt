@@ -1,37 +1,16 @@
 // Outside hunting, in a hurry: digits at which no rule looks move the window and the place, and are put in the frame. The digit at
 // which a rule looks, or the last one, is left to `step`.
-use crate::frame;
 use modes::Core;
+use pieces::carry;
+use pieces::carry::Carry;
+use pieces::frame;
 use table::Row;
 ghost use mathlib.Core.Path.{_≡_};
-ghost use Prim.Native.Nat.{_+_, _*_, _-_, _^_, _<_, _≤_};
+ghost use Prim.Native.Nat.{_*_, _-_, _^_, _<_, _≤_};
 ghost use lib.ListN.{length};
 ghost use Rattle.levels.specs.Table.{Shared};
 ghost use Rattle.modes.specs.Modes.{Valid};
-ghost use Rattle.receiver.specs.Carry.{goneOn, Carried};
-
-// The core, and the place of the next digit in the piece.
-pub struct Carry {
-    pub core: Core,
-    pub at: usize,
-}
-
-fn gone_on(row: Row, mask: usize, c: Core, piece: &[u8], first: usize, at: usize) -> Carry
-    requires { ⌜ Shared row × (mask ≡ 2 ^ row .len - 1) × Valid row c × (length (now piece) ≤ 65536) × (first ≤ at) × (at ≤ 8 * length (now piece)) ⌝ }
-    ensures { λ r. ⌜ (r .core ≡ goneOn row (now (piece .entry)) first c (at - first)) × (r .at ≡ at) ⌝ }
-{
-    let mode = c.mode;
-    let window = strides::window_over(row.len, mask, c.window, piece, first, at);
-    Carry {
-        core: Core {
-            window,
-            seen: c.seen,
-            mode,
-            place: c.place + (at - first),
-        },
-        at,
-    }
-}
+ghost use Rattle.receiver.specs.Carry.{Carried};
 
 // Goes at once to the digit before the one at which a rule looks: before the last digit of the frame, from there on before the last of the next
 // word.
@@ -55,8 +34,8 @@ pub fn carry_on(
     if c.place < last {
         let at = first + strides::lesser(last - 1 - c.place, end - 1 - first);
         frame::copy(f, row.len + c.place, piece, first, at);
-        return gone_on(row, mask, c, piece, first, at);
+        return carry::gone_on(row, mask, c, piece, first, at);
     }
     let at = first + strides::lesser(row.digits - 1 - c.place, end - 1 - first);
-    gone_on(row, mask, c, piece, first, at)
+    carry::gone_on(row, mask, c, piece, first, at)
 }

@@ -1,38 +1,26 @@
 // The receiver: finding frames in a stream of digits. Two calls, `fresh` and `feed`; a state goes in by value and comes
 // back by value. Each answer equals a definition of specs/Feed.antt, for any state and any piece whatever; the whole statement
 // of each call has a name there.
-pub mod alarm;
 mod carry;
-mod frame;
 mod hurry;
 pub mod numbers;
 
-use crate::alarm::Stretch;
 use modes::Core;
 use modes::Mode;
+use pieces::alarm;
+use pieces::alarm::Stretch;
+use pieces::frame;
 use table::Level;
 use table::Row;
 ghost use mathlib.Core.Path.{_≡_};
 ghost use Prim.Native.Nat.{_+_, _*_, _-_, _<_, _≤_};
 ghost use lib.ListN.{length};
 ghost use Rattle.levels.specs.Table.{Shared};
-ghost use Rattle.receiver.specs.Frame.{aligned};
-ghost use Rattle.receiver.specs.Alarm.{Counting};
+ghost use Rattle.pieces.specs.Alarm.{Counting};
 ghost use Rattle.digits.specs.Runs.{pieceOf};
 ghost use Rattle.receiver.specs.Feed.{coreOf, stateOf, invalid, refusalOf, refused};
 ghost use Rattle.modes.specs.Modes.{Valid};
 ghost use Rattle.receiver.specs.Feed.{accepted, runOf, feedRow, freshState, FreshMet, FeedMet};
-
-pub fn is_aligned(mode: Mode) -> bool
-    ensures { λ r. ⌜ r ≡ aligned mode ⌝ }
-{
-    match mode {
-        Mode::Hunting => false,
-        Mode::OneFound => false,
-        Mode::TwoFound => false, // only the third good word aligns
-        Mode::Aligned(_) => true,
-    }
-}
 
 // The level, the last L digits (the newest worth 1), how many digits came since reset (stopping at L), the mode, the
 // place, the frame in hand, and the stretch that is being cut.

@@ -2,8 +2,8 @@
 // number stands for what.
 use crate::Fed;
 use crate::State;
-use crate::alarm::Stretch;
 use modes::Mode;
+use pieces::alarm::Stretch;
 ghost use mathlib.Core.Path.{_≡_};
 ghost use Prim.Native.Nat.{_+_, _<_};
 ghost use Rattle.receiver.specs.Numbers.{modeNumber, modeOf, stateFrom, stateNumbers, fedBy, fedAnswer};

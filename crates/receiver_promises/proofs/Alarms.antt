@@ -19,16 +19,16 @@ use Rattle.levels.specs.Table.{Shared}
 use Rattle.levels.proofs.Rows.{shared-row}
 use Rattle.receiver.specs.declared.State.{State}
 use Rattle.receiver.specs.declared.Fed.{Fed}
-use Rattle.receiver.specs.declared.alarm.Stretch.{Stretch}
-use Rattle.receiver.specs.Alarm.{isFew, alarmAfter, ended, added, counted, freshStretch, Counting}
+use Rattle.pieces.specs.declared.alarm.Stretch.{Stretch}
+use Rattle.pieces.specs.Alarm.{isFew, alarmAfter, ended, added, counted, freshStretch, Counting}
 use Rattle.receiver_promises.specs.Stretches.{stretchesOf, alarmOver, alarmOf, EverywhereFew}
 use Rattle.digits.specs.Runs.{pieceOf}
 use Rattle.receiver.specs.Feed.{freshState, afterOf, feedOf}
 use Rattle.receiver_promises.specs.History.{heard, since}
 use Rattle.digits.specs.Runs.{Piece, AllLent, digitsInAll, leftBy, callsForAll}
 use Rattle.receiver_promises.specs.Calls.{callOf}
-use Rattle.receiver.proofs.Counts.{counted-append, counted-added}
-use Rattle.receiver.proofs.Holding.{word-within}
+use Rattle.pieces.proofs.Counts.{counted-append, counted-added}
+use Rattle.pieces.proofs.Holding.{word-within}
 use Rattle.receiver_promises.proofs.Pieces.{heard-stretch, accepted-answer, ran}
 use Rattle.receiver_promises.proofs.Calls.{fresh-stream}
 

@@ -14,7 +14,7 @@ use Rattle.modes.specs.declared.Mode.{Mode}
 use Rattle.modes.specs.declared.Mode.the-variants.{Hunting, OneFound, TwoFound, Aligned}
 use Rattle.receiver.specs.declared.State.{State}
 use Rattle.modes.specs.Modes.{hunting, seenOf, good, asks, judged, placeAfter, afterDigit, stepOf}
-use Rattle.receiver.specs.Frame.{aligned, readyOf}
+use Rattle.pieces.specs.Frame.{aligned, readyOf}
 use Rattle.receiver.specs.Feed.{coreOf, afterOf}
 use Rattle.receiver_promises.specs.History.{heard}
 use Rattle.digits.proofs.Tests.{cond-told, and-both}

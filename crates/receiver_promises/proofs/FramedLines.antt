@@ -18,14 +18,14 @@ use Rattle.table.specs.Table.{levelOf}
 use Rattle.levels.specs.Table.{Shared}
 use Rattle.levels.proofs.Rows.{shared-row}
 use Rattle.receiver.specs.declared.State.{State}
-use Rattle.receiver.specs.declared.alarm.Stretch.{Stretch}
-use Rattle.receiver.specs.Alarm.{Counting}
+use Rattle.pieces.specs.declared.alarm.Stretch.{Stretch}
+use Rattle.pieces.specs.Alarm.{Counting}
 use Rattle.receiver_promises.specs.Stretches.{EverywhereFew}
 use Rattle.receiver.specs.Feed.{freshState}
 use Rattle.receiver_promises.specs.History.{heard, since}
 use Rattle.receiver_promises.specs.Line.{inFrame, Framed}
 use Rattle.digits.proofs.Written.{written-length}
-use Rattle.receiver.proofs.Holding.{word-within}
+use Rattle.pieces.proofs.Holding.{word-within}
 use Rattle.receiver_promises.proofs.Pieces.{heard-stretch}
 use Rattle.receiver_promises.proofs.Alarms.{some-digits, stays, heard-settles}
 

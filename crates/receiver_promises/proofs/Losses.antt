@@ -14,10 +14,10 @@ use Rattle.levels.specs.Table.{Shared}
 use Rattle.modes.specs.declared.Mode.the-variants.{Hunting, Aligned}
 use Rattle.receiver.specs.declared.State.{State}
 use Rattle.modes.specs.Modes.{seenOf, asks}
-use Rattle.receiver.specs.Frame.{aligned, readyOf}
+use Rattle.pieces.specs.Frame.{aligned, readyOf}
 use Rattle.receiver.specs.Feed.{coreOf, afterOf}
 use Rattle.receiver_promises.specs.History.{heard, readyAfter, Missed}
-use Rattle.receiver.proofs.Holding.{word-within}
+use Rattle.pieces.proofs.Holding.{word-within}
 use Rattle.digits.proofs.Tests.{and-asked}
 use Rattle.receiver_promises.proofs.Alignment.{after-on, after-turn, asked-at, up-one, frame-ready, missed-on, missed-out, not-before}
 use Rattle.receiver_promises.proofs.Traces.{aligned-held}

@@ -22,15 +22,15 @@ use Rattle.levels.proofs.Rows.{shared-row}
 use Rattle.receiver.specs.declared.State.{State}
 use Rattle.receiver.specs.declared.Fed.{Fed}
 use Rattle.modes.specs.Modes.{testedAt}
-use Rattle.receiver.specs.Frame.{readyOf}
+use Rattle.pieces.specs.Frame.{readyOf}
 use Rattle.digits.specs.Runs.{pieceOf}
 use Rattle.receiver.specs.Feed.{coreOf, freshState, freshOf, invalid, refusalOf, afterOf, accepted, refused, runOf, feedRow, feedOf, ValidState}
 use Rattle.modes.specs.Modes.{Valid}
-use Rattle.receiver.specs.Alarm.{uncounted, counted, Counting}
+use Rattle.pieces.specs.Alarm.{uncounted, counted, Counting}
 use Rattle.receiver_promises.specs.History.{heard, testedBy, readyAt, readyAfter, since, joined, Handed}
 use Rattle.digits.proofs.Lists.{binary-append, binary-take}
 use Rattle.receiver.proofs.Validity.{valid-only, counting-only, step-valid, Accepted, accepted-if, accepted-only}
-use Rattle.receiver.proofs.Counts.{counted-counting}
+use Rattle.pieces.proofs.Counts.{counted-counting}
 use Rattle.receiver_promises.proofs.Traces.{Traced, traced-fresh, traced, handed}
 
 -- ---- histories

@@ -1,4 +1,4 @@
--- The alarm by the numbers of the stretches: at each stretch's end it turns as request 4's sentences say (crate receiver, specs/Turns.antt), and it stands after
+-- The alarm by the numbers of the stretches: at each stretch's end it turns as request 4's sentences say (crate pieces, specs/Turns.antt), and it stands after
 -- a history exactly if two stretches in a row had few and no two in a row since had each more.
 use mathlib.Core.Path.{_≡_, refl, sym, ap, _∙_}
 use mathlib.Core.Bool.{Bool, true, false, true≢false}
@@ -15,12 +15,12 @@ use Rattle.table.specs.declared.Row.{Row}
 use Rattle.table.specs.declared.Level.the-variants.{Of}
 use Rattle.table.specs.Table.{levelOf}
 use Rattle.levels.proofs.Rows.{shared-row}
-use Rattle.receiver.specs.declared.alarm.Stretch.{Stretch}
-use Rattle.receiver.specs.Alarm.{ended, counted, freshStretch}
-use Rattle.receiver.specs.Turns.{Turns}
+use Rattle.pieces.specs.declared.alarm.Stretch.{Stretch}
+use Rattle.pieces.specs.Alarm.{ended, counted, freshStretch}
+use Rattle.pieces.specs.Turns.{Turns}
 use Rattle.receiver.specs.Feed.{freshState}
-use Rattle.receiver.proofs.Counts.{counted-append}
-use Rattle.receiver.proofs.Turns.{ended-turns}
+use Rattle.pieces.proofs.Counts.{counted-append}
+use Rattle.pieces.proofs.Turns.{ended-turns}
 use Rattle.receiver_promises.specs.Stretches.{stretchAt, FewAt, MoreAt, Stands, afterStretches}
 use Rattle.receiver_promises.specs.History.{since}
 use Rattle.receiver_promises.proofs.Pieces.{heard-stretch}

@@ -18,14 +18,14 @@ use Rattle.modes.specs.declared.Mode.the-variants.{Hunting, OneFound, TwoFound,
 use Rattle.modes.specs.declared.Core.{Core}
 use Rattle.receiver.specs.declared.State.{State}
 use Rattle.modes.specs.Modes.{hunting, windowOf, seenOf, asks, placeAfter, afterDigit, stepOf}
-use Rattle.receiver.specs.Frame.{holding, begun, put, keepOf, aligned, readyOf}
+use Rattle.pieces.specs.Frame.{holding, begun, put, keepOf, aligned, readyOf}
 use Rattle.receiver.specs.Feed.{coreOf, freshState, afterOf}
 use Rattle.modes.specs.Modes.{Valid}
 use Rattle.digits.specs.Histories.{lastOf}
 use Rattle.receiver_promises.specs.History.{heard, since, Handed}
 use Rattle.digits.proofs.Written.{written-zero}
 use Rattle.digits.proofs.Lists.{binary-append}
-use Rattle.receiver.proofs.Holding.{word-within, holding-digits, holding-length}
+use Rattle.pieces.proofs.Holding.{word-within, holding-digits, holding-length}
 use Rattle.digits.proofs.Tests.{cond-told, and-both}
 use Rattle.receiver.proofs.Validity.{step-valid, asked-came}
 use Rattle.digits.proofs.Lasts.{last-length, last-binary, last-more, last-zeros}

@@ -16,12 +16,12 @@ use Rattle.modes.specs.declared.Mode.{Mode}
 use Rattle.modes.specs.declared.Mode.the-variants.{Hunting, OneFound, TwoFound, Aligned}
 use Rattle.receiver.specs.declared.State.{State}
 use Rattle.modes.specs.Modes.{hunting, seenOf, good, asks, judged, placeAfter}
-use Rattle.receiver.specs.Frame.{aligned, readyOf}
+use Rattle.pieces.specs.Frame.{aligned, readyOf}
 use Rattle.receiver.specs.Feed.{coreOf, freshState, afterOf}
 use Rattle.digits.specs.Histories.{lastOf, ago}
 use Rattle.receiver_promises.specs.History.{heard, readyAfter, since, WordCame, ThreeWords}
 use Rattle.digits.proofs.Written.{written-inj}
-use Rattle.receiver.proofs.Holding.{word-within}
+use Rattle.pieces.proofs.Holding.{word-within}
 use Rattle.digits.proofs.Tests.{cond-told, and-both}
 use Rattle.receiver.proofs.Validity.{asked-came}
 use Rattle.digits.proofs.Lasts.{ago-none, ago-more, last-zeros}

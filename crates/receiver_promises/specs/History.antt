@@ -12,7 +12,7 @@ use Rattle.table.specs.declared.Row.{Row}
 use Rattle.receiver.specs.declared.State.{State}
 use Rattle.receiver.specs.declared.Fed.{Fed}
 use Rattle.modes.specs.Modes.{good, testedAt}
-use Rattle.receiver.specs.Frame.{holding, readyOf}
+use Rattle.pieces.specs.Frame.{holding, readyOf}
 use Rattle.receiver.specs.Feed.{coreOf, afterOf, freshState}
 
 -- the state that these digits make of a state, whatever calls they came in

@@ -7,8 +7,8 @@ use Prim.Native.Nat.{ℕ, zero, suc, _+_, _*_, _/_, _≤_, _<_}
 use lib.ListN.{length, take, drop}
 use Rattle.digits.specs.Digits.{zerosIn}
 use Rattle.table.specs.declared.Row.{Row}
-use Rattle.receiver.specs.declared.alarm.Stretch.{Stretch}
-use Rattle.receiver.specs.Alarm.{isFew, alarmAfter, counted, freshStretch}
+use Rattle.pieces.specs.declared.alarm.Stretch.{Stretch}
+use Rattle.pieces.specs.Alarm.{isFew, alarmAfter, counted, freshStretch}
 
 -- the first n stretches of these digits, N digits each
 unfoldable pub stretchesOf : Row → ℕ → List ℕ → List (List ℕ)

@@ -14,7 +14,7 @@ use Rattle.table.specs.declared.Row.{Row}
 use Rattle.table.specs.Table.{row2, row3, row4, row12, row14}
 use Rattle.modes.specs.declared.Mode.the-variants.{TwoFound, Aligned}
 use Rattle.receiver.specs.declared.State.{State}
-use Rattle.receiver.specs.Alarm.{freshStretch}
+use Rattle.pieces.specs.Alarm.{freshStretch}
 use Rattle.modes.specs.Modes.{windowOf, seenOf, good, asks, placeAfter, afterDigit, stepOf}
 use Rattle.receiver.specs.Feed.{stateOf, afterOf, coreOf}
 use Rattle.modes.specs.Modes.{Valid}

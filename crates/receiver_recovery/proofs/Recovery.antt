@@ -24,7 +24,7 @@ use Rattle.receiver.specs.declared.State.{State}
 use Rattle.modes.specs.Modes.{hunting, windowOf, seenOf, good, asks}
 use Rattle.receiver.specs.Feed.{coreOf, freshState, afterOf, ValidState}
 use Rattle.modes.specs.Modes.{Valid}
-use Rattle.receiver.proofs.Holding.{word-within}
+use Rattle.pieces.proofs.Holding.{word-within}
 use Rattle.receiver_promises.specs.History.{heard, since}
 use Rattle.receiver_promises.specs.Calls.{callOf}
 use Rattle.receiver_promises.specs.Line.{inFrame}

@@ -15,13 +15,13 @@ use Rattle.levels.specs.Faults.{badEarlier, sendFaultOf, sendAnswered, answered
 use Rattle.multiplex.specs.Multiplex as multiplex
 use Rattle.reading.specs.Reading.{noted, notesAfter}
 use Rattle.extraction.specs.Extract.{bufferAfter}
-use Rattle.plain.specs.declared.Answered.{Answered}
-use Rattle.plain.specs.declared.NotesRead.{NotesRead}
-use Rattle.plain.specs.Engine as plain
+use Rattle.engine.specs.declared.Answered.{Answered}
+use Rattle.engine.specs.declared.NotesRead.{NotesRead}
+use Rattle.engine.specs.Engine as plain
 use Rattle.plain_promises.proofs.Engines.{same-multiplexing, same-reading, same-extraction}
 use Rattle.judge.specs.Verdict as judge
 use Rattle.judge.specs.Verdict.{badPattern, judged}
-use Rattle.compare.specs.Compare.{countedOn}
+use Rattle.differing.specs.Differing.{countedOn}
 use Rattle.compare.specs.Lines.{linesRefusal, linesOf, stretchOn, stretchOf}
 use Rattle.copying.specs.Copying.{hasDigits, copies, CopyMet}
 use Rattle.naming.specs.Frames as frames

@@ -28,8 +28,9 @@ use Rattle.repair.specs.Repair as repair
 use Rattle.captures.specs.declared.Written.{Written}
 use Rattle.captures.specs.declared.Reading.{Reading}
 use Rattle.captures.specs.Captures.{writeRefusal, writtenOf, leftOf, WriteMet, endAt, fieldAt, unread, afterLine, fieldsOf, readOf, ReadMet}
+use Rattle.differing.specs.declared.Compared.{Compared}
+use Rattle.differing.specs.Differing.{countedOn}
 use Rattle.compare.specs.declared.Fault as compared
-use Rattle.compare.specs.declared.Compared.{Compared}
 use Rattle.compare.specs.Compare as comparing
 use Rattle.compare.specs.Lines as two-lines
 use Rattle.copying.specs.Copying.{copies, CopyMet}
@@ -41,12 +42,13 @@ use Rattle.finder_2048.specs.declared.Fed as found
 use Rattle.finder_2048.specs.Feed as finding
 use Rattle.receiver.specs.declared.Fed.{Fed}
 use Rattle.receiver.specs.Feed.{freshState}
-use Rattle.receiver.specs.Turns.{Nothing}
-use Rattle.receiver.proofs.Turns.{refused-nothing}
-use Rattle.rack.specs.declared.record.Record.{Record}
+use Rattle.receiver.specs.Nothing.{Nothing}
+use Rattle.receiver.proofs.Nothing.{refused-nothing}
+use Rattle.records.specs.declared.record.Record.{Record}
 use Rattle.receiver.specs.Numbers.{fedBy}
-use Rattle.rack.specs.Record.{stateFrom, recordOf, fedRecord}
+use Rattle.records.specs.Record.{stateFrom, recordOf, fedRecord}
 use Rattle.rack.specs.Rack as rack
+use Rattle.records.specs.Rule.{listRefusal}
 use Rattle.refusals.specs.Nothing.{CountedNothing, NotedNothing, SwappedNothing, RepairedNothing, ComparedNothing, WrittenNothing, ReadNothing, BuiltNothing, FoundNothing, RackNothing}
 
 -- ---- lines
@@ -222,7 +224,7 @@ fault-byte one other =
 
 pub compare-nothing : (one other lent : List ℕ) (answer : Compared) (left : List ℕ) → comparing.CompareMet one other lent answer left
     → (answer .refusal ≡ 0 → ⊥) → ComparedNothing answer lent left
-unfolding comparing.comparedOf comparing.listedOf comparing.countedOn
+unfolding comparing.comparedOf comparing.listedOf countedOn
 compare-nothing one other lent answer left met h =
     rw (met .0, met .1) (go (eqb (f .refusal) 0) refl (levelOf (readOf one .level)) refl (λ e. h (ap (λ (a : Compared). a .refusal) (met .0) ∙ e)))
   where
@@ -237,7 +239,7 @@ compare-nothing one other lent answer left met h =
 
 pub lines-nothing : (level : ℕ) (one other lent : List ℕ) (answer : Compared) (left : List ℕ) → two-lines.LinesMet level one other lent answer left
     → (answer .refusal ≡ 0 → ⊥) → ComparedNothing answer lent left
-unfolding two-lines.linesOf two-lines.linesListed comparing.countedOn
+unfolding two-lines.linesOf two-lines.linesListed countedOn
 lines-nothing level one other lent answer left met h = rw (met .0, met .1) (go (levelOf level) refl (λ e. h (ap (λ (a : Compared). a .refusal) (met .0) ∙ e)))
   where
     go : (l : Level) → levelOf level ≡ l → (two-lines.linesOf level one other .refusal ≡ 0 → ⊥)
@@ -314,7 +316,7 @@ fed-nothing r piece first count =
 
 pub rack-nothing : (records : List Record) (line : ℕ) (piece : List ℕ) (first count returned : ℕ) (left : List Record) (answer : List ℕ)
     → rack.FeedMet records line piece first count returned left answer → (returned ≡ 0 → ⊥) → RackNothing records left answer
-rack-nothing records line piece first count returned left answer met h = by (eqb (rack.listRefusal (length records) line) 0) refl
+rack-nothing records line piece first count returned left answer met h = by (eqb (listRefusal (length records) line) 0) refl
   where
     r : Record
     r = rack.at records line
@@ -322,7 +324,7 @@ rack-nothing records line piece first count returned left answer met h = by (eqb
     f : Fed
     f = fedRecord r piece first count
 
-    alone : (f .refusal ≡ 0 → ⊥) → eqb (rack.listRefusal (length records) line) 0 ≡ true → RackNothing records left answer
+    alone : (f .refusal ≡ 0 → ⊥) → eqb (listRefusal (length records) line) 0 ≡ true → RackNothing records left answer
     alone refused t =
         let s = fed-nothing r piece first count refused in
         record {
@@ -330,6 +332,6 @@ rack-nothing records line piece first count returned left answer met h = by (eqb
           kept = met .1 ∙ rw (t, ne-eqb (f .refusal) 0 refused) (set-getD records line (recordOf (freshState 0)));
         }
 
-    by : (t : Bool) → eqb (rack.listRefusal (length records) line) 0 ≡ t → RackNothing records left answer
+    by : (t : Bool) → eqb (listRefusal (length records) line) 0 ≡ t → RackNothing records left answer
     by false t = record { none = met .2 ∙ rw t; kept = met .1 ∙ rw t }
     by true t = alone (λ e. h (met .0 ∙ rw t e)) t

@@ -21,19 +21,22 @@ use Rattle.repair.specs.Repair as repair
 use Rattle.repair.specs.Repair.{repaired}
 use Rattle.captures.specs.declared.Reading.{Reading}
 use Rattle.captures.specs.Captures.{fileOf, writeRefusal, writtenOf, endAt, fieldAt, afterLine, fieldsOf, readOf}
+use Rattle.differing.specs.Differing.{countedOn}
 use Rattle.compare.specs.Compare as compare
 use Rattle.receiver.specs.declared.State.{State}
 use Rattle.receiver.specs.declared.Fed.{Fed}
 use Rattle.modes.specs.Modes.{testedAt}
-use Rattle.receiver.specs.Frame.{readyOf}
-use Rattle.receiver.specs.Alarm.{uncounted}
+use Rattle.pieces.specs.Frame.{readyOf}
+use Rattle.pieces.specs.Alarm.{uncounted}
 use Rattle.digits.specs.Runs.{pieceOf}
 use Rattle.receiver.specs.Feed.{coreOf, freshOf, invalid, refusalOf, afterOf, runOf, feedRow, feedOf}
-use Rattle.rack.specs.declared.record.Record.{Record}
-use Rattle.rack.specs.declared.record.Kept.{Kept}
+use Rattle.records.specs.declared.record.Record.{Record}
+use Rattle.records.specs.declared.record.Kept.{Kept}
 use Rattle.receiver.specs.Numbers.{fedBy}
-use Rattle.rack.specs.Record.{stateFrom, fedRecord, keptReset}
-use Rattle.rack.specs.Rack.{at, listRefusal, refusalBy, fedAlone, countRefusal}
+use Rattle.rack.specs.Rack.{keptReset}
+use Rattle.records.specs.Record.{stateFrom, fedRecord}
+use Rattle.rack.specs.Rack.{at, refusalBy, fedAlone}
+use Rattle.records.specs.Rule.{listRefusal, countRefusal}
 use Rattle.multiframe.specs.Calls.{lengthsRight, silentFrom, firstSilent, builtOf}
 use Rattle.finder_2048.specs.declared.State as finder
 use Rattle.finder_2048.specs.Feed as finding
@@ -226,13 +229,13 @@ has-level file ok none = go (eqb (fieldsOf file .refusal) 0) refl (levelOf (fiel
         by-line false z = some (sym y ∙ (rw (x, y, z) at none))
 
 pub compare-order : (one other : List ℕ) → FirstThatApplies (compareTable one other) (compare.comparedOf one other .refusal)
-unfolding compare.faultOf compare.comparedOf compare.countedOn
+unfolding compare.faultOf compare.comparedOf countedOn
 compare-order one other =
     is-first (compareTable one other) (compare.comparedOf one other .refusal)
     (by (eqb (readOf one .refusal) 0) (eqb (readOf other .refusal) 0) (eqb (readOf one .level) (readOf other .level)) (eqb (readOf one .line .bytes) (readOf other .line .bytes)) refl refl refl refl)
   where
     accepted : (l : Level) → levelOf (readOf one .level) ≡ l → readOf one .refusal ≡ 0
-        → 0 ≡ onLevel l (λ (row : Row). compare.countedOn row (compare.lineOf one) (compare.lineOf other)) (compare.refusedBy (compare.faultIn 1 0 0)) .refusal
+        → 0 ≡ onLevel l (λ (row : Row). countedOn row (compare.lineOf one) (compare.lineOf other)) (compare.refusedBy (compare.faultIn 1 0 0)) .refusal
     accepted (Of row) e ok = refl
     accepted NoSuchLevel e ok = absurd (has-level one ok e)
 

@@ -1,6 +1,6 @@
 -- Demand 1: "A refusal writes nothing and hands a state back unchanged." Document 01: "Under a refusal nothing lent is written, all counts and digits taken are 0, ..
 -- and the named frame is 0 except under 5", and 10. What each call answers and leaves where it is refused: lent is what was lent for writing, left what is there at the end.
--- (The receiver's is crate receiver, specs/Turns.antt.)
+-- (The receiver's is crate receiver, specs/Nothing.antt.)
 use mathlib.Core.Path.{_≡_}
 use mathlib.Core.Bool.{false}
 use mathlib.Core.List.{List, [], _∷_}
@@ -10,14 +10,14 @@ use Rattle.levels.specs.declared.faults.Counted.{Counted}
 use Rattle.reading.specs.declared.Noted.{Noted}
 use Rattle.swap.specs.declared.Swapped.{Swapped}
 use Rattle.repair.specs.declared.Repaired.{Repaired}
-use Rattle.compare.specs.declared.Compared.{Compared}
+use Rattle.differing.specs.declared.Compared.{Compared}
 use Rattle.captures.specs.declared.Written.{Written}
 use Rattle.captures.specs.declared.Reading.{Reading}
 use Rattle.captures.specs.Captures.{nowhere}
 use Rattle.multiframe.specs.declared.Built.{Built}
 use Rattle.finder_2048.specs.declared.State as finder
 use Rattle.finder_2048.specs.declared.Fed as found
-use Rattle.rack.specs.declared.record.Record.{Record}
+use Rattle.records.specs.declared.record.Record.{Record}
 
 abbrev pub fourZeros : List ℕ
 fourZeros = 0 ∷ 0 ∷ 0 ∷ 0 ∷ []

@@ -11,10 +11,10 @@ use Rattle.levels.specs.Faults.{overfull, unset, badEarlier}
 use Rattle.swap.specs.Swap.{badTributary, badRoom}
 use Rattle.captures.specs.Captures.{fileOf, fieldsOf, readOf}
 use Rattle.receiver.specs.declared.State.{State}
-use Rattle.receiver.specs.Alarm.{uncounted}
+use Rattle.pieces.specs.Alarm.{uncounted}
 use Rattle.receiver.specs.Feed.{coreOf, invalid}
-use Rattle.rack.specs.declared.record.Record.{Record}
-use Rattle.rack.specs.Record.{stateFrom}
+use Rattle.records.specs.declared.record.Record.{Record}
+use Rattle.records.specs.Record.{stateFrom}
 use Rattle.rack.specs.Rack.{at}
 use Rattle.multiframe.specs.Calls.{lengthsRight, onesOf}
 use Rattle.finder_2048.specs.declared.State as finder

@@ -4,7 +4,7 @@ use mathlib.Core.Path.{_≡_}
 use mathlib.Core.List.{List, [], _∷_}
 use Prim.Native.Nat.{ℕ}
 use lib.ListN.{getD}
-use Rattle.compare.specs.declared.Compared.{Compared}
+use Rattle.differing.specs.declared.Compared.{Compared}
 use Rattle.compare.specs.declared.lines.Stretch.{Stretch}
 use Rattle.compare.specs.Compare.{comparedOf, listedOf}
 use Rattle.compare.specs.Lines.{linesOf, linesListed, stretchOf}

@@ -3,9 +3,9 @@ use mathlib.Core.Path.{_≡_}
 use mathlib.Core.List.{List, [], _∷_}
 use Prim.Native.Nat.{ℕ}
 use lib.ListN.{getD}
-use Rattle.plain.specs.declared.Answered.{Answered}
-use Rattle.plain.specs.declared.NotesRead.{NotesRead}
-use Rattle.plain.specs.Engine.{multiplexed, lineAfter, notesRead, notesAfter, extracted, bufferAfter}
+use Rattle.engine.specs.declared.Answered.{Answered}
+use Rattle.engine.specs.declared.NotesRead.{NotesRead}
+use Rattle.engine.specs.Engine.{multiplexed, lineAfter, notesRead, notesAfter, extracted, bufferAfter}
 
 -- answer: four digit counts, named frame
 abbrev pub answeredAnswer : Answered → List ℕ

@@ -1,7 +1,7 @@
 // The C face of the comparisons, of two captures, of two lines and of a stretch of them: the fifteen sums and the list pass as numbers.
-use compare::Compared;
 use compare::lines;
 use compare::lines::Stretch;
+use differing::Compared;
 ghost use mathlib.Core.Path.{_≡_};
 ghost use Rattle.spritbobbin.specs.Comparing.{comparedAnswer, ComparisonMet, linesAnswer, LineComparisonMet};
 ghost use Rattle.spritbobbin.specs.Comparing.{stretchAnswer, StretchComparisonMet};

@@ -1,6 +1,6 @@
 // The C face of the plain engine: the arguments and the answers of the quick one's calls.
-use plain::Answered;
-use plain::NotesRead;
+use engine::Answered;
+use engine::NotesRead;
 ghost use mathlib.Core.Path.{_≡_};
 ghost use Rattle.spritbobbin.specs.PlainFace.{answeredAnswer, notesReadAnswer, PlainMultiplexMet, PlainReadNotesMet, PlainExtractMet};
 

@@ -1,6 +1,6 @@
 // The C face of the rack of lines: the rack's own calls, whose records C lends as a list. Each is handed on as it is, and proved by a walk by hand,
 // because the borrow checker does not cover a reference to a struct.
-use rack::record::Record;
+use records::record::Record;
 ghost use Rattle.rack.specs.Rack.{FeedMet, ResetMet, AlignedMet};
 
 // Feeds a piece to line number `line`, from 0; answer: digits taken, 1 if a frame is ready, 1 if the alarm stands at the end, words tested.

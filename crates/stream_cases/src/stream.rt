@@ -256,19 +256,24 @@ fn given(c: Feeding) {
 // What every feed answers, and the state's numbers.
 pub fn fed(no: u64, state: [u64; 9], answer: [u64; 4]) {
     say::counted(b": refusal ", no);
+    answered(answer);
+    numbered(state);
+}
+
+fn answered(answer: [u64; 4]) {
     say::counted(b" taken ", answer[0]);
     say::counted(b" ready ", answer[1]);
     say::counted(b" alarm ", answer[2]);
     say::counted(b" words ", answer[3]);
+}
+
+fn numbered(state: [u64; 9]) {
     say::counted(b" state ", state[0]);
-    say::counted(b" ", state[1]);
-    say::counted(b" ", state[2]);
-    say::counted(b" ", state[3]);
-    say::counted(b" ", state[4]);
-    say::counted(b" ", state[5]);
-    say::counted(b" ", state[6]);
-    say::counted(b" ", state[7]);
-    say::counted(b" ", state[8]);
+    let mut i: usize = 1;
+    while i < 9 {
+        say::counted(b" ", state[i]);
+        i += 1;
+    }
 }
 
 // Case 1's line four times over, in pieces of at most so many digits: a line to each frame that is ready.

@@ -25,12 +25,12 @@ use Rattle.verdict.specs.Feed.{fedState, feedFault, answerOf}
 use Rattle.verdict_states.specs.States.{headOf, stateFrom, numbersOf, badPattern, goodHead, goodBlocks, isValid, changesIn, voteAgo, State}
 use Rattle.verdict_blocks.specs.Going.{Sound, Ready, Running}
 use Rattle.verdict.specs.Going.{FedTo, Feedable}
-use Rattle.verdict_states.specs.Heads.{votesAfter, changesAfter}
+use Rattle.verdict_heads.specs.Heads.{votesAfter, changesAfter}
 use Rattle.patterns.specs.Patterns.{OneOfTwo}
 use Rattle.verdict_blocks.proofs.Carried.{sound-less}
 use Rattle.verdict_blocks.proofs.Several.{partOf}
 use Rattle.verdict_states.proofs.Good.{votesWell, changesWell, head-parts, valid-sound, valid-taken}
-use Rattle.verdict_states.proofs.Heading.{vote-ago, changes-before}
+use Rattle.verdict_heads.proofs.Heading.{vote-ago, changes-before}
 use Rattle.verdict.proofs.Numbers.{state-numbers}
 use Rattle.verdict.proofs.Fed.{fedAt, blocks-sound}
 use Rattle.verdict.proofs.Numbers.{Whole, blocks-again, answer-again}

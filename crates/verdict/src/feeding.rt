@@ -5,7 +5,6 @@ use crate::refusals;
 use table::Level;
 use table::Row;
 use verdict_blocks::votes;
-use verdict_states::head;
 ghost use mathlib.Core.Path.{_≡_};
 ghost use Prim.Native.Nat.{ℕ, _+_, _/_, _%_, _<_, _≤_, min};
 ghost use lib.ListN.{length, getD, replicate};
@@ -151,7 +150,7 @@ fn feed_frames(state: &mut [u64], row: Row, line: &[u8], next: u64, sent: &[u8],
         base,
         &mut scratch[0..128],
     );
-    head::feed_head(state, votes, frames);
+    verdict_heads::feed_head(state, votes, frames);
 }
 
 // A level's row is known: fed and answered, if nothing is at fault.

@@ -16,7 +16,7 @@ use Rattle.levels.specs.Order.{carries, placesOf}
 use Rattle.levels.proofs.Positions.{stands, pos-of-sum}
 use Rattle.levels.proofs.Columns.{columns, frame-start}
 use Rattle.promises.proofs.Order.{column-place, digits-same}
-use Rattle.verdict_blocks.specs.Blocks.{Block, digitsTo, frameTo, startOf, framesTo}
+use Rattle.verdict_blocks.specs.Blocks.{Block, digitOf, digitsTo, frameTo, startOf, framesTo}
 
 -- ---- only a frame's digits count
 
@@ -25,7 +25,9 @@ module _ (pattern : ℕ) (lent : ℕ → ℕ) where
       → digitsTo pattern lent ds p b n ≡ digitsTo pattern lent es q b n
   unfolding digitsTo
   digits-alike ds es p q b zero same = refl
-  digits-alike ds es p q b (suc n) same = rw (digits-alike ds es p q b n (λ i h. same i (omega arith)), same n (omega arith))
+  digits-alike ds es p q b (suc n) same =
+      ap (λ (c : Block). digitOf pattern lent c (getD ds (p + n) 0)) (digits-alike ds es p q b n (λ i h. same i (omega arith)))
+      ∙ ap (digitOf pattern lent (digitsTo pattern lent es q b n)) (same n (omega arith))
 
   pub frame-alike : (ds es : List ℕ) (p q n m : ℕ) (b : Block) → n ≡ m → ((i : ℕ) → i < n → getD ds (p + i) 0 ≡ getD es (q + i) 0)
       → frameTo pattern lent ds p n b ≡ frameTo pattern lent es q m b

@@ -1,5 +1,4 @@
 pub mod Good
 pub mod Cutting
 pub mod Made
-pub mod Heading
 pub mod Answers

@@ -1,5 +1,4 @@
-// A state of the verdict on a worn line, as numbers: a fresh one, which numbers are one, and its first numbers after frames were fed. A crate of its own below `verdict`, so that
-// each of the two is checked quickly; specs/States.antt says what a state is.
+// A state of the verdict on a worn line, as numbers: a fresh one, and which numbers are one. A crate of its own below `verdict`, so that each of the two is checked quickly;
+// specs/States.antt says what a state is.
 pub mod fresh;
-pub mod head;
 pub mod validity;

@@ -8,7 +8,7 @@ use Rattle.table.specs.declared.Row.{Row}
 use Rattle.levels.specs.Faults.{refusedWith}
 use Rattle.levels.proofs.Refusals.{number, faultless, send-faultless, refused-kept, accepted-new}
 use Rattle.levels.specs.Line.{lineOf}
-use Rattle.multiplex.specs.Sending.{tributaryOf}
+use Rattle.heads.specs.Columns.{tributaryOf}
 use Rattle.multiplex.proofs.multiplex_on.Statement.{statement}
 use Rattle.multiplex.proofs.multiplex_on.Tie as tie
 

@@ -3,7 +3,7 @@ use mathlib.Core.Path.{_≡_, refl, _∙_}
 use Prim.Native.Nat.{_+_, _*_, _-_, _≤_}
 use native.Mathlib.Omega.{arith}
 use lib.ListN.{length}
-use Rattle.multiplex.specs.Sending.{Sending}
+use Rattle.heads.specs.Sending.{Sending}
 use Rattle.multiplex.proofs.Running.{set-first, frame-last}
 use Rattle.multiplex.proofs.send_frame.Statement.{statement}
 use Rattle.multiplex.proofs.send_frame.Tie as tie

@@ -7,7 +7,7 @@ use lib.ListN.{length}
 use Rattle.digits.specs.Digits.{tab, Bytes}
 use Rattle.weave.specs.Weave.{spreadOf}
 use Rattle.levels.proofs.Room.{line-whole}
-use Rattle.multiplex.specs.Sending.{Sending}
+use Rattle.heads.specs.Sending.{Sending}
 use Rattle.multiplex.proofs.Running.{sending-start, all-sent}
 use Rattle.multiplex.proofs.send_frames.Statement.{statement}
 use Rattle.multiplex.proofs.send_frames.Tie as tie

@@ -4,8 +4,8 @@ use mathlib.Core.List.{List}
 use Prim.Native.Nat.{ℕ}
 use mathlib.Core.Path.{refl, sym, _∙_, ap}
 use borrow.Author.Tests.{eq-eqb, ne-eqb}
-use Rattle.plain.specs.declared.refusals.Refusal.{Refusal}
-use Rattle.plain.proofs.Judged.{accepted, sent-accepted}
+use Rattle.engine.specs.declared.refusals.Refusal.{Refusal}
+use Rattle.engine.proofs.Judged.{accepted, sent-accepted}
 use Rattle.plain.proofs.multiplex_on.Statement.{statement}
 use Rattle.plain.proofs.multiplex_on.Tie as tie
 

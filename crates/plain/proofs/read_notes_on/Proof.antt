@@ -4,7 +4,7 @@ use mathlib.Core.List.{List}
 use Prim.Native.Nat.{ℕ}
 use mathlib.Core.Path.{refl, sym, _∙_, ap₂}
 use borrow.Author.Tests.{eq-eqb, ne-eqb}
-use Rattle.plain.proofs.Judged.{readable}
+use Rattle.engine.proofs.Judged.{readable}
 use Rattle.plain.proofs.read_notes_on.Statement.{statement}
 use Rattle.plain.proofs.read_notes_on.Tie as tie
 

@@ -49,25 +49,26 @@ use denote.Signature.{plain}
 use denote.Struct.Laws as LL
 use native.Mathlib.Omega.{arith}
 use Rattle.digits.specs.Sums.{sumTo}
-use Rattle.rack.specs.declared.record.Record.{Record}
-use Rattle.rack.specs.Record.{isAligned}
-use Rattle.rack.specs.Rack.{at, countRefusal, countedTo, alignedOf, AlignedMet}
+use Rattle.records.specs.declared.record.Record.{Record}
+use Rattle.records.specs.Record.{isAligned}
+use Rattle.rack.specs.Rack.{at, alignedOf, AlignedMet}
+use Rattle.records.specs.Rule.{countRefusal, countedTo}
 use Rattle.rack.proofs.Lists.{blank, counted-in, aligned-most, aligned-more, aligned-done}
 use Rattle.rack.proofs.Walks.{envOf, tyOf, inner, after}
-use Rattle.rack.proofs.record.Record as T
-use Rattle.rack.proofs.record.Record.Laws as T′
-use Rattle.rack.proofs.rule.counted as ct
-use Rattle.rack.proofs.rule.counted.Symbol as ct-def
-use Rattle.rack.proofs.rule.counted.Symbol.{name as #counted}
-use Rattle.rack.proofs.rule.counted.Met as ct-thm
-use Rattle.rack.proofs.rule.count_on as co
-use Rattle.rack.proofs.rule.count_on.Symbol as co-def
-use Rattle.rack.proofs.rule.count_on.Symbol.{name as #count-on}
-use Rattle.rack.proofs.rule.count_on.Met as co-thm
-use Rattle.rack.proofs.rule.tell as tl
-use Rattle.rack.proofs.rule.tell.Symbol as tl-def
-use Rattle.rack.proofs.rule.tell.Symbol.{name as #tell}
-use Rattle.rack.proofs.rule.tell.Met as tl-thm
+use Rattle.records.proofs.record.Record as T
+use Rattle.records.proofs.record.Record.Laws as T′
+use Rattle.records.proofs.rule.counted as ct
+use Rattle.records.proofs.rule.counted.Symbol as ct-def
+use Rattle.records.proofs.rule.counted.Symbol.{name as #counted}
+use Rattle.records.proofs.rule.counted.Met as ct-thm
+use Rattle.records.proofs.rule.count_on as co
+use Rattle.records.proofs.rule.count_on.Symbol as co-def
+use Rattle.records.proofs.rule.count_on.Symbol.{name as #count-on}
+use Rattle.records.proofs.rule.count_on.Met as co-thm
+use Rattle.records.proofs.rule.tell as tl
+use Rattle.records.proofs.rule.tell.Symbol as tl-def
+use Rattle.records.proofs.rule.tell.Symbol.{name as #tell}
+use Rattle.records.proofs.rule.tell.Met as tl-thm
 use Rattle.rack.proofs.aligned.Key.{name as #aligned}
 use Rattle.rack.proofs.aligned as aligned
 use Rattle.rack.proofs.aligned.Statement as stated
@@ -371,6 +372,6 @@ aligned-spec 𝓤 H 𝓜 𝓖 𝓡 =
     entered 𝓤 H (tripleOf 𝓤 H (𝓖 .A) aligned.signature (aligned.spec 𝓤 H (𝓖 .A) (𝓜 .mem) (𝓡 .run)))
     (tables 𝓤 H 𝓜 𝓡 code.env .C) (tables 𝓤 H 𝓜 𝓡 code.env .Λ) #aligned code.function (code.unfolded 𝓤 H 𝓜 𝓡)
     (aligned-meets 𝓤 H (𝓖 .A) (givenOf 𝓤 H 𝓜 𝓖) (𝓜 .mem) (𝓡 .run) (tablesOf 𝓤 H 𝓜 (tables 𝓤 H 𝓜 𝓡 code.env))
-    (cited 𝓤 H (Counted 𝓤 H (𝓖 .A) (𝓜 .mem) (𝓡 .run)) 𝓜 𝓡 code.env #counted ct-def.routine code.calls-rack·rule·counted (ct-thm.met 𝓤 H 𝓜 𝓖 𝓡))
-    (cited 𝓤 H (CountOn 𝓤 H (𝓖 .A) (𝓜 .mem) (𝓡 .run)) 𝓜 𝓡 code.env #count-on co-def.routine code.calls-rack·rule·count-on (co-thm.met 𝓤 H 𝓜 𝓖 𝓡))
-    (cited 𝓤 H (Tell 𝓤 H (𝓖 .A) (𝓜 .mem) (𝓡 .run)) 𝓜 𝓡 code.env #tell tl-def.routine code.calls-rack·rule·tell (tl-thm.met 𝓤 H 𝓜 𝓖 𝓡)))
+    (cited 𝓤 H (Counted 𝓤 H (𝓖 .A) (𝓜 .mem) (𝓡 .run)) 𝓜 𝓡 code.env #counted ct-def.routine code.calls-records·rule·counted (ct-thm.met 𝓤 H 𝓜 𝓖 𝓡))
+    (cited 𝓤 H (CountOn 𝓤 H (𝓖 .A) (𝓜 .mem) (𝓡 .run)) 𝓜 𝓡 code.env #count-on co-def.routine code.calls-records·rule·count-on (co-thm.met 𝓤 H 𝓜 𝓖 𝓡))
+    (cited 𝓤 H (Tell 𝓤 H (𝓖 .A) (𝓜 .mem) (𝓡 .run)) 𝓜 𝓡 code.env #tell tl-def.routine code.calls-records·rule·tell (tl-thm.met 𝓤 H 𝓜 𝓖 𝓡)))

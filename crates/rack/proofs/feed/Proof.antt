@@ -48,29 +48,30 @@ use denote.Exit.{yes}
 use denote.Signature.{plain}
 use denote.Struct.Laws as LL
 use native.Mathlib.Omega.{arith}
-use Rattle.rack.specs.declared.record.Record.{Record}
-use Rattle.rack.specs.declared.record.Kept.{Kept}
+use Rattle.records.specs.declared.record.Record.{Record}
+use Rattle.records.specs.declared.record.Kept.{Kept}
 use Rattle.receiver.specs.Numbers.{fedAnswer}
-use Rattle.rack.specs.Record.{keptAfter, fedRecord}
-use Rattle.rack.specs.Rack.{listRefusal, noneTaken, FeedMet}
+use Rattle.records.specs.Record.{keptAfter, fedRecord}
+use Rattle.rack.specs.Rack.{FeedMet}
+use Rattle.records.specs.Rule.{listRefusal, noneTaken}
 use Rattle.rack.proofs.Lists.{blank, fails, holds, within, feed-refused, feed-alone-refused, feed-done}
 use Rattle.rack.proofs.Walks.{envOf, after}
-use Rattle.rack.proofs.record.Record as T
-use Rattle.rack.proofs.record.Record.Laws as T′
-use Rattle.rack.proofs.record.Kept as S
-use Rattle.rack.proofs.record.Kept.Laws as S′
-use Rattle.rack.proofs.rule.list_refusal as lr
-use Rattle.rack.proofs.rule.list_refusal.Symbol as lr-def
-use Rattle.rack.proofs.rule.list_refusal.Symbol.{name as #list-refusal}
-use Rattle.rack.proofs.rule.list_refusal.Met as lr-thm
-use Rattle.rack.proofs.rule.refuse as rf
-use Rattle.rack.proofs.rule.refuse.Symbol as rf-def
-use Rattle.rack.proofs.rule.refuse.Symbol.{name as #refuse}
-use Rattle.rack.proofs.rule.refuse.Met as rf-thm
-use Rattle.rack.proofs.record.feed_record as fr
-use Rattle.rack.proofs.record.feed_record.Symbol as fr-def
-use Rattle.rack.proofs.record.feed_record.Symbol.{name as #feed-record}
-use Rattle.rack.proofs.record.feed_record.Met as fr-thm
+use Rattle.records.proofs.record.Record as T
+use Rattle.records.proofs.record.Record.Laws as T′
+use Rattle.records.proofs.record.Kept as S
+use Rattle.records.proofs.record.Kept.Laws as S′
+use Rattle.records.proofs.rule.list_refusal as lr
+use Rattle.records.proofs.rule.list_refusal.Symbol as lr-def
+use Rattle.records.proofs.rule.list_refusal.Symbol.{name as #list-refusal}
+use Rattle.records.proofs.rule.list_refusal.Met as lr-thm
+use Rattle.records.proofs.rule.refuse as rf
+use Rattle.records.proofs.rule.refuse.Symbol as rf-def
+use Rattle.records.proofs.rule.refuse.Symbol.{name as #refuse}
+use Rattle.records.proofs.rule.refuse.Met as rf-thm
+use Rattle.records.proofs.record.feed_record as fr
+use Rattle.records.proofs.record.feed_record.Symbol as fr-def
+use Rattle.records.proofs.record.feed_record.Symbol.{name as #feed-record}
+use Rattle.records.proofs.record.feed_record.Met as fr-thm
 use Rattle.rack.proofs.feed.Key.{name as #feed}
 use Rattle.rack.proofs.feed as feed
 use Rattle.rack.proofs.feed.Statement as stated
@@ -419,6 +420,6 @@ feed-spec 𝓤 H 𝓜 𝓖 𝓡 =
     entered 𝓤 H (tripleOf 𝓤 H (𝓖 .A) feed.signature (feed.spec 𝓤 H (𝓖 .A) (𝓜 .mem) (𝓡 .run)))
     (tables 𝓤 H 𝓜 𝓡 code.env .C) (tables 𝓤 H 𝓜 𝓡 code.env .Λ) #feed code.function (code.unfolded 𝓤 H 𝓜 𝓡)
     (feed-meets 𝓤 H (𝓖 .A) (givenOf 𝓤 H 𝓜 𝓖) (𝓜 .mem) (𝓡 .run) (tablesOf 𝓤 H 𝓜 (tables 𝓤 H 𝓜 𝓡 code.env))
-    (cited 𝓤 H (Listed 𝓤 H (𝓖 .A) (𝓜 .mem) (𝓡 .run)) 𝓜 𝓡 code.env #list-refusal lr-def.routine code.calls-rack·rule·list-refusal (lr-thm.met 𝓤 H 𝓜 𝓖 𝓡))
-    (cited 𝓤 H (Refuse 𝓤 H (𝓖 .A) (𝓜 .mem) (𝓡 .run)) 𝓜 𝓡 code.env #refuse rf-def.routine code.calls-rack·rule·refuse (rf-thm.met 𝓤 H 𝓜 𝓖 𝓡))
-    (cited 𝓤 H (FeedOne 𝓤 H (𝓖 .A) (𝓜 .mem) (𝓡 .run)) 𝓜 𝓡 code.env #feed-record fr-def.routine code.calls-rack·record·feed-record (fr-thm.met 𝓤 H 𝓜 𝓖 𝓡)))
+    (cited 𝓤 H (Listed 𝓤 H (𝓖 .A) (𝓜 .mem) (𝓡 .run)) 𝓜 𝓡 code.env #list-refusal lr-def.routine code.calls-records·rule·list-refusal (lr-thm.met 𝓤 H 𝓜 𝓖 𝓡))
+    (cited 𝓤 H (Refuse 𝓤 H (𝓖 .A) (𝓜 .mem) (𝓡 .run)) 𝓜 𝓡 code.env #refuse rf-def.routine code.calls-records·rule·refuse (rf-thm.met 𝓤 H 𝓜 𝓖 𝓡))
+    (cited 𝓤 H (FeedOne 𝓤 H (𝓖 .A) (𝓜 .mem) (𝓡 .run)) 𝓜 𝓡 code.env #feed-record fr-def.routine code.calls-records·record·feed-record (fr-thm.met 𝓤 H 𝓜 𝓖 𝓡)))

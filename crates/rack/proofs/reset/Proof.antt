@@ -45,19 +45,20 @@ use denote.Exit.{yes}
 use denote.Signature.{plain}
 use denote.Struct.Laws as LL
 use native.Mathlib.Omega.{arith}
-use Rattle.rack.specs.declared.record.Record.{Record}
-use Rattle.rack.specs.declared.record.Kept.{Kept}
-use Rattle.rack.specs.Rack.{madeOf, ResetMet, at}
+use Rattle.records.specs.declared.record.Record.{Record}
+use Rattle.records.specs.declared.record.Kept.{Kept}
+use Rattle.rack.specs.Rack.{ResetMet, at}
+use Rattle.records.specs.Rule.{madeOf}
 use Rattle.rack.proofs.Lists.{blank, fails, holds, reset-refused, reset-line, reset-done}
 use Rattle.rack.proofs.Walks.{envOf, after}
-use Rattle.rack.proofs.record.Record as T
-use Rattle.rack.proofs.record.Record.Laws as T′
-use Rattle.rack.proofs.record.Kept as S
-use Rattle.rack.proofs.record.Kept.Laws as S′
-use Rattle.rack.proofs.rule.made as md
-use Rattle.rack.proofs.rule.made.Symbol as md-def
-use Rattle.rack.proofs.rule.made.Symbol.{name as #made}
-use Rattle.rack.proofs.rule.made.Met as md-thm
+use Rattle.records.proofs.record.Record as T
+use Rattle.records.proofs.record.Record.Laws as T′
+use Rattle.records.proofs.record.Kept as S
+use Rattle.records.proofs.record.Kept.Laws as S′
+use Rattle.records.proofs.rule.made as md
+use Rattle.records.proofs.rule.made.Symbol as md-def
+use Rattle.records.proofs.rule.made.Symbol.{name as #made}
+use Rattle.records.proofs.rule.made.Met as md-thm
 use Rattle.rack.proofs.reset.Key.{name as #reset}
 use Rattle.rack.proofs.reset as reset
 use Rattle.rack.proofs.reset.Statement as stated
@@ -231,4 +232,4 @@ reset-spec 𝓤 H 𝓜 𝓖 𝓡 =
     entered 𝓤 H (tripleOf 𝓤 H (𝓖 .A) reset.signature (reset.spec 𝓤 H (𝓖 .A) (𝓜 .mem) (𝓡 .run)))
     (tables 𝓤 H 𝓜 𝓡 code.env .C) (tables 𝓤 H 𝓜 𝓡 code.env .Λ) #reset code.function (code.unfolded 𝓤 H 𝓜 𝓡)
     (reset-meets 𝓤 H (𝓖 .A) (givenOf 𝓤 H 𝓜 𝓖) (𝓜 .mem) (𝓡 .run) (tablesOf 𝓤 H 𝓜 (tables 𝓤 H 𝓜 𝓡 code.env))
-    (cited 𝓤 H (Made 𝓤 H (𝓖 .A) (𝓜 .mem) (𝓡 .run)) 𝓜 𝓡 code.env #made md-def.routine code.calls-rack·rule·made (md-thm.met 𝓤 H 𝓜 𝓖 𝓡)))
+    (cited 𝓤 H (Made 𝓤 H (𝓖 .A) (𝓜 .mem) (𝓡 .run)) 𝓜 𝓡 code.env #made md-def.routine code.calls-records·rule·made (md-thm.met 𝓤 H 𝓜 𝓖 𝓡)))

@@ -5,7 +5,7 @@ use mathlib.Core.Path.{_≡_, sym, _∙_}
 use mathlib.Core.Bool.{false}
 use borrow.Author.Tests.{lt-ltb, le-ltb}
 use native.Mathlib.Omega.{arith}
-use Rattle.receiver.specs.Alarm.{uncounted}
+use Rattle.pieces.specs.Alarm.{uncounted}
 use Rattle.receiver.specs.Feed.{invalid, refusalOf}
 use Prim.Native.Nat.{_+_, _*_}
 use Rattle.receiver.proofs.refusal_of.Statement.{statement}

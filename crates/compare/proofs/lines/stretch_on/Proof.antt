@@ -2,8 +2,8 @@
 use native.Mathlib.Omega.{arith}
 use mathlib.Core.Path.{_≡_, refl}
 use Prim.Native.Nat.{_+_, _-_, _≤_}
-use Rattle.compare.specs.Counting.{Summed}
 use Rattle.compare.specs.Lines.{stretchOn}
+use Rattle.compare.specs.Summing.{Summed}
 use Rattle.compare.proofs.TwoLines.{summed-none}
 use Rattle.compare.proofs.lines.stretch_on.Statement.{statement}
 use Rattle.compare.proofs.lines.stretch_on.Tie as tie

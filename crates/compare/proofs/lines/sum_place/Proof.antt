@@ -1,7 +1,7 @@
 -- `sum_place`: one place more of a stretch.
 use native.Mathlib.Omega.{arith}
 use mathlib.Core.Path.{sym, _∙_}
-use Rattle.compare.proofs.Walking.{not-differ, do-differ}
+use Rattle.differing.proofs.Walking.{not-differ, do-differ}
 use Rattle.compare.proofs.TwoLines.{summed-pass, summed-more, summed-small, summed-all}
 use Rattle.compare.proofs.lines.sum_place.Statement.{statement}
 use Rattle.compare.proofs.lines.sum_place.Tie as tie

@@ -2,7 +2,7 @@
 use mathlib.Core.Path.{_≡_, sym, _∙_, ap, subst}
 use native.Mathlib.Omega.{arith}
 use Prim.Native.Nat.{ℕ, _-_, _≤_}
-use Rattle.plain.specs.Engine.{wrongTo}
+use Rattle.engine.specs.Engine.{wrongTo}
 use Rattle.plain.specs.Walk.{Voted}
 use Rattle.plain.proofs.Votes.{wrong-more, wrong-none}
 use Rattle.plain.proofs.reading.hear_frame.Statement.{statement}

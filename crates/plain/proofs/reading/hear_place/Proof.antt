@@ -3,7 +3,7 @@ use borrow.Author.Needs.{needs}
 use mathlib.Core.Path.{_∙_}
 use native.Mathlib.Omega.{arith}
 use Prim.Native.Nat.{_%_}
-use Rattle.plain.proofs.Packing.{from-start}
+use Rattle.engine.proofs.Packing.{from-start}
 use Rattle.plain.proofs.Votes.{votes-most, voted-more}
 use Rattle.plain.proofs.reading.hear_place.Statement.{statement}
 use Rattle.plain.proofs.reading.hear_place.Tie as tie

@@ -3,8 +3,9 @@ use mathlib.Core.Path.{_≡_, refl}
 use Prim.Native.Nat.{_*_, _-_, _≤_, _<_}
 use native.Mathlib.Omega.{arith}
 use lib.ListN.{length}
-use Rattle.plain.specs.Walk.{Counted, Sent}
-use Rattle.plain.proofs.Counting.{frame-noted, line-short, counted-start, counted-all}
+use Rattle.engine.specs.Walk.{Counted}
+use Rattle.plain.specs.Walk.{Sent}
+use Rattle.engine.proofs.Counting.{frame-noted, line-short, counted-start, counted-all}
 use Rattle.plain.proofs.Sending.{sent-more, sent-all}
 use Rattle.plain.proofs.send.send.Statement.{statement}
 use Rattle.plain.proofs.send.send.Tie as tie

@@ -5,7 +5,7 @@ use native.Mathlib.Omega.{arith}
 use native.Mathlib.Nat.{mod-lt}
 use Prim.Native.Nat.{_%_}
 use lib.ListN.{getD}
-use Rattle.plain.specs.Engine.{placeOf, sentAt}
+use Rattle.engine.specs.Engine.{placeOf, sentAt}
 use Rattle.plain.proofs.Places.{in-word, in-service}
 use Rattle.plain.proofs.send.sent_at.Statement.{statement}
 use Rattle.plain.proofs.send.sent_at.Tie as tie

@@ -3,8 +3,9 @@ use mathlib.Core.Path.{_≡_, refl}
 use Prim.Native.Nat.{ℕ, _*_, _-_, _/_, _≤_, _<_}
 use native.Mathlib.Omega.{arith}
 use lib.ListN.{length, length-replicate}
-use Rattle.plain.specs.Walk.{Counted, Taken}
-use Rattle.plain.proofs.Counting.{frame-noted, line-short, counted-start, counted-all}
+use Rattle.engine.specs.Walk.{Counted}
+use Rattle.plain.specs.Walk.{Taken}
+use Rattle.engine.proofs.Counting.{frame-noted, line-short, counted-start, counted-all}
 use Rattle.plain.proofs.Handing.{taken-start, taken-all}
 use Rattle.plain.proofs.take.take.Statement.{statement}
 use Rattle.plain.proofs.take.take.Tie as tie

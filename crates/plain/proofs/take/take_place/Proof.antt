@@ -4,9 +4,9 @@ use mathlib.Core.Path.{_≡_, sym, _∙_}
 use native.Mathlib.Omega.{arith}
 use Prim.Native.Nat.{_%_}
 use lib.ListN.{length, getD}
-use Rattle.plain.specs.Engine.{countTo}
-use Rattle.plain.proofs.Packing.{from-start}
-use Rattle.plain.proofs.Quarters.{quarter-in}
+use Rattle.engine.specs.Engine.{countTo}
+use Rattle.engine.proofs.Packing.{from-start}
+use Rattle.engine.proofs.Quarters.{quarter-in}
 use Rattle.plain.proofs.Handing.{taken-idle, taken-past, taken-put}
 use Rattle.plain.proofs.take.take_place.Statement.{statement}
 use Rattle.plain.proofs.take.take_place.Tie as tie

@@ -3,7 +3,7 @@ use borrow.Author.Needs.{needs}
 use mathlib.Core.Path.{_≡_, refl, sym, ap, _∙_}
 use Prim.Native.Nat.{_+_, _-_}
 use native.Mathlib.Omega.{arith}
-use Rattle.receiver.specs.Carry.{goneOn}
+use Rattle.pieces.specs.Carry.{goneOn}
 use Rattle.receiver.proofs.Carries.{go-below, go-before, go-fits, carried-none, carried-copy, carried-past, carried-is}
 use Rattle.receiver.proofs.carry.carry_on.Statement.{statement}
 use Rattle.receiver.proofs.carry.carry_on.Tie as tie

@@ -1,7 +1,7 @@
 -- The C call is the call behind it.
 use mathlib.Core.Path.{_∙_, ap}
 use borrow.Author.Needs.{needs}
-use Rattle.plain.specs.declared.Answered.{Answered}
+use Rattle.engine.specs.declared.Answered.{Answered}
 use Rattle.spritbobbin.specs.PlainFace.{answeredAnswer}
 use Rattle.spritbobbin.proofs.plain_face.spritbobbin_plain_extract.Statement.{statement}
 use Rattle.spritbobbin.proofs.plain_face.spritbobbin_plain_extract.Tie as tie

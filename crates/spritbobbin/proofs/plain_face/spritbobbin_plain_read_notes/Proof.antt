@@ -1,7 +1,7 @@
 -- The C call is the call behind it.
 use mathlib.Core.Path.{_∙_, ap}
 use borrow.Author.Needs.{needs}
-use Rattle.plain.specs.declared.NotesRead.{NotesRead}
+use Rattle.engine.specs.declared.NotesRead.{NotesRead}
 use Rattle.spritbobbin.specs.PlainFace.{notesReadAnswer}
 use Rattle.spritbobbin.proofs.plain_face.spritbobbin_plain_read_notes.Statement.{statement}
 use Rattle.spritbobbin.proofs.plain_face.spritbobbin_plain_read_notes.Tie as tie

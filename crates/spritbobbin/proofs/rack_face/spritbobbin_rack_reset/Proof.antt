@@ -38,9 +38,9 @@ use denote.Triple.Walked.{Walks, ends-at, walked, walk-meets}
 use denote.Triple.Clauses.{ensured, lasts}
 use denote.Exit.{yes}
 use denote.Signature.{plain}
-use Rattle.rack.specs.declared.record.Record.{Record}
+use Rattle.records.specs.declared.record.Record.{Record}
 use Rattle.rack.specs.Rack.{ResetMet}
-use Rattle.rack.proofs.record.Record as T
+use Rattle.records.proofs.record.Record as T
 use Rattle.rack.proofs.reset as call
 use Rattle.rack.proofs.reset.Symbol as call-def
 use Rattle.rack.proofs.reset.Symbol.{name as #call}

@@ -1,0 +1,4 @@
+pub mod Differing
+pub mod Counting
+pub mod Promises
+pub mod AllListed

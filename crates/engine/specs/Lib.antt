@@ -1,0 +1,3 @@
+pub mod Engine
+pub mod Walk
+pub mod Change

@@ -1,0 +1,5 @@
+pub mod Frame
+pub mod Alarm
+pub mod Hunt
+pub mod Carry
+pub mod Turns
