@@ -1,5 +1,5 @@
--- A record: a receiver's state as nine numbers and the frame in hand, and what the receiver's calls make of it. The receiver's own definitions
--- (crate receiver, specs/Feed.antt) say what feeding and a fresh state are.
+-- A record: a receiver's state as nine numbers and the frame in hand, and what feeding makes of it. The receiver's own definitions (crate
+-- receiver, specs/Feed.antt) say what feeding is; what a reset makes of a record is crate rack's (specs/Rack.antt, `keptReset`).
 use mathlib.Core.Bool.{Bool, cond}
 use mathlib.Core.List.{List}
 use Prim.Native.Nat.{ℕ}

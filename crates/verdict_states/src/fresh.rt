@@ -1,4 +1,4 @@
-// A fresh state (specs/Feed.antt): nothing was fed, and all sixteen blocks are as before the first digit.
+// A fresh state (specs/States.antt): nothing was fed, and all sixteen blocks are as before the first digit.
 use crate::validity;
 use levels::faults;
 use levels::order;
@@ -133,7 +133,7 @@ fn fresh_on(row: Row, level: u64, earlier: u64, pattern: u64, state: &mut [u64])
     0
 }
 
-// Makes a fresh state; one that is refused is zeros, and is written. Any level number, any vote, any pattern number: see specs/Feed.antt.
+// Makes a fresh state; one that is refused is zeros, and is written. Any level number, any vote, any pattern number: see specs/States.antt.
 pub fn fresh(level: u64, earlier: u64, pattern: u64, state: &mut [u64; 683]) -> u64
     ensures { λ r. ⌜ FreshMet level earlier pattern r (now (state .exit)) ⌝ }
 {

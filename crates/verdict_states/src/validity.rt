@@ -1,4 +1,4 @@
-// Which states are valid (specs/Feed.antt): those whose numbers leave room for 64 frames more.
+// Which states are valid (specs/States.antt): those whose numbers leave room for 64 frames more.
 use verdict_blocks::keeping;
 use verdict_blocks::standing::Standing;
 ghost use mathlib.Core.Path.{_≡_};
