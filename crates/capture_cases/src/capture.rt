@@ -3,7 +3,7 @@
 use telling::{inputs, say};
 
 // A write: the bytes of line and label count up from 0, and the file holds 165 in every byte beforehand.
-#[derive(Drop)]
+#[derive(Clone, Copy)]
 struct Writing {
     level: u64,
     line: usize,
@@ -13,7 +13,7 @@ struct Writing {
 }
 
 // A file of so many bytes: these, and zeros after them.
-#[derive(Drop)]
+#[derive(Clone, Copy)]
 struct Small {
     bytes: usize,
     head: [u8; 11],

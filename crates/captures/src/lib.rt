@@ -1,5 +1,7 @@
 // Captures kept in a file: the writer and the reader of request 1. specs/Captures.antt says what each answers and what the writer leaves.
 // The reader answers places in the file it was lent, and copies nothing.
+#![tactic(auto)]
+
 ghost use Rattle.std.specs.Prelude.{◌≡◌, true, cond, ◌&&◌, ◌+◌, ◌^◌, ◌<◌, ◌≤◌, ltb, length, get_or};
 ghost use Rattle.levels.specs.Table.{Shared};
 ghost use Rattle.levels.specs.Sizes.{bad_line};
@@ -23,7 +25,7 @@ const LABEL_MOST: usize = 32;
 const NOWHERE: Part = Part { start: 0, bytes: 0 };
 
 // The writer's answer: the refusal, how many bytes the file has, and the byte that a refusal names.
-#[derive(Drop)]
+#[derive(Clone, Copy)]
 pub struct Written {
     pub refusal: u64,
     pub bytes: usize,
@@ -31,14 +33,14 @@ pub struct Written {
 }
 
 // Where something stands in a file: its first byte, and how many it has.
-#[derive(Drop)]
+#[derive(Clone, Copy)]
 pub struct Part {
     pub start: usize,
     pub bytes: usize,
 }
 
 // The reader's answer: the refusal, the level, where the line stands, whether there is a label and where, and the byte that refusal 9 names.
-#[derive(Drop)]
+#[derive(Clone, Copy)]
 pub struct Reading {
     pub refusal: u64,
     pub level: u64,

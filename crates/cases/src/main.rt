@@ -1,6 +1,8 @@
 // Runs worked cases 9, 10 and 11 of document 01, the example of request 1, a multiframe and frames of 2048 kbit/s that are found and lost,
 // stretches of the alarm, a line read digit by digit to its end, and more of the kind: each refusal at its border, and each pair of faults that
 // tells the order. What it must write was worked out by the separate program of reference/, which shares nothing with the crates.
+#![tactic(auto)]
+
 mod votes;
 
 use capture_cases::capture;
@@ -11,7 +13,7 @@ use stream_cases::{alarm, reader, stream};
 use telling::{inputs, say};
 
 // A multiplex call: the notes are `before` before frame `from` and `note` from there on. The line that it leaves is then extracted by these notes.
-#[derive(Drop)]
+#[derive(Clone, Copy)]
 struct Sending {
     level: u64,
     line: usize,
@@ -23,7 +25,7 @@ struct Sending {
 }
 
 // A line whose bytes are all `fill`: its notes are read, and it is extracted by them.
-#[derive(Drop)]
+#[derive(Clone, Copy)]
 struct Receiving {
     level: u64,
     line: usize,

@@ -3,7 +3,7 @@
 use levels::faults::Counted;
 use telling::{inputs, say};
 
-#[derive(Drop)]
+#[derive(Clone, Copy)]
 struct Voting {
     level: u64,
     earlier: u64,

@@ -1,5 +1,7 @@
 // Where two recordings differ (request 6): two captures are read, held against each other and compared. specs/Compare.antt says what the comparison
 // answers and what it lists. lines.rt compares two lines that stand in no file. What differs crate `differing` counts and lists.
+#![tactic(auto)]
+
 pub mod lines;
 
 ghost use Rattle.std.specs.Prelude.{◌≡◌, ◌+◌, ◌*◌, ◌<◌, ◌≤◌, length};
@@ -14,7 +16,7 @@ use differing::Compared;
 use table::{Level, Row};
 
 // Why two files are not compared: the refusal, or 0; the file at fault, 1 or 2, or 0 where the two do not fit each other; the byte it names.
-#[derive(Drop)]
+#[derive(Clone, Copy)]
 pub struct Fault {
     pub refusal: u64,
     pub file: u64,

@@ -14,7 +14,7 @@ use levels::sizes;
 use table::{Level, Row};
 
 // What a stretch of two lines answers: the refusal, the fifteen sums of differing digits by kind and tributary, and all of them.
-#[derive(Drop)]
+#[derive(Clone, Copy)]
 pub struct Stretch {
     pub refusal: u64,
     pub sums: [usize; 15],

@@ -1,5 +1,7 @@
 // Digits carried from slice to slice, wherever in a byte they stand: up to 32 a turn, on slices of any length. A place that moves is a byte and a digit of it, so
 // that no sum is too large for a number. specs/Copying.antt says which digit stands where afterwards.
+#![tactic(auto)]
+
 ghost use Rattle.std.specs.Prelude.{◌≡◌, ◌++◌, ◌+◌, ◌*◌, ◌-◌, ◌^◌, ◌≤◌, ◌<◌, leb, length, drop};
 ghost use Rattle.digits.specs.Digits.{digits_of, written};
 ghost use Rattle.words.specs.Words.{Ready, out_from, Appended};

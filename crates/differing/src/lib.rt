@@ -1,6 +1,8 @@
 // Where two lines of a level differ: how many digits, counted by kind of place and tributary, and the frames and places of the first 64.
 // specs/Differing.antt says what is counted and listed. A crate of its own below the calls that compare, so that it and the wrong programs that change it
 // are checked quickly.
+#![tactic(auto)]
+
 pub mod counting;
 pub mod entries;
 
@@ -15,7 +17,7 @@ pub const LISTED_MOST: usize = 64;
 
 // The answer: the refusal, the file at fault and the byte named, which are 0 unless crate `compare` refuses; the fifteen sums of differing digits by kind
 // and tributary; all differing digits; how many of them are listed.
-#[derive(Drop)]
+#[derive(Clone, Copy)]
 pub struct Compared {
     pub refusal: u64,
     pub file: u64,

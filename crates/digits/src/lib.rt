@@ -1,6 +1,8 @@
 // Packed digits: read the digit at a place of a slice, write the digit at a place of a slice, count the zeros of a part.
 // Digits stand eight to a byte, first digit in the most significant bit. Statements above speak of lists of digits
 // (specs/Digits.antt) and cite the laws in proofs/Laws.antt.
+#![tactic(auto)]
+
 pub mod zeros;
 
 ghost use Rattle.std.specs.Prelude.{◌≡◌, cond, ◌*◌, ◌<◌, length, get_or, set};

@@ -8,7 +8,7 @@ ghost use Rattle.engine.specs.Walk.{Regular, Counted};
 use table::Row;
 
 // A service place is one that the note has, a fixed one a service place that no note has; negative and positive places are for justification.
-#[derive(Drop)]
+#[derive(Clone, Copy)]
 pub enum Place {
     Alignment,
     Service,

@@ -6,7 +6,7 @@ ghost use Rattle.engine.specs.Walk.{Regular};
 use table::Row;
 
 // The refusal, or 0, and the frame that refusal 5 or 10 names, or 0.
-#[derive(Drop)]
+#[derive(Clone, Copy)]
 pub struct Refusal {
     pub refusal: u64,
     pub frame: usize,

@@ -1,6 +1,8 @@
 // Extracting four tributaries from a line, by notes that are given and the vote before them: all four at once, each frame by its own note and the
 // preceding one. Looks at no control digit.
 // specs/Extract.antt says what the call answers and leaves.
+#![tactic(auto)]
+
 pub mod frames;
 
 ghost use Rattle.std.specs.Prelude.{◌≡◌, ◌/◌, length};

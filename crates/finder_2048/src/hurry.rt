@@ -8,7 +8,7 @@ ghost use Rattle.finder_2048.specs.Hurry.{still_hunting, Hurried};
 use crate::{Mode, State, modes};
 
 // The state, and the place of the next digit in the piece.
-#[derive(Drop)]
+#[derive(Clone, Copy)]
 pub struct Hurry {
     pub state: State,
     pub at: usize,

@@ -1,5 +1,7 @@
 // The finder: finding the frames of a 2048 kbit/s line in a stream of digits. Two calls, `fresh` and `feed`; a state goes in by value and comes
 // back by value. Each answer equals a definition of specs/Feed.antt, for any state and any piece whatever.
+#![tactic(auto)]
+
 mod hurry;
 mod modes;
 
@@ -8,7 +10,7 @@ ghost use Rattle.digits.specs.Runs.{piece_of};
 ghost use Rattle.finder_2048.specs.Modes.{hunting, aligned, turned};
 ghost use Rattle.finder_2048.specs.Feed.{Valid, misplaced, invalid, refusal_of, refused, fed_by, run_from, FreshMet, FeedMet};
 
-#[derive(Drop)]
+#[derive(Clone, Copy)]
 pub enum Mode {
     Hunting,
     WordFound,
@@ -40,7 +42,7 @@ pub fn is_aligned(mode: Mode) -> bool
 
 // The last seven digits (the newest worth 1), how many digits came since reset (stopping at seven), the mode, and the place, counted from the
 // word's last digit.
-#[derive(Drop)]
+#[derive(Clone, Copy)]
 pub struct State {
     pub window: usize,
     pub seen: usize,
@@ -49,7 +51,7 @@ pub struct State {
 }
 
 // What a piece gives: digits taken, and whether the finder is aligned at their end.
-#[derive(Drop)]
+#[derive(Clone, Copy)]
 pub struct Fed {
     pub refusal: u64,
     pub taken: usize,

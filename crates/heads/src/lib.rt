@@ -1,5 +1,7 @@
 // The head of a set of a line that goes out, column by column. specs/Columns.antt says what a column is, specs/Sending.antt what is out after so many digits.
 // A crate of its own below multiplexing, so that it and the wrong programs that change it are checked quickly.
+#![tactic(auto)]
+
 ghost use Rattle.std.specs.Prelude.{◌≡◌, true, List, ℕ, ◌+◌, ◌*◌, ◌/◌, ◌<◌, ◌≤◌, length, get_or};
 ghost use Rattle.levels.specs.Table.{Shared};
 ghost use Rattle.levels.specs.Places.{head_end};

@@ -1,5 +1,7 @@
 // The verdict on a line: did the clock move, or the frame index? Each tributary is read by the decision of its own frame, of the frame before and of the
 // frame after, and the digits read are compared with those sent, or with a test pattern. specs/Verdict.antt says what the call answers.
+#![tactic(auto)]
+
 pub mod changes;
 pub mod readings;
 pub mod wrong;
@@ -16,7 +18,7 @@ use table::{Level, Row};
 
 // What is judged: the refusal, and for each tributary which readings fit (1 own, 2 before, 4 after, added up), the wrong digits read by its own frame, by the
 // frame before and by the frame after, and in how many frames its decision differs from the frame before.
-#[derive(Drop)]
+#[derive(Clone, Copy)]
 pub struct Judged {
     pub refusal: u64,
     pub fits: [usize; 4],

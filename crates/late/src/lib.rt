@@ -1,5 +1,7 @@
 // A multiplexer that acts on its decisions a frame late: its control digits say each frame's own, and its justification places go by those of the frame
 // before. For demonstrations and tests, which need the faulty line. specs/Late.antt says exactly which line that is.
+#![tactic(auto)]
+
 ghost use Rattle.std.specs.Prelude.{◌≡◌, ◌≤◌, length};
 ghost use Rattle.late.specs.Late.{Delayed, LateMet};
 

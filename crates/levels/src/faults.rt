@@ -8,13 +8,13 @@ use crate::{order, sizes};
 use table::Row;
 
 // Why a call is refused, and the frame that the refusal names; number 0 where nothing is at fault.
-#[derive(Drop)]
+#[derive(Clone, Copy)]
 pub struct Fault {
     pub refusal: u64,
     pub frame: usize,
 }
 
-#[derive(Drop)]
+#[derive(Clone, Copy)]
 pub struct Counted {
     pub refusal: u64,
     pub frame: usize,

@@ -7,7 +7,7 @@ use crate::places::{Kind, Sign};
 use table::Row;
 
 // What a frame does for a tributary: its positive place is stuffed, or only that carries a digit, or the negative place carries one too.
-#[derive(Drop)]
+#[derive(Clone, Copy)]
 pub enum Action {
     Stuffed,
     PositiveCarries,

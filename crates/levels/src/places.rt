@@ -10,13 +10,13 @@ use table::{
 
 // A place in a frame, 0 to N - 1, counted on from frame to frame in a line, and a place in a tributary: the number of a digit in
 // its quarter. Two kinds of numbers: lent.rt reads and writes a line by the one and a quarter by the other.
-#[derive(Drop)]
+#[derive(Clone, Copy)]
 pub struct FramePlace(pub usize);
 
-#[derive(Drop)]
+#[derive(Clone, Copy)]
 pub struct TributaryPlace(pub usize);
 
-#[derive(Drop)]
+#[derive(Clone, Copy)]
 pub enum ServiceDigit {
     RemoteAlarm,
     FirstNational,
@@ -27,13 +27,13 @@ pub enum ServiceDigit {
 }
 
 // A positive place is left out by stuffing, a negative place carries a digit more.
-#[derive(Drop)]
+#[derive(Clone, Copy)]
 pub enum Sign {
     Negative,
     Positive,
 }
 
-#[derive(Drop)]
+#[derive(Clone, Copy)]
 pub enum Kind {
     Word,
     Service(ServiceDigit),
@@ -43,7 +43,7 @@ pub enum Kind {
 }
 
 // Where a walk along a line stands: the frame, the set in the frame, the place in the set, each from 0.
-#[derive(Drop)]
+#[derive(Clone, Copy)]
 pub struct At {
     pub frame: usize,
     pub set: usize,

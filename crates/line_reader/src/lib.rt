@@ -1,6 +1,8 @@
 // A reader over the digits of a line: a struct that holds the lent line by reference, and its place.
 // It is kept thin: `step_at` is the whole meaning, on a slice and a number; `new` and `next` only put the struct together
 // and take it apart; whoever holds no reader asks `line_digit`.
+#![tactic(auto)]
+
 ghost use Rattle.line_reader.specs.Step.{StepMet, NewMet, NextMet, DigitMet};
 
 #[derive(Drop)]
@@ -10,7 +12,7 @@ pub struct LineReader<'a> {
 }
 
 // What a step gives: the digit, or that the line has ended, and the place that comes next.
-#[derive(Drop)]
+#[derive(Clone, Copy)]
 pub struct Step {
     pub ended: bool,
     pub digit: u8,

@@ -2,6 +2,8 @@
 // stretch of one kind all together, those of columns by tributary, which a mask keeps apart. Columns are added up in groups of four digits, one group to
 // a column, so that up to fifteen turns need no carry; then the groups are added up at once. specs/Masks.antt says what each number is. A crate of its own below `differing`, so that
 // each of the two is checked quickly.
+#![tactic(auto)]
+
 ghost use Rattle.std.specs.Prelude.{◌≡◌, ℕ, ◌+◌, ◌*◌, ◌/◌, ◌^◌, ◌<◌, ◌≤◌, min, length, get_or};
 ghost use Rattle.std.specs.Int.Bits.{bit_and};
 ghost use Rattle.masks.specs.Masks.{differing, EVERY, nibbles, Even, all_from, columns_of, added, added_four, by_four, Held};
@@ -23,7 +25,7 @@ const EVERY: u64 = 0x11111111111111;
 const LOWER: u64 = 0x0F0F0F0F0F0F0F;
 
 // The differing digits of so many columns, a number to a tributary: group by group what was added up.
-#[derive(Drop)]
+#[derive(Clone, Copy)]
 pub struct Lanes {
     pub first: u64,
     pub second: u64,

@@ -1,12 +1,14 @@
 // The table of modes: what a digit does to all of a receiver's state but the frame in hand and the stretch that is being cut. A crate of its own, so that it and
 // the wrong programs that change it are checked quickly.
+#![tactic(auto)]
+
 ghost use Rattle.std.specs.Prelude.{◌≡◌, ◌-◌, ◌^◌, ◌<◌, ◌≤◌};
 ghost use Rattle.levels.specs.Table.{Shared};
 ghost use Rattle.modes.specs.Modes.{hunting, missed, window_of, seen_of, good, asks, tested_at, judged, place_after, step_of, Valid};
 
 use table::Row;
 
-#[derive(Drop)]
+#[derive(Clone, Copy)]
 pub enum Mode {
     Hunting,
     OneFound,
@@ -26,7 +28,7 @@ pub fn is_hunting(mode: Mode) -> bool
 }
 
 // A state without its level and its frame: what goes round in the loop.
-#[derive(Drop)]
+#[derive(Clone, Copy)]
 pub struct Core {
     pub window: usize,
     pub seen: usize,
@@ -129,7 +131,7 @@ fn place_after(mode: Mode, place: usize) -> usize
 }
 
 // What one digit makes of a core, and how many words it tests: one or none.
-#[derive(Drop)]
+#[derive(Clone, Copy)]
 pub struct Stepped {
     pub core: Core,
     pub words: usize,

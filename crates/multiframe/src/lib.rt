@@ -1,6 +1,8 @@
 // The multiframe of 2048 kbit/s, request 3 of document 02: built from thirty channels, their signalling and the spare digits, and taken apart.
 // specs/Multiframe.antt says what each of its 4096 digits is; specs/Calls.antt, what the two calls answer and leave. Channels and signalling
 // are whole bytes on both sides and move as such; spare digits go through `digits`.
+#![tactic(auto)]
+
 pub mod kinds;
 
 ghost use Rattle.std.specs.Prelude.{◌≡◌, cond, ◌+◌, ◌*◌, ◌%◌, ◌<◌, ◌≤◌, [], ◌∷◌, map, length};
@@ -12,7 +14,7 @@ ghost use Rattle.multiframe.specs.Calls.{lengths_right, first_silent, BuildMet, 
 use digits::digit_at;
 
 // The spare digits by their names: reserved for international use (M), alarm (A), for use at home, and in byte 16 of frame 0 X and Y.
-#[derive(Drop)]
+#[derive(Clone, Copy)]
 pub enum SpareDigit {
     International,
     Alarm,
@@ -22,7 +24,7 @@ pub enum SpareDigit {
 }
 
 // What a digit of a multiframe is: fixed at 0 or 1, spare, or of a channel, 1 to 30.
-#[derive(Drop)]
+#[derive(Clone, Copy)]
 pub enum Kind {
     Fixed(u8),
     Spare(SpareDigit),
@@ -31,7 +33,7 @@ pub enum Kind {
 }
 
 // The answer of `build`: the refusal, and the channel that refusal 11 names.
-#[derive(Drop)]
+#[derive(Clone, Copy)]
 pub struct Built {
     pub refusal: u64,
     pub channel: usize,

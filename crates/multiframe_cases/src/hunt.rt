@@ -5,7 +5,7 @@ ghost use Rattle.std.specs.Prelude.{◌≡◌, length};
 use telling::{inputs, say};
 
 // A state, and a piece of a slice of zeros.
-#[derive(Drop)]
+#[derive(Clone, Copy)]
 struct Hunting {
     window: u64,
     seen: u64,

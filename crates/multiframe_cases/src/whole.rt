@@ -4,7 +4,7 @@ use telling::{inputs, say};
 
 // What a call is lent: slices of so many bytes. Channels and spare digits count up from 0; every byte of the signalling is `signal` but the
 // one at `at`, which is `other`.
-#[derive(Drop)]
+#[derive(Clone, Copy)]
 struct Making {
     multiframe: usize,
     channels: usize,

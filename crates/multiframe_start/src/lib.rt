@@ -1,10 +1,12 @@
 // Which of sixteen frames of 2048 kbit/s in a row begins the multiframe: a hunt finds frames, and not which of them is frame 0. specs/Start.antt says by what
 // it is known.
+#![tactic(auto)]
+
 ghost use Rattle.std.specs.Prelude.{◌≡◌, ◌<◌, length};
 ghost use Rattle.multiframe_start.specs.Start.{is_start, start_among, StartMet};
 
 // The refusal, and the frame, from 0, or 16 where none begins the multiframe.
-#[derive(Drop)]
+#[derive(Clone, Copy)]
 pub struct Started {
     pub refusal: u64,
     pub frame: usize,

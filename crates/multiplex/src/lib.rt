@@ -1,5 +1,7 @@
 // Multiplexing from a known start: four tributaries and the notes of the frames become a line. specs/Multiplex.antt says what the call
 // answers and leaves, specs/Line.antt of crate levels what each digit of the line is. The head of a set is sent by crate heads.
+#![tactic(auto)]
+
 ghost use Rattle.std.specs.Prelude.{◌≡◌, ◌+◌, ◌*◌, ◌/◌, ◌<◌, ◌≤◌, length};
 ghost use Rattle.digits.specs.Digits.{tab};
 ghost use Rattle.words.specs.Words.{Ready};

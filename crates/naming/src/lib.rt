@@ -1,5 +1,7 @@
 // What a place is, for whoever names or draws it, in the numbers that a caller has: of a frame at each level (this file) and of a multiframe of 2048 kbit/s.
 // specs/Frames.antt and specs/Multiframes.antt say which number is what.
+#![tactic(auto)]
+
 pub mod multiframes;
 
 ghost use Rattle.std.specs.Prelude.{◌≡◌, ◌<◌};
@@ -11,7 +13,7 @@ use levels::places::{FramePlace, Kind, ServiceDigit, Sign};
 use table::{Level, Row};
 
 // The refusal, the number of the place's kind, and the tributary, 1 to 4, that owns the place, or 0.
-#[derive(Drop)]
+#[derive(Clone, Copy)]
 pub struct Placed {
     pub refusal: u64,
     pub kind: u64,

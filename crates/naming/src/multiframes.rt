@@ -5,7 +5,7 @@ ghost use Rattle.naming.specs.Multiframes.{spare_number, fixed_number, kind_numb
 use multiframe::{Kind, SpareDigit, kinds};
 
 // The refusal, the number of the place's kind, and the digit that is fixed there or the channel whose it is, or 0.
-#[derive(Drop)]
+#[derive(Clone, Copy)]
 pub struct MultiframePlaced {
     pub refusal: u64,
     pub kind: u64,

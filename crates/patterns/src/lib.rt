@@ -1,4 +1,6 @@
 // The test patterns (specs/Patterns.antt): the digit that comes next, the window moved on, the digits from a window on, and whether a reading's are those.
+#![tactic(auto)]
+
 ghost use Rattle.std.specs.Prelude.{◌≡◌, true, cond, ℕ, ◌-◌, ◌*◌, ◌/◌, ◌%◌, ◌^◌, ◌<◌, ◌≤◌, eqb, length, get_or};
 ghost use Rattle.std.specs.Int.Bits.{bit_xor};
 ghost use Rattle.digits.specs.Digits.{digits_of};

@@ -8,7 +8,7 @@ use table::Row;
 
 // The stretch that is being cut: its digits and its zeros so far, whether the stretch before had few zeros, and whether the
 // alarm stands.
-#[derive(Drop)]
+#[derive(Clone, Copy)]
 pub struct Stretch {
     pub digits: usize,
     pub zeros: usize,

@@ -8,7 +8,7 @@ use modes::Core;
 use table::Row;
 
 // The core, and the place of the next digit in the piece.
-#[derive(Drop)]
+#[derive(Clone, Copy)]
 pub struct Carry {
     pub core: Core,
     pub at: usize,

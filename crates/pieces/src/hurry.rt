@@ -26,7 +26,7 @@ fn tested_in(row: Row, seen: usize, came: usize) -> usize
 }
 
 // Where a stretch of the hunt ended: the core, the place of the next digit in the piece, and how many words were tested.
-#[derive(Drop)]
+#[derive(Clone, Copy)]
 pub struct Hunt {
     pub core: Core,
     pub at: usize,

@@ -1,5 +1,7 @@
 // What a piece of many digits does, part by part: the stretch that is counted, the frame in hand, and where many digits at once lead, hunting and outside it. The
 // receiver puts the parts together. A crate of its own below it, so that it and the wrong programs that change it are checked quickly.
+#![tactic(auto)]
+
 pub mod alarm;
 pub mod carry;
 pub mod frame;

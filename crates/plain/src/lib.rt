@@ -1,6 +1,8 @@
 // The plain engine: multiplexing and demultiplexing digit by digit. Besides the level table it shares nothing with the quick engine (crates
 // multiplex, reading and extraction); the whole of its specification is specs/Engine.antt of crate engine, where what the three calls share
 // stands too. For each place of a line, in order: ask what the place is, then read or write one digit.
+#![tactic(auto)]
+
 pub mod reading;
 pub mod send;
 pub mod take;

@@ -10,7 +10,7 @@ use engine::{frame, packed};
 use table::Row;
 
 // What a frame says: its note, the wrong digits of its alignment signal, the dissenting digits of each tributary.
-#[derive(Drop)]
+#[derive(Clone, Copy)]
 pub struct Said {
     pub note: u8,
     pub wrong: usize,
@@ -18,7 +18,7 @@ pub struct Said {
 }
 
 // What is counted while the notes are read.
-#[derive(Drop)]
+#[derive(Clone, Copy)]
 pub struct Errors {
     pub alignment: usize,
     pub dissent: [usize; 4],

@@ -1,5 +1,7 @@
 // Reading the notes of a line: each decision by the majority of its control group in its own frame, the service digits as they came, and the
 // counts of errors. specs/Reading.antt says what the call answers and leaves.
+#![tactic(auto)]
+
 ghost use Rattle.std.specs.Prelude.{◌≡◌, ◌+◌, ◌*◌, ◌/◌, ◌%◌, ◌<◌, ◌≤◌, length, get_or};
 ghost use Rattle.digits.specs.Digits.{digits_of, window_at};
 ghost use Rattle.levels.specs.Table.{Shared};
@@ -12,7 +14,7 @@ use levels::places::FramePlace;
 use levels::{lent, sizes, vote};
 use table::{Level, Row};
 
-#[derive(Drop)]
+#[derive(Clone, Copy)]
 pub struct Noted {
     pub refusal: u64,
     // alignment digits that differ from the word, over all frames
@@ -22,7 +24,7 @@ pub struct Noted {
 }
 
 // What a frame says: its note, and how many digits of each tributary's control group dissent.
-#[derive(Drop)]
+#[derive(Clone, Copy)]
 pub struct FrameRead {
     pub note: u8,
     pub dissent: [usize; 4],

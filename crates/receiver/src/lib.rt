@@ -1,6 +1,8 @@
 // The receiver: finding frames in a stream of digits. Two calls, `fresh` and `feed`; a state goes in by value and comes
 // back by value. Each answer equals a definition of specs/Feed.antt, for any state and any piece whatever; the whole statement
 // of each call has a name there.
+#![tactic(auto)]
+
 mod carry;
 mod hurry;
 pub mod numbers;
@@ -20,7 +22,7 @@ use table::{Level, Row};
 
 // The level, the last L digits (the newest worth 1), how many digits came since reset (stopping at L), the mode, the
 // place, the frame in hand, and the stretch that is being cut.
-#[derive(Drop)]
+#[derive(Clone, Copy)]
 pub struct State {
     pub level: u64,
     pub window: usize,
@@ -32,7 +34,7 @@ pub struct State {
 }
 
 // What making a fresh state gives.
-#[derive(Drop)]
+#[derive(Clone, Copy)]
 pub struct Made {
     pub refusal: u64,
     pub state: State,
@@ -40,7 +42,7 @@ pub struct Made {
 
 // What a piece gives: digits taken, whether a frame is ready (it is in the state), whether the alarm stands at its end, and how many
 // words were tested.
-#[derive(Drop)]
+#[derive(Clone, Copy)]
 pub struct Fed {
     pub refusal: u64,
     pub taken: usize,

@@ -9,7 +9,7 @@ use receiver::{Fed, State, numbers};
 
 // The state's numbers in the order in which the C face has them; the mode is 0 hunting, 1 one found, 2 two found, 3 + m aligned with m missed.
 #[repr(C)]
-#[derive(Drop)]
+#[derive(Clone, Copy)]
 pub struct Record {
     pub level: u64,
     pub window: u64,
@@ -24,7 +24,7 @@ pub struct Record {
 }
 
 // What a call on one record gives: the refusal, and the record to be kept.
-#[derive(Drop)]
+#[derive(Clone, Copy)]
 pub struct Kept {
     pub refusal: u64,
     pub kept: Record,

@@ -1,6 +1,8 @@
 // Repairing a worn line in place: alignment digits to the word, control groups to their majority, stuffing digits to 1, and if asked national digits to 1.
 // Frame after frame: the votes of a frame are read before anything of it is written, and the note of the frame before it is carried along. Only the heads
 // of sets are walked, for behind them there are tributary digits alone. specs/Repair.antt says what the call answers and leaves.
+#![tactic(auto)]
+
 ghost use Rattle.std.specs.Prelude.{◌≡◌, cond, ◌+◌, ◌*◌, ◌<◌, length, replicate};
 ghost use Rattle.levels.specs.declared.places.Kind.TheVariants.{Word, Justification};
 ghost use Rattle.levels.specs.Table.{Shared};
@@ -13,7 +15,7 @@ use levels::{faults, lent, order, places, sent, sizes};
 use table::{Level, Row};
 
 // What a repair answers: its refusal, and how many digits it changed, of the word, of each tributary's control and stuffing digits, and national digits.
-#[derive(Drop)]
+#[derive(Clone, Copy)]
 pub struct Repaired {
     pub refusal: u64,
     pub word: usize,
@@ -23,7 +25,7 @@ pub struct Repaired {
 }
 
 // What a frame is repaired by: the note of the frame before it, or the earlier vote, its own, and whether national digits are set to 1.
-#[derive(Drop)]
+#[derive(Clone, Copy)]
 pub struct Rule {
     pub preceding: u64,
     pub note: u8,

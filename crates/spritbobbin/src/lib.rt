@@ -1,5 +1,7 @@
 // The C face: the calls over numbers, slices and fixed arrays, nothing else. A slice passes as a pointer and then a length, a fixed array as
 // a pointer. include/spritbobbin.h declares these functions for C; nothing checks that header against this file but the tests.
+#![tactic(auto)]
+
 pub mod begins_face;
 pub mod compare_face;
 pub mod copy_face;

@@ -3,7 +3,7 @@ use crate::stream;
 use telling::say;
 
 // A state that hunts, all zero but for its stretch, and a piece of a slice of one byte.
-#[derive(Drop)]
+#[derive(Clone, Copy)]
 struct Stretched {
     level: u64,
     digits: u64,

@@ -7,14 +7,14 @@ use line_reader::Step;
 use telling::{inputs, say};
 
 // A line of so many bytes, byte i of it i modulo 256, and the place that is read from.
-#[derive(Drop)]
+#[derive(Clone, Copy)]
 struct Reading {
     line: usize,
     place: usize,
 }
 
 // Two steps of one reader.
-#[derive(Drop)]
+#[derive(Clone, Copy)]
 struct Two {
     first: Step,
     second: Step,

@@ -4,7 +4,7 @@ ghost use Rattle.std.specs.Prelude.{◌≡◌, length};
 use telling::{inputs, say};
 
 // A state whose frame store is zero, and a piece of a slice of zeros.
-#[derive(Drop)]
+#[derive(Clone, Copy)]
 struct Feeding {
     level: u64,
     window: u64,

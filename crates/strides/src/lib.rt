@@ -1,5 +1,7 @@
 // Strides: many digits at a time, for the receiver and the finder. Where a word ends (`seek`), the window after many digits, and a copy of many
 // digits (src/copies.rt). Nothing here knows a row, a mode or a frame: a word is its number of digits and its number.
+#![tactic(auto)]
+
 pub mod copies;
 
 ghost use Rattle.std.specs.Prelude.{◌≡◌, true, ◌+◌, ◌*◌, ◌-◌, ◌%◌, ◌^◌, ◌<◌, ◌≤◌, min, length};
@@ -139,7 +141,7 @@ fn seek_far(len: usize, word: usize, piece: &[u8], from: usize, end: usize) -> u
 }
 
 // Where it stands: the place of the next digit, and the window before it.
-#[derive(Drop)]
+#[derive(Clone, Copy)]
 pub struct Sought {
     pub window: usize,
     pub at: usize,

@@ -1,5 +1,7 @@
 // One tributary of a line swapped in place: its control, justification and tributary places are written anew from new digits and new decisions, and no
 // other digit is touched. specs/Swap.antt says what the call answers and leaves.
+#![tactic(auto)]
+
 mod columns;
 
 ghost use Rattle.std.specs.Prelude.{◌≡◌, true, ℕ, ◌+◌, ◌/◌, ◌*◌, ◌<◌, ◌≤◌, length};
@@ -16,7 +18,7 @@ use levels::{faults, lent, order, places, sent, sizes};
 use table::{Level, Row};
 use weave::table::spread_table;
 
-#[derive(Drop)]
+#[derive(Clone, Copy)]
 pub struct Swapped {
     pub refusal: u64,
     // the digits taken

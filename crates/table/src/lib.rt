@@ -1,10 +1,12 @@
 // The level table of document 01 and of document 02, request 10, a row to a level, and the one function that finds a level's row.
 // specs/Table.antt has the same table for a reader; that the two are equal is what `level_of` ensures.
+#![tactic(auto)]
+
 ghost use Rattle.std.specs.Prelude.{◌≡◌};
 ghost use Rattle.table.specs.Table.{level_of};
 
 // A row of the table.
-#[derive(Drop)]
+#[derive(Clone, Copy)]
 pub struct Row {
     // frame digits N, frame bytes
     pub digits: usize,
@@ -35,7 +37,7 @@ pub struct Row {
     pub limit: usize,
 }
 
-#[derive(Drop)]
+#[derive(Clone, Copy)]
 pub enum Level {
     Of(Row),
     NoSuchLevel,

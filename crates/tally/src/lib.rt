@@ -1,5 +1,7 @@
 // One table of counts by kind and tributary: which of the fifteen sums a place of a line counts in, and one more in it. Kinds go by the layout,
 // so neither a note nor a digit is looked at. specs/Tally.antt says what the fifteen are.
+#![tactic(auto)]
+
 ghost use Rattle.std.specs.Prelude.{◌≡◌, ℕ, ◌^◌, ◌<◌, get_or};
 ghost use Rattle.levels.specs.Table.{Shared};
 ghost use Rattle.tally.specs.Tally.{service_number, sum_number, number_at, one_more};

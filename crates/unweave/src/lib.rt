@@ -1,5 +1,7 @@
 // A line taken apart, whole bytes at a time: the columns between two heads, up to 32 a turn, and the justification columns. Each tributary has
 // a writer of its own, to which its quarter of the buffer is lent.
+#![tactic(auto)]
+
 pub mod sorting;
 
 ghost use Rattle.std.specs.Prelude.{◌≡◌, ℕ, ◌+◌, ◌*◌, ◌-◌, ◌/◌, ◌%◌, ◌^◌, ◌<◌, ◌≤◌, length};
@@ -15,7 +17,7 @@ use table::{CONTROL_END, Row};
 use words::{Writer, turning};
 
 // The tributaries' writers, in order.
-#[derive(Drop)]
+#[derive(Clone, Copy)]
 pub struct Writers {
     pub a: Writer,
     pub b: Writer,
@@ -34,7 +36,7 @@ fn put_quarter(buffer: &mut [u8], q: usize, j: usize, w: Writer, word: u64, n: u
 }
 
 // The tributaries' digits, in order, each as a number.
-#[derive(Drop)]
+#[derive(Clone, Copy)]
 struct Columns {
     a: u64,
     b: u64,

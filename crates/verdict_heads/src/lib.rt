@@ -1,5 +1,7 @@
 // The first numbers of a verdict's state after frames were fed: whether one came, the last two votes, and the changes (crate `verdict`, specs/Feed.antt, `fed_state`). A crate of its
 // own below `verdict`, so that it and the wrong programs that change it are checked quickly.
+#![tactic(auto)]
+
 ghost use Rattle.std.specs.Prelude.{◌≡◌, cond, ◌&&◌, ◌∷◌, ℕ, ◌+◌, ◌%◌, ◌<◌, ◌≤◌, eqb, length, get_or, set, drop};
 ghost use Rattle.std.proofs.lemmas.List.Edits.{sets};
 ghost use Rattle.verdict_states.specs.States.{decided, changes_in};

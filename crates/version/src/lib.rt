@@ -1,4 +1,6 @@
 // The version of the library, as the file VERSION has it. A crate of its own, so that a wrong version is refused at once.
+#![tactic(auto)]
+
 ghost use Rattle.version.specs.Version.{VersionMet};
 
 const MAJOR: u64 = 0;

@@ -1,5 +1,7 @@
 // Four tributaries into one line, whole bytes at a time: a table spreads eight digits of a tributary over 32 digits of the line. Which
 // columns of a line are woven so, and which are not, the crates above know.
+#![tactic(auto)]
+
 pub mod table;
 
 ghost use Rattle.std.specs.Prelude.{◌≡◌, ◌+◌, ◌*◌, ◌/◌, ◌%◌, ◌^◌, ◌<◌, ◌≤◌, length};
@@ -10,7 +12,7 @@ ghost use Rattle.weave.specs.Weave.{spread_of, weave_of, moved_on, woven, Has};
 use words::Writer;
 
 // Each tributary's next digit, as a place in its quarter.
-#[derive(Drop)]
+#[derive(Clone, Copy)]
 pub struct Next {
     pub a: usize,
     pub b: usize,

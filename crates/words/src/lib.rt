@@ -1,5 +1,7 @@
 // Digits by the word: a reader of up to 64 digits of a slice from any place on, as a number, and a writer that appends up to 32 digits
 // at a time. specs/Words.antt says what a writer has put out; no crate above speaks of the bytes it stores or of the digits it holds.
+#![tactic(auto)]
+
 pub mod turning;
 
 ghost use Rattle.std.specs.Prelude.{◌≡◌, [], ℕ, ◌+◌, ◌*◌, ◌-◌, ◌/◌, ◌%◌, ◌^◌, ◌<◌, ◌≤◌, length};
@@ -9,7 +11,7 @@ ghost use Rattle.words.specs.Words.{four, Ready, Appended, Finished};
 
 // Where a writer stands: the bytes before `at` are stored, and the `fill` digits that come next are held as a number. Digits go out in
 // order, so a writer never reads what it overwrites.
-#[derive(Drop)]
+#[derive(Clone, Copy)]
 pub struct Writer {
     pub at: usize,
     pub held: u64,

@@ -1,5 +1,7 @@
 // The line of a multiplexer that acts on its decisions a frame late: its control digits say the notes in time, its justification digits follow
 // the decisions of the frame before. Crate late makes such a line for a caller; crate judge_promises proves what the judge finds in it.
+#![tactic(auto)]
+
 ghost use Rattle.std.specs.Prelude.{◌≡◌, ◌+◌, ◌*◌, ◌<◌, ◌≤◌, length};
 ghost use Rattle.digits.specs.Digits.{digits_of};
 ghost use Rattle.table.specs.Table.{level_of};

@@ -1,0 +1,29 @@
+-- The byte of the frame decides which tables are read.
+use mathlib.Core.Path.{◌≡◌, sym, ap, ◌∙◌}
+use Prim.Native.Nat.{ℕ, ◌/◌, ◌%◌, ◌<◌}
+use native.Mathlib.Omega.{arith}
+use native.Mathlib.Decide.{dec_lt}
+use Rattle.multiframe.specs.declared.Kind.TheVariants.{Channel}
+use Rattle.multiframe.proofs.Told.{kind-first, kind-sixteenth, kind-channel}
+use Rattle.multiframe.proofs.kinds.kind_at.Goals as goal
+
+-- a byte that is neither 0 nor 16
+between : (b : ℕ) → b < 32 → (b ≡ 0 → ⊥) → (b ≡ 16 → ⊥) → 0 < b % 16
+between b h z s =
+    elim (dec_lt 0 (b % 16)) [
+      | yes g ↦ g
+      | no g ↦ absurd (elim (dec_lt b 16) [ yes l ↦ z (omega arith) | no l ↦ s (omega arith) ])
+    ]
+
+pub returns-then-byte-eq0 : goal.returns-then-byte-eq0
+returns-then-byte-eq0 c = c.first_byte.ensures ∙ sym (kind-first c.args.p c.if-byte-eq0.true)
+
+pub returns-then-byte-eq16 : goal.returns-then-byte-eq16
+returns-then-byte-eq16 c =
+    c.sixteenth_byte.ensures ∙ sym (kind-sixteenth c.args.p c.if-byte-eq16.true)
+
+pub returns : goal.returns
+returns c =
+    let p = c.args.p in
+    let g = between (p / 8 % 32) (omega arith) c.if-byte-eq0.false c.if-byte-eq16.false in
+    ap Channel c.channel_of.ensures ∙ sym (kind-channel p (omega (arith, g)))

@@ -1,0 +1,16 @@
+-- `ones`: one digit less than the power of two, which has no more than 32 digits.
+use mathlib.Core.Path.{◌≡◌, ◌∙◌}
+use native.Mathlib.Omega.{arith}
+use native.Mathlib.Nat.{one-mul}
+use Prim.Native.Nat.{ℕ, ◌*◌, ◌%◌, ◌^◌, ◌≤◌}
+use lib.Pow.{pow_pos, shl_exact}
+use Rattle.words.proofs.ones.Goals as goal
+
+worth : (l : ℕ) → l ≤ 32 → (1 * 2 ^ l) % 2 ^ 64 ≡ 2 ^ l
+worth l h = shl_exact {a = 1} 1 l 64 (omega arith) (omega arith) ∙ one-mul (2 ^ l)
+
+pub overflow_sub-result : goal.overflow_sub-result
+overflow_sub-result c = let l = c.args.n in omega (arith, worth l (omega arith), pow_pos l)
+
+pub returns : goal.returns
+returns c = rw (worth c.args.n (omega arith))
