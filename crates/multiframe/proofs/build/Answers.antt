@@ -3,7 +3,7 @@ use mathlib.Core.Path.{◌≡◌, refl, sym, ◌∙◌}
 use mathlib.Core.Bool.{true, false}
 use native.Mathlib.Omega.{arith}
 use lib.ListN.{length}
-use borrow.Author.Tests.{ne_eqb, not-true, not-false}
+use borrow.Author.Tests.{ne_eqb}
 use Rattle.digits.specs.Digits.{Bytes}
 use Rattle.multiframe.specs.Calls.{lengths_right, first_silent}
 use Rattle.multiframe.proofs.Made.{built-is}
@@ -14,33 +14,33 @@ pub returns-then-not-lengths_right : goal.returns-then-not-lengths_right
 returns-then-not-lengths_right c =
     let a = c.args in
     let no : lengths_right (length a.multiframe.now) (length a.channels.now) (length a.signalling.now) (length a.spare.now) ≡ false
-    = sym c.lengths_right.ensures ∙ not-true _ c.if-not-lengths_right.true in
+    = sym c.lengths_right.ensures ∙ c.if-not-lengths_right.true in
     rw no (refl, refl)
 
 pub first_silent-silent-requires : goal.first_silent-silent-requires
 first_silent-silent-requires c =
     let a = c.args in
-    (right-lengths a.multiframe.now a.channels.now a.signalling.now a.spare.now (sym c.lengths_right.ensures ∙ not-false _ c.if-not-lengths_right.false)).2
+    (right-lengths a.multiframe.now a.channels.now a.signalling.now a.spare.now (sym c.lengths_right.ensures ∙ c.if-not-lengths_right.false)).2
 
 pub returns-then-silent-ne0 : goal.returns-then-silent-ne0
 returns-then-silent-ne0 c =
     let a = c.args in
     let right : lengths_right (length a.multiframe.now) (length a.channels.now) (length a.signalling.now) (length a.spare.now) ≡ true
-    = sym c.lengths_right.ensures ∙ not-false _ c.if-not-lengths_right.false in
+    = sym c.lengths_right.ensures ∙ c.if-not-lengths_right.false in
     let first = c.first_silent-silent.ensures in
     rw (right, ← first, ne_eqb _ 0 c.if-silent-ne0.true) (refl, refl)
 
 pub lay-requires : goal.lay-requires
 lay-requires c =
     let a = c.args in
-    let w = right-lengths a.multiframe.now a.channels.now a.signalling.now a.spare.now (sym c.lengths_right.ensures ∙ not-false _ c.if-not-lengths_right.false) in
+    let w = right-lengths a.multiframe.now a.channels.now a.signalling.now a.spare.now (sym c.lengths_right.ensures ∙ c.if-not-lengths_right.false) in
     (w.0, w.1, w.2, w.3)
 
 pub returns : goal.returns
 returns c =
     let a = c.args in
     let right : lengths_right (length a.multiframe.now) (length a.channels.now) (length a.signalling.now) (length a.spare.now) ≡ true
-    = sym c.lengths_right.ensures ∙ not-false _ c.if-not-lengths_right.false in
+    = sym c.lengths_right.ensures ∙ c.if-not-lengths_right.false in
     let w = right-lengths a.multiframe.now a.channels.now a.signalling.now a.spare.now right in
     let none : first_silent a.signalling.now ≡ 0 = sym c.first_silent-silent.ensures ∙ c.if-silent-ne0.false in
     let lay = c.lay in
