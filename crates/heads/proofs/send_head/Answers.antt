@@ -1,0 +1,106 @@
+-- `send_head`: the columns so far as a number (Placing).
+use mathlib.Core.Path.{◌≡◌}
+use Prim.Native.Nat.{◌+◌, ◌*◌, ◌<◌}
+use native.Mathlib.Omega.{arith}
+use lib.Pow.{pow_mono}
+use Rattle.levels.specs.Places.{head_end}
+use Rattle.levels.proofs.Room.{set-in-line}
+use Rattle.levels.proofs.Runs.{head-end-fours, head-end-short, head-end-in}
+use Rattle.heads.proofs.Placing.{headed-start, headed-more, sent-column, column-rely}
+use Rattle.heads.proofs.Sending.{head-sent}
+use Rattle.heads.proofs.send_head.Goals as goal
+
+pub note_of-note-requires : goal.note_of-note-requires
+note_of-note-requires c = c.requires.0
+
+pub preceding_of-preceding-requires : goal.preceding_of-preceding-requires
+preceding_of-preceding-requires c = c.requires.0
+
+pub head_end-end-requires : goal.head_end-end-requires
+head_end-end-requires c = c.requires.3.fits.shared
+
+pub loop-r-init : goal.loop-r-init
+loop-r-init c =
+    let pre = c.requires in
+    (omega arith, c.head_end-end.ensures, c.note_of-note.ensures, c.preceding_of-preceding.ensures, headed-start _ _ _ _ _ _ _ pre.3.sent, omega arith)
+
+pub overflow_mul-word : goal.overflow_mul-word
+overflow_mul-word c =
+    let pre = c.requires in
+    let b = c.args in
+    let l = c.loop-r in
+    omega (arith, l.invariant.4.few, pow_mono {i = l.r} {j = 16} (omega (arith, l.invariant.0, l.invariant.1, head-end-short _ pre.3.fits.shared b.set)))
+
+pub head_column-requires : goal.head_column-requires
+head_column-requires c =
+    let preceding-of = c.preceding_of-preceding in
+    let note-of = c.note_of-note in
+    let l = c.loop-r in
+    let b = c.args in
+    let h = c.requires.3 in
+    let inside : l.r < b.row.set = omega (arith, c.loop-r-test.true, l.invariant.1, head-end-in _ h.fits.shared b.set) in
+    let rely =
+    column-rely b.row h.fits.shared b.f b.set l.r (b.f * b.row.digits + b.set * b.row.set + l.r) (omega arith) c.requires.1 l.invariant.5 inside
+    b.earlier b.notes.now preceding-of.result note-of.result l.invariant.3 l.invariant.2 _ _ h.fits c.requires.0 b.buffer.now l.next _
+    l.invariant.4.sent in (
+      omega (arith, c.loop-r-test.true, l.invariant.1),
+      record { shared = h.fits.shared; quarters = c.requires.2; four = l.invariant.4.sent.four; column = l.invariant.5; rely = rely },
+    )
+
+pub overflow_add-word : goal.overflow_add-word
+overflow_add-word c =
+    let pre = c.requires in
+    let b = c.args in
+    let l = c.loop-r in
+    let short = head-end-short _ pre.3.fits.shared b.set in
+    omega (arith, l.invariant.4.few, c.head_column.ensures.few, pow_mono {i = l.r} {j = 16} (omega (arith, l.invariant.0, l.invariant.1, short)))
+
+pub overflow_add-r : goal.overflow_add-r
+overflow_add-r c =
+    let pre = c.requires in
+    let b = c.args in
+    let l = c.loop-r in
+    omega (arith, c.loop-r-test.true, l.invariant.1, head-end-short _ pre.3.fits.shared b.set)
+
+pub loop-r-smaller : goal.loop-r-smaller
+loop-r-smaller c = omega (arith, c.loop-r-test.true)
+
+pub loop-r-preserved : goal.loop-r-preserved
+loop-r-preserved c =
+    let preceding-of = c.preceding_of-preceding in
+    let note-of = c.note_of-note in
+    let l = c.loop-r in
+    let b = c.args in
+    let h = c.requires.3 in
+    let inside : l.r < b.row.set = omega (arith, c.loop-r-test.true, l.invariant.1, head-end-in _ h.fits.shared b.set) in
+    let sent =
+    sent-column b.row h.fits.shared b.f b.set l.r (b.f * b.row.digits + b.set * b.row.set + l.r) (omega arith) c.requires.1 l.invariant.5 inside
+    b.earlier b.notes.now preceding-of.result note-of.result l.invariant.3 l.invariant.2 b.buffer.now l.next _ _ _ l.invariant.4.sent c.head_column.ensures in
+    let more = headed-more _ _ _ _ _ _ l.r l.word _ l.next _ l.invariant.4 c.head_column.ensures.few sent in
+    (omega (arith, c.loop-r-test.true, l.invariant.1, l.invariant.5, head-end-fours _ h.fits.shared b.set), l.invariant.1, l.invariant.2, l.invariant.3, more, omega (arith, l.invariant.5))
+
+pub put-requires : goal.put-requires
+put-requires c =
+    let pre = c.requires in
+    let l = c.loop-r in
+    let b = c.args in
+    let h = pre.3 in
+    let end : l.r ≡ head_end b.row b.set = omega (arith, l.invariant.0, l.invariant.1, c.loop-r-test.false) in
+    let room = set-in-line _ _ _ _ h.fits b.f b.set pre.0 pre.1 in
+    let most = head-end-short _ h.fits.shared b.set in
+    let inside = head-end-in _ h.fits.shared b.set in
+    let few = l.invariant.4.few in
+    (h.ready, omega (arith, l.invariant.1, most), rw (l.invariant.1, ← end) few, omega (arith, l.invariant.1, h.place, room, inside))
+
+pub returns : goal.returns
+returns c =
+    let head-end = c.head_end-end in
+    let test = c.loop-r-test in
+    let pre = c.requires in
+    let l = c.loop-r in
+    let b = c.args in
+    let end : l.r ≡ head-end.result = omega (arith, l.invariant.0, test.false) in
+    let put = c.put in
+    let sent = head-sent _ _ _ _ _ head-end.result l.word _ _ _ _ _ l.next pre.3 put.ensures put.auto.s (rw end at l.invariant.4) in
+    let e : b.f * b.row.digits + (b.set * b.row.set + head_end b.row b.set) ≡ b.f * b.row.digits + b.set * b.row.set + head-end.result = omega (arith, head-end.ensures) in
+    rw e sent

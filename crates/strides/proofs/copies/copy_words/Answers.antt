@@ -1,0 +1,60 @@
+-- `copy_words`: 32 digits are put for each turn (proofs/Putting.antt).
+use mathlib.Core.Path.{◌≡◌, refl, ◌∙◌}
+use native.Mathlib.Omega.{arith}
+use Rattle.strides.proofs.Putting.{puts-start, puts_word}
+use Rattle.strides.proofs.copies.copy_words.Goals as goal
+
+pub loop-k-init : goal.loop-k-init
+loop-k-init c =
+    (omega arith, (λ i. omega (arith, c.type_inv.f i)), refl, puts-start c.args.piece.now _ _ c.args.first _ (omega arith))
+
+pub overflow_mul-k : goal.overflow_mul-k
+overflow_mul-k c =
+    omega (arith, c.requires.2, c.requires.3, c.loop-k-test.true)
+
+pub overflow_add-at : goal.overflow_add-at
+overflow_add-at c =
+    omega (arith, c.requires.2, c.requires.3, c.loop-k-test.true)
+
+pub overflow_mul-k-in-loop-k : goal.overflow_mul-k-in-loop-k
+overflow_mul-k-in-loop-k c =
+    omega (arith, c.requires.0, c.requires.1, c.loop-k-test.true)
+
+pub overflow_add-first : goal.overflow_add-first
+overflow_add-first c =
+    omega (arith, c.requires.0, c.requires.1, c.loop-k-test.true)
+
+pub read_digits-requires : goal.read_digits-requires
+read_digits-requires c =
+    (omega (arith, c.requires.0, c.loop-k-test.true), omega arith, omega arith)
+
+pub store4-requires : goal.store4-requires
+store4-requires c =
+    let l = c.loop-k in
+    omega (arith, c.requires.2, l.invariant.2, c.loop-k-test.true)
+
+pub overflow_add-k : goal.overflow_add-k
+overflow_add-k c =
+    omega (arith, c.requires.2, c.requires.3, c.loop-k-test.true)
+
+pub loop-k-smaller : goal.loop-k-smaller
+loop-k-smaller c = omega (arith, c.loop-k-test.true)
+
+pub loop-k-preserved : goal.loop-k-preserved
+loop-k-preserved c =
+    let l = c.loop-k in
+    let t = c.loop-k-test.true in
+    let s = c.store4 in
+    let on =
+    puts_word c.args.piece.now _ l.f _ c.args.at c.args.first l.k _ l.invariant.1 (omega (arith, c.requires.2, l.invariant.2, t)) (omega (arith, c.requires.0, t)) l.invariant.3
+    c.read_digits.ensures.0 s.ensures in
+    (omega (arith, t), on.0, s.auto.s ∙ l.invariant.2, on.1)
+
+pub shape_of-f : goal.shape_of-f
+shape_of-f c = c.loop-k.invariant.2
+
+pub returns : goal.returns
+returns c =
+    let l = c.loop-k in
+    let e : l.k ≡ c.args.n = omega (arith, l.invariant.0, c.loop-k-test.false) in
+    rw e at l.invariant.3
