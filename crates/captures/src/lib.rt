@@ -72,7 +72,7 @@ fn put_field(file: &mut [u8], p: usize, tag: u8, body: &[u8]) -> usize
     file[p + 2] = (n % 256) as u8;
     let start = p + 3;
     let end = start + n;
-    bytes::copy(body, &mut file[start..end]);
+    file[start..end].copy_from_slice(body);
     end
 }
 

@@ -54,7 +54,7 @@ loop-j-preserved c =
     )
 
 pub returns : goal.returns
-returns c =
+returns c acts buffer next =
     let l = c.loop-j in
     let end : l.j ≡ 4 = omega (arith, l.invariant.0, c.loop-j-test.false) in
     rw (← end) (l.invariant.2 acts buffer next)

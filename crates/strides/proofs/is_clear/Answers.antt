@@ -7,7 +7,7 @@ use Rattle.strides.proofs.Missing.{clear-is}
 use Rattle.strides.proofs.is_clear.Goals as goal
 
 pub returns : goal.returns
-returns c =
+returns c t =
     let r = c.misses.result in
     let e : bit_and r c.args.ones ≡ c.args.ones = eqb-true _ _ t in
     let all : r % 2 ^ c.args.places ≡ 2 ^ c.args.places - 1 = sym (and_mask r c.args.places) ∙ (rw c.requires.4 at e) in

@@ -12,4 +12,4 @@ pub returns : goal.returns
 unfolding number_at
 returns c =
     let kind = c.kind_at-kind.ensures in
-    rw (← kind-in-frame c.args.row c.requires c.args.p.0, ← kind, ← c.tributary_at.ensures) c.Sum-Number.ensures
+    rw (← kind-in-frame c.args.row c.requires c.args.p.0, ← kind, ← c.tributary_at.ensures) c.sum_number.ensures

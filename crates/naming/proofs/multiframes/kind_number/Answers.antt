@@ -2,4 +2,4 @@
 use Rattle.naming.proofs.multiframes.kind_number.Goals as goal
 
 pub returns-in-Fixed : goal.returns-in-Fixed
-returns-in-Fixed c = rw c.in-Fixed.is c.Fixed-number.ensures
+returns-in-Fixed c = rw c.in-Fixed.is c.fixed_number.ensures

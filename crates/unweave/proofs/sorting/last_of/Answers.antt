@@ -5,6 +5,6 @@ use Rattle.unweave.proofs.sorting.last_of.Goals as goal
 
 pub returns : goal.returns
 returns c =
-    let row_of = c.row_of in
+    let the_row_of = c.row_of in
     let row = row_of c.args.rows c.args.j in
-    rw (row_of.ensures.0, c.ones.ensures) (and_mask row c.args.n, mask_lt row c.args.n)
+    rw (the_row_of.ensures.0, c.ones.ensures) (and_mask row c.args.n, mask_lt row c.args.n)

@@ -1,0 +1,32 @@
+-- Refused, or written (Judging).
+use mathlib.Core.Path.{◌≡◌, sym, ◌∙◌, ap}
+use lib.ListN.{length}
+use Rattle.captures.specs.Captures.{unwritten, write_refusal}
+use Rattle.captures.proofs.Judging.{refused-on, written_on_lem, judged-good, short-enough, short-label}
+use Rattle.captures.proofs.write_on.Goals as goal
+
+-- what is not refused
+accepted : (c : tie.Else1) →
+    let a = c.before.before.before.before.before.args in
+    write_refusal a.row a.level a.line.now a.label.now a.labelled (length a.file.now) ≡ 0
+accepted c = sym c.before.write-refusal.ensures ∙ c.if1.false
+
+pub returns-then-no-ne0 : goal.returns-then-no-ne0
+returns-then-no-ne0 c =
+    let a = c.args in
+    let no = c.write_refusal-no.ensures in
+    let both = refused-on a.row a.level a.line.now a.label.now a.labelled a.file.now (λ z. c.if-no-ne0.true (no ∙ z)) in
+    (c.refused.ensures ∙ ap unwritten no ∙ both.0, both.1)
+
+pub put_fields-bytes-requires : goal.put_fields-bytes-requires
+put_fields-bytes-requires c =
+    let a = c.args in
+    let ok = judged-good a.row a.level a.line.now a.label.now a.labelled a.file.now (accepted c) in
+    (short-enough a.row c.requires.0 _ ok.line_good, short-label a.labelled a.label.now ok.label_short, ok.room)
+
+pub returns : goal.returns
+returns c =
+    let put = c.put_fields-bytes in
+    let a = c.args in
+    let both = written_on_lem a.row a.level a.line.now a.label.now a.labelled a.file.now (accepted c) _ put.ensures.1 in
+    (rw put.ensures.0 both.0, both.1)
