@@ -56,18 +56,7 @@ module _ (p tag : ℕ) (body old : List ℕ) (h : p + 3 + length body ≤ length
   as_long : length headed ≡ length old
   as_long = simp (length-set)
 
-  module _ (part : List ℕ) (is : part ≡ take (length body) body ++ drop (length body) (mid_of (p + 3) (p + 3 + length body - (p + 3)) headed)) where
-    -- as many bytes are lent as are copied, so that none of the part is left over
-    lent : length (mid_of (p + 3) (p + 3 + length body - (p + 3)) headed) ≡ length body
-    lent = mid_len (p + 3) (p + 3 + length body) headed (omega (arith, as_long)) ∙ omega arith
-
-    filled : part ≡ body
-    filled =
-        is
-        ∙ ap₂ (λ (xs ys : List ℕ). xs ++ ys) (take_all (length body) body (omega arith))
-        (drop_of_length-le (mid_of (p + 3) (p + 3 + length body - (p + 3)) headed) {i = length body} (omega (arith, lent)))
-        ∙ append-nil body
-
+  module _ (part : List ℕ) (filled : part ≡ body) where
     pub field_put : put_mid (p + 3) (p + 3 + length body - (p + 3)) headed part ≡ put_at p (field_of tag body) old
     field_put =
         rw (filled, Post-is (p + 3) (p + 3 + length body) headed (omega arith), head-put)

@@ -17,9 +17,9 @@ bounds-file-p-3 c =
 pub shape_of-file : goal.shape_of-file
 shape_of-file c =
     let a = c.args in
-    field-length a.p a.tag a.body.now a.file.now c.requires.1 _ c.copy.ensures.1
+    field-length a.p a.tag a.body.now a.file.now c.requires.1 _ c.copy_from_slice.ensures.after
 
 pub returns : goal.returns
 returns c =
     let a = c.args in
-    (refl, field_put a.p a.tag a.body.now a.file.now c.requires.1 _ c.copy.ensures.1)
+    (refl, field_put a.p a.tag a.body.now a.file.now c.requires.1 _ c.copy_from_slice.ensures.after)

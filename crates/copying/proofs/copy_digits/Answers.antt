@@ -3,7 +3,7 @@ use mathlib.Core.Path.{sym, ◌∙◌}
 use mathlib.Core.Bool.{true, false}
 use Prim.Native.Nat.{◌+◌, ◌*◌}
 use native.Mathlib.Omega.{arith}
-use borrow.Author.Tests.{leb-true, not-false}
+use borrow.Author.Tests.{leb-true}
 use lib.ListN.{length}
 use Rattle.digits.specs.Digits.{Bytes}
 use Rattle.copying.proofs.Carried.{copied, none-there, none_here, all_there}
@@ -22,31 +22,31 @@ returns-then-not-has_digits-2 c =
 
 pub begin-begun-requires : goal.begin-begun-requires
 begin-begun-requires c =
-    let a = c.before.before.before.before.before.before.before.args in
-    let room = leb-true (a.at + a.count) (8 * length a.to.now) (sym c.has-digits.ensures ∙ not-false _ c.if1.false) in
+    let a = c.args in
+    let room = leb-true (a.at + a.count) (8 * length a.to.now) (sym c.has_digits.ensures ∙ c.if-not-has_digits.false) in
     omega (arith, room)
 
 pub append-w-requires : goal.append-w-requires
 append-w-requires c =
-    let a = c.before.before.before.before.before.before.before.before.before.args in
-    let room = leb-true (a.at + a.count) (8 * length a.to.now) (sym c.has-digits.ensures ∙ not-false _ c.if1.false) in
-    let there = leb-true (a.first + a.count) (8 * length a.from.now) (sym c.has-digits2.ensures ∙ not-false _ c.if2.false) in
+    let a = c.args in
+    let room = leb-true (a.at + a.count) (8 * length a.to.now) (sym c.has_digits.ensures ∙ c.if-not-has_digits.false) in
+    let there = leb-true (a.first + a.count) (8 * length a.from.now) (sym c.has_digits-2.ensures ∙ c.if-not-has_digits-2.false) in
     let b = c.begin-begun.ensures in
     (b.ready, omega (arith, b.place, room), there)
 
 pub close-requires : goal.close-requires
 close-requires c =
-    let a = c.before.before.before.before.args in
-    let room = leb-true (a.at + a.count) (8 * length a.to.now) (sym c.has-digits.ensures ∙ not-false _ c.if1.false) in
+    let a = c.args in
+    let room = leb-true (a.at + a.count) (8 * length a.to.now) (sym c.has_digits.ensures ∙ c.if-not-has_digits.false) in
     let append = c.append-w in
     let b = c.begin-begun.ensures in
     (append.ensures.ready, omega (arith, append.ensures.place, append.auto.to, b.place, room))
 
 pub returns : goal.returns
 returns c =
-    let a = c.before.before.before.before.args in
-    let to-has = sym c.has-digits.ensures ∙ not-false _ c.if1.false in
-    let from-has = sym c.has-digits2.ensures ∙ not-false _ c.if2.false in
+    let a = c.args in
+    let to-has = sym c.has_digits.ensures ∙ c.if-not-has_digits.false in
+    let from-has = sym c.has_digits-2.ensures ∙ c.if-not-has_digits-2.false in
     let append = c.append-w in
     let begin = c.begin-begun in
     let close = c.close in

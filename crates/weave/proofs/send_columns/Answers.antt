@@ -13,7 +13,7 @@ send_narrow-requires c =
     let half = send-wide in (
       pre.0,
       half.ensures.ready,
-      omega (arith, half.ensures.place, half.auto.1.0, pre.2),
+      omega (arith, half.ensures.place, half.auto.line, pre.2),
       omega arith,
       has_on b.a.now b.b.now b.c.now b.d.now b.i b.columns (b.columns - b.columns % 32) (b.columns % 32) _ pre.3 (omega arith) c.moved_on.ensures,
     )
