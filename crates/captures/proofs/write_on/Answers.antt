@@ -6,10 +6,10 @@ use Rattle.captures.proofs.Judging.{refused-on, written_on_lem, judged-good, sho
 use Rattle.captures.proofs.write_on.Goals as goal
 
 -- what is not refused
-accepted : (c : tie.Else1) →
-    let a = c.before.before.before.before.before.args in
+accepted : (c : goal.Else-no-ne0) →
+    let a = c.args in
     write_refusal a.row a.level a.line.now a.label.now a.labelled (length a.file.now) ≡ 0
-accepted c = sym c.before.write-refusal.ensures ∙ c.if1.false
+accepted c = sym c.write_refusal-no.ensures ∙ c.if-no-ne0.false
 
 pub returns-then-no-ne0 : goal.returns-then-no-ne0
 returns-then-no-ne0 c =
@@ -21,7 +21,7 @@ returns-then-no-ne0 c =
 pub put_fields-bytes-requires : goal.put_fields-bytes-requires
 put_fields-bytes-requires c =
     let a = c.args in
-    let ok = judged-good a.row a.level a.line.now a.label.now a.labelled a.file.now (accepted c) in
+    let ok = judged-good a.row a.level a.line.now a.label.now a.labelled a.file.now (accepted c.before) in
     (short-enough a.row c.requires.0 _ ok.line_good, short-label a.labelled a.label.now ok.label_short, ok.room)
 
 pub returns : goal.returns

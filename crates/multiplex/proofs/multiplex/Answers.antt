@@ -1,0 +1,17 @@
+-- `multiplex`: a level's row, or refused with 1.
+use mathlib.Core.Path.{refl, sym, ◌∙◌}
+use Rattle.levels.proofs.Rows.{shared-row}
+use Rattle.multiplex.proofs.multiplex.Goals as goal
+
+pub multiplex_on-requires : goal.multiplex_on-requires
+multiplex_on-requires c = shared-row _ _ (sym c.level_of-found.ensures ∙ c.in-Of.is)
+
+pub returns-in-Of : goal.returns-in-Of
+returns-in-Of c =
+    let e = sym c.level_of-found.ensures ∙ c.in-Of.is in
+    rw e c.multiplex_on.ensures
+
+pub returns-in-NoSuchLevel : goal.returns-in-NoSuchLevel
+returns-in-NoSuchLevel c =
+    let e = sym c.level_of-found.ensures ∙ c.in-NoSuchLevel.is in
+    rw e (c.refused.ensures, refl)
