@@ -5,12 +5,6 @@ use Rattle.captures.specs.Captures.{unwritten, write_refusal}
 use Rattle.captures.proofs.Judging.{refused-on, written_on_lem, judged-good, short-enough, short-label}
 use Rattle.captures.proofs.write_on.Goals as goal
 
--- what is not refused
-accepted : (c : goal.Else-no-ne0) →
-    let a = c.args in
-    write_refusal a.row a.level a.line.now a.label.now a.labelled (length a.file.now) ≡ 0
-accepted c = sym c.write_refusal-no.ensures ∙ c.if-no-ne0.false
-
 pub returns-then-no-ne0 : goal.returns-then-no-ne0
 returns-then-no-ne0 c =
     let a = c.args in
@@ -20,13 +14,15 @@ returns-then-no-ne0 c =
 
 pub put_fields-bytes-requires : goal.put_fields-bytes-requires
 put_fields-bytes-requires c =
+    let accepted : let a = c.args in write_refusal a.row a.level a.line.now a.label.now a.labelled (length a.file.now) ≡ 0 = sym c.write_refusal-no.ensures ∙ c.if-no-ne0.false in
     let a = c.args in
-    let ok = judged-good a.row a.level a.line.now a.label.now a.labelled a.file.now (accepted c.before) in
+    let ok = judged-good a.row a.level a.line.now a.label.now a.labelled a.file.now (accepted) in
     (short-enough a.row c.requires.0 _ ok.line_good, short-label a.labelled a.label.now ok.label_short, ok.room)
 
 pub returns : goal.returns
 returns c =
+    let accepted : let a = c.args in write_refusal a.row a.level a.line.now a.label.now a.labelled (length a.file.now) ≡ 0 = sym c.write_refusal-no.ensures ∙ c.if-no-ne0.false in
     let put = c.put_fields-bytes in
     let a = c.args in
-    let both = written_on_lem a.row a.level a.line.now a.label.now a.labelled a.file.now (accepted c) _ put.ensures.1 in
+    let both = written_on_lem a.row a.level a.line.now a.label.now a.labelled a.file.now (accepted) _ put.ensures.1 in
     (rw put.ensures.0 both.0, both.1)
