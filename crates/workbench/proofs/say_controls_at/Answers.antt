@@ -1,0 +1,18 @@
+-- A level's row has the facts that all rows share; where there is none, the line stays.
+use Rattle.levels.proofs.Rows.{shared-row}
+use mathlib.Core.Path.{refl, sym, ◌∙◌}
+use Rattle.workbench.proofs.say_controls_at.Goals as goal
+
+pub say_controls-requires : goal.say_controls-requires
+say_controls-requires c =
+    (shared-row _ _ (sym c.level_of-found.ensures ∙ c.in-Of.is), c.requires)
+
+pub returns-in-Of : goal.returns-in-Of
+returns-in-Of c =
+    let e = sym c.level_of-found.ensures ∙ c.in-Of.is in
+    rw e c.say_controls.ensures
+
+pub returns-in-NoSuchLevel : goal.returns-in-NoSuchLevel
+returns-in-NoSuchLevel c =
+    let e = sym c.level_of-found.ensures ∙ c.in-NoSuchLevel.is in
+    rw e refl
