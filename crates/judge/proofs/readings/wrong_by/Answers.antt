@@ -10,33 +10,39 @@ use Rattle.judge.specs.Wrong.{wrong_in}
 use Rattle.judge.proofs.Quartered.{Extracted, lent_fits, read_right}
 use Rattle.judge.proofs.readings.wrong_by.Goals as goal
 
--- what is known once the line is extracted
-module _ (c : tie.After-extract-all) where
-  abbrev s : tie.Start
-  s = c.before.before.before.before.before.before
-
-  extracted :
-      let a = s.args in
-      Extracted a.row a.earlier a.pattern (length a.buffer.now) (length a.room.now) a.line.now a.notes.now
-      c.extract-all.result c.extract-all.new.1.1.1.1.0
-  extracted = record { ok = s.pre.0; size = s.pre.1; counted = c.extract-all.ensures.0; left = c.extract-all.ensures.1 }
-
 pub wrong_of-a-requires : goal.wrong_of-a-requires
-wrong_of-a-requires c = lent_fits (extracted c) 0 (omega arith)
+wrong_of-a-requires c =
+    let a = c.args in
+    let x : Extracted a.row a.earlier a.pattern (length a.buffer.now) (length a.room.now) a.line.now a.notes.now c.extract_all-counts.result c.extract_all-counts.new.buffer
+    = record { ok = c.requires.0; size = c.requires.1; counted = c.extract_all-counts.ensures.0; left = c.extract_all-counts.ensures.1 } in
+    lent_fits x 0 (omega arith)
 
 pub wrong_of-b-requires : goal.wrong_of-b-requires
-wrong_of-b-requires c = lent_fits (extracted c) 1 (omega arith)
+wrong_of-b-requires c =
+    let a = c.args in
+    let x : Extracted a.row a.earlier a.pattern (length a.buffer.now) (length a.room.now) a.line.now a.notes.now c.extract_all-counts.result c.extract_all-counts.new.buffer
+    = record { ok = c.requires.0; size = c.requires.1; counted = c.extract_all-counts.ensures.0; left = c.extract_all-counts.ensures.1 } in
+    lent_fits x 1 (omega arith)
 
 pub wrong_of-c-requires : goal.wrong_of-c-requires
-wrong_of-c-requires c = lent_fits (extracted c) 2 (omega arith)
+wrong_of-c-requires c =
+    let a = c.args in
+    let x : Extracted a.row a.earlier a.pattern (length a.buffer.now) (length a.room.now) a.line.now a.notes.now c.extract_all-counts.result c.extract_all-counts.new.buffer
+    = record { ok = c.requires.0; size = c.requires.1; counted = c.extract_all-counts.ensures.0; left = c.extract_all-counts.ensures.1 } in
+    lent_fits x 2 (omega arith)
 
 pub wrong_of-d-requires : goal.wrong_of-d-requires
-wrong_of-d-requires c = lent_fits (extracted c) 3 (omega arith)
+wrong_of-d-requires c =
+    let a = c.args in
+    let x : Extracted a.row a.earlier a.pattern (length a.buffer.now) (length a.room.now) a.line.now a.notes.now c.extract_all-counts.result c.extract_all-counts.new.buffer
+    = record { ok = c.requires.0; size = c.requires.1; counted = c.extract_all-counts.ensures.0; left = c.extract_all-counts.ensures.1 } in
+    lent_fits x 3 (omega arith)
 
 pub returns : goal.returns
 returns c =
-    let x = extracted c in
-    let a = (s c).args in
+    let a = c.args in
+    let x : Extracted a.row a.earlier a.pattern (length a.buffer.now) (length a.room.now) a.line.now a.notes.now c.extract_all-counts.result c.extract_all-counts.new.buffer
+    = record { ok = c.requires.0; size = c.requires.1; counted = c.extract_all-counts.ensures.0; left = c.extract_all-counts.ensures.1 } in
     let sent : ℕ → List ℕ → ℕ = λ (j : ℕ) (l : List ℕ). wrong_in a.pattern (digits_of (quarter_of a.buffer.now j)) l in
     rw (
       c.wrong_of-a.ensures ∙ ap (sent 0) (read_right x 0 (omega arith)),

@@ -12,8 +12,8 @@ use Rattle.judge.proofs.Differing.{unmade-more, unmade-few}
 use Rattle.judge.proofs.wrong.unmade_at.Goals as goal
 
 -- the ones in the sum of the digits and the two stages, as they are read
-abbrev sum_ones : tie.After-read-digits3 → ℕ
-sum_ones c = ones (bit_xor c.read-digits3.result (bit_xor c.before.before.read-digits.result c.before.read-digits2.result))
+abbrev sum_ones : ℕ → ℕ → ℕ → ℕ
+sum_ones read stage other = ones (bit_xor other (bit_xor read stage))
 
 pub overflow_add-stage : goal.overflow_add-stage
 overflow_add-stage c = omega arith
@@ -27,7 +27,7 @@ overflow_add-pattern c = omega arith
 
 pub overflow_cast-result : goal.overflow_cast-result
 overflow_cast-result c =
-    let made : (sent : List ℕ) → let a = c.args in let ds = digits_of a.read.now in (sum_ones c ≤ a.n) × (wrong_among a.pattern sent ds (a.p + a.n) + sum_ones c ≡ wrong_among a.pattern sent ds a.p + a.n) = λ sent. let a = c.args in
+    let made : (sent : List ℕ) → let a = c.args in let ds = digits_of a.read.now in let all = sum_ones c.read_digits.result c.read_digits-2.result c.read_digits-3.result in (all ≤ a.n) × (wrong_among a.pattern sent ds (a.p + a.n) + all ≡ wrong_among a.pattern sent ds a.p + a.n) = λ sent. let a = c.args in
     let few = unmade-few a.pattern (digits_of a.read.now) (digits-binary a.read.now) c.requires.0 (c.requires.1.stage c.requires.0) sent a.p a.n in
     let more = unmade-more a.pattern (digits_of a.read.now) (digits-binary a.read.now) c.requires.0 (c.requires.1.stage c.requires.0) sent a.p a.n in
     let staged = c.stage_of.ensures in
@@ -36,7 +36,7 @@ overflow_cast-result c =
 
 pub overflow_sub-result : goal.overflow_sub-result
 overflow_sub-result c =
-    let made : (sent : List ℕ) → let a = c.args in let ds = digits_of a.read.now in (sum_ones c ≤ a.n) × (wrong_among a.pattern sent ds (a.p + a.n) + sum_ones c ≡ wrong_among a.pattern sent ds a.p + a.n) = λ sent. let a = c.args in
+    let made : (sent : List ℕ) → let a = c.args in let ds = digits_of a.read.now in let all = sum_ones c.read_digits.result c.read_digits-2.result c.read_digits-3.result in (all ≤ a.n) × (wrong_among a.pattern sent ds (a.p + a.n) + all ≡ wrong_among a.pattern sent ds a.p + a.n) = λ sent. let a = c.args in
     let few = unmade-few a.pattern (digits_of a.read.now) (digits-binary a.read.now) c.requires.0 (c.requires.1.stage c.requires.0) sent a.p a.n in
     let more = unmade-more a.pattern (digits_of a.read.now) (digits-binary a.read.now) c.requires.0 (c.requires.1.stage c.requires.0) sent a.p a.n in
     let staged = c.stage_of.ensures in
@@ -45,7 +45,7 @@ overflow_sub-result c =
 
 pub returns : goal.returns
 returns c =
-    let made : (sent : List ℕ) → let a = c.args in let ds = digits_of a.read.now in (sum_ones c ≤ a.n) × (wrong_among a.pattern sent ds (a.p + a.n) + sum_ones c ≡ wrong_among a.pattern sent ds a.p + a.n) = λ sent. let a = c.args in
+    let made : (sent : List ℕ) → let a = c.args in let ds = digits_of a.read.now in let all = sum_ones c.read_digits.result c.read_digits-2.result c.read_digits-3.result in (all ≤ a.n) × (wrong_among a.pattern sent ds (a.p + a.n) + all ≡ wrong_among a.pattern sent ds a.p + a.n) = λ sent. let a = c.args in
     let few = unmade-few a.pattern (digits_of a.read.now) (digits-binary a.read.now) c.requires.0 (c.requires.1.stage c.requires.0) sent a.p a.n in
     let more = unmade-more a.pattern (digits_of a.read.now) (digits-binary a.read.now) c.requires.0 (c.requires.1.stage c.requires.0) sent a.p a.n in
     let staged = c.stage_of.ensures in
