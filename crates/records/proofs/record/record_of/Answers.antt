@@ -1,7 +1,5 @@
 -- The record of a state: three of its numbers are as their calls give them.
 use Rattle.records.proofs.record.record_of.Goals as goal
 
-pub record-of-spec : {M : Type 1} → statement M
-
 pub returns : goal.returns
 returns c = rw (c.mode_number.ensures, c.as_number.ensures, c.as_number-2.ensures)
