@@ -103,8 +103,8 @@ no_size size w e = go (eqb size 0) refl e
     go false _ z = z
 
 module _ (row : Row) (sh : Shared row) (earlier line : ℕ) (notes : List ℕ) (buffer : ℕ) where
-  abbrev no : ℕ
-  no = (quick.fault_of row earlier line notes buffer).refusal
+  abbrev fault_no : ℕ
+  fault_no = (quick.fault_of row earlier line notes buffer).refusal
 
   -- the first bit that a note of the level has not
   limit : 4 + row.alarms + row.nationals ≡ 4 + noted_of row
@@ -130,13 +130,13 @@ module _ (row : Row) (sh : Shared row) (earlier line : ℕ) (notes : List ℕ) (
   unfolding quick.send_fault_of plain.sending_on quick.fault_of plain.refusal_on
   same-send-faults =
       rw (← same-faults.0, first-same (plain.too_few row) (quick.unset row) lacking-same notes)
-      (then-ten (eqb no 0) (ltb first (length notes)) first _ _ same-faults)
+      (then-ten (eqb fault_no 0) (ltb first (length notes)) first _ _ same-faults)
     where
       first : ℕ
       first = quick.first_with (quick.unset row) notes
 
   -- where nothing is refused the line is as many frames as there are notes, and the buffer four quarters with room for them
-  pub sound : no ≡ 0 → (line ≡ length notes * row.bytes) × (buffer ≡ 4 * (buffer / 4)) × (length notes * row.room ≤ 8 * (buffer / 4))
+  pub sound : fault_no ≡ 0 → (line ≡ length notes * row.bytes) × (buffer ≡ 4 * (buffer / 4)) × (length notes * row.room ≤ 8 * (buffer / 4))
   unfolding quick.fault_of
   sound e =
       let ok = accepted row line (length notes) buffer (no_size (size_refusal row line (length notes) buffer) (quick.or_else (quick.earlier_fault row earlier) (quick.note_fault row notes)) e) in

@@ -1,10 +1,10 @@
 -- What the calls' statements say of the whole list, on each way through the code: where the list refuses, where the record's own call refuses, and
--- where it does not. The walks of the three calls end with these.
+-- where it does not. The proofs of the three calls end with these.
 use mathlib.Core.Path.{◌≡◌, refl, sym, ap, subst, ◌∙◌}
-use mathlib.Core.Bool.{Bool, cond, true, false, not, true≢false}
+use mathlib.Core.Bool.{Bool, cond, true, false, true≢false}
 use mathlib.Core.List.{List, [], ◌∷◌}
 use Prim.Native.Nat.{ℕ, zero, suc, ◌+◌, ◌<◌, ◌≤◌}
-use lib.Dec.{eqb, leb, ltb, T}
+use lib.Dec.{eqb, leb, ltb}
 use lib.ListN.{length, get_or, set}
 use lib.Seq.{set-get_or}
 use native.Mathlib.Omega.{arith}
@@ -17,18 +17,9 @@ use Rattle.records.specs.declared.record.Record.{Record}
 use Rattle.records.specs.declared.record.Kept.{Kept}
 use Rattle.receiver.specs.Numbers.{fed_answer}
 use Rattle.rack.specs.Rack.{kept_reset}
-use Rattle.records.specs.Record.{record_of, fed_record, is_aligned}
+use Rattle.records.specs.Record.{record_of, fed_record, kept_after, is_aligned}
 use Rattle.rack.specs.Rack.{at, refusal_by, list_by, FeedMet, ResetMet, fed_alone, aligned_of, AlignedMet}
 use Rattle.records.specs.Rule.{list_refusal, made_of, none_taken, count_refusal, counted_to}
-
--- ---- what the machine's tests tell
-pub fails : (t : Bool) → T (not t) → t ≡ false
-fails true h = absurd h
-fails false h = refl
-
-pub holds : (t : Bool) → T (not (not t)) → t ≡ true
-holds true h = refl
-holds false h = absurd h
 
 -- the record that `at` gives past the end
 abbrev pub blank : Record
@@ -39,6 +30,13 @@ pub within : (n line : ℕ) → eqb (list_refusal n line) 0 ≡ true → line < 
 unfolding list_refusal
 within n line =
     cond-told (λ (v : ℕ). eqb v 0 ≡ true → line < n) (leb n line) (λ _ h. absurd (true≢false (sym h))) (λ e _. leb-false n line e)
+
+-- and it has 64 lines at the most
+pub few-lines : (n line : ℕ) → eqb (list_refusal n line) 0 ≡ true → n ≤ 64
+unfolding list_refusal
+few-lines n line =
+    cond-told (λ (v : ℕ). eqb v 0 ≡ true → n ≤ 64) (leb n line) (λ _ h. absurd (true≢false (sym h)))
+    (λ _. cond-told (λ (v : ℕ). eqb v 0 ≡ true → n ≤ 64) (ltb 64 n) (λ _ h. absurd (true≢false (sym h))) (λ e _. ltb-false 64 n e))
 
 -- ---- a call on one record whose refusal is found together with the list's
 module _ (ys : List Record) (line : ℕ) (alone : Kept) where
@@ -76,6 +74,11 @@ module _ (ys : List Record) (line level : ℕ) (r : Kept) (found : r ≡ made_of
       let e : r.refusal ≡ refusal_by (length ys) line alone = ap (λ (k : Kept). k.refusal) found in
       within (length ys) line (list-accepts ys line alone (subst (λ (v : ℕ). eqb v 0 ≡ true) e h))
 
+  pub reset-few : eqb r.refusal 0 ≡ true → length ys ≤ 64
+  reset-few h =
+      let e : r.refusal ≡ refusal_by (length ys) line alone = ap (λ (k : Kept). k.refusal) found in
+      few-lines (length ys) line (list-accepts ys line alone (subst (λ (v : ℕ). eqb v 0 ≡ true) e h))
+
   pub reset-done : eqb r.refusal 0 ≡ true → ResetMet ys line level r.refusal (set ys line r.kept)
   reset-done h =
       let e : r.refusal ≡ refusal_by (length ys) line alone = ap (λ (k : Kept). k.refusal) found in
@@ -87,6 +90,18 @@ module _ (ys : List Record) (line level : ℕ) (r : Kept) (found : r ≡ made_of
       kept_fresh h = rw (alone-accepts ys line alone h)
 
 -- ---- a feed
+
+-- a line of the list is the same record whatever would stand past the end
+pub here : (ys : List Record) (line : ℕ) (d : Record) → line < length ys → get_or ys line d ≡ at ys line
+here [] line d h = let none : ⊥ = omega (arith, h) in absurd none
+here (y ∷ ys) zero d h = refl
+here (y ∷ ys) (suc line) d h = here ys line d (omega (arith, h))
+
+pub fed-here : (ys : List Record) (line : ℕ) (d : Record) (piece : List ℕ) (first count : ℕ) (r : Kept) (w : List ℕ) → line < length ys
+    → (r ≡ kept_after (fed_record (get_or ys line d) piece first count) (get_or ys line d)) × (w ≡ fed_answer (fed_record (get_or ys line d) piece first count))
+    → (r ≡ fed_alone ys line piece first count) × (w ≡ fed_answer (fed_record (at ys line) piece first count))
+fed-here ys line d piece first count r w h is = rw (here ys line d h) at is
+
 module _ (ys : List Record) (line : ℕ) (piece : List ℕ) (first count : ℕ) where
   abbrev fed : Kept
   fed = fed_alone ys line piece first count
@@ -123,6 +138,11 @@ aligned-most ys (suc n) = omega (arith, aligned-most ys n, bit-most (is_aligned 
 pub aligned-more : (ys : List Record) (i s : ℕ) → s ≡ aligned_of ys i + cond (is_aligned (at ys i).mode) 1 0 → s ≡ aligned_of ys (i + 1)
 unfolding sum_to
 aligned-more ys i s e = rw (add-one i) e
+
+-- the same, with the record as the code reads it
+pub counted-more : (ys : List Record) (i : ℕ) (d : Record) → i < length ys → (n s : ℕ) → n ≡ aligned_of ys i → s ≡ n + cond (is_aligned (get_or ys i d).mode) 1 0
+    → s ≡ aligned_of ys (i + 1)
+counted-more ys i d h n s e is = aligned-more ys i s (rw (here ys i d h, e) at is)
 
 pub aligned-done : (ys : List Record) (m s : ℕ) (w : List ℕ) → m ≡ counted_to (length ys) → s ≡ count_refusal (length ys) → w ≡ aligned_of ys m ∷ [] → AlignedMet ys s w
 unfolding counted_to count_refusal sum_to
