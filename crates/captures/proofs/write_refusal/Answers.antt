@@ -32,7 +32,7 @@ returns-then-room-file_bytes c =
     let line-passed : let a = c.args in bad_line a.row (length a.line.now) ≡ false = sym c.bad_line.ensures ∙ c.if-bad_line.false in
     let label-passed : let a = c.args in (a.labelled && ltb 32 (length a.label.now)) ≡ false = sym c.long_label.ensures ∙ c.if-long_label.false in
     let bytes_counted : let a = c.args in length (file_of a.level a.line.now a.label.now a.labelled) ≡ c.file_bytes.result = let a = c.args in
-      file-length a.level a.line.now a.label.now a.labelled ∙ sym c.file_bytes.ensures in
+    file-length a.level a.line.now a.label.now a.labelled ∙ sym c.file_bytes.ensures in
     rw (line-passed, label-passed, bytes_counted, lt-ltb _ _ c.if-room-file_bytes.true)
 
 pub returns : goal.returns
@@ -41,5 +41,5 @@ returns c =
     let line-passed : let a = c.args in bad_line a.row (length a.line.now) ≡ false = sym c.bad_line.ensures ∙ c.if-bad_line.false in
     let label-passed : let a = c.args in (a.labelled && ltb 32 (length a.label.now)) ≡ false = sym c.long_label.ensures ∙ c.if-long_label.false in
     let bytes_counted : let a = c.args in length (file_of a.level a.line.now a.label.now a.labelled) ≡ c.file_bytes.result = let a = c.args in
-      file-length a.level a.line.now a.label.now a.labelled ∙ sym c.file_bytes.ensures in
+    file-length a.level a.line.now a.label.now a.labelled ∙ sym c.file_bytes.ensures in
     rw (line-passed, label-passed, bytes_counted, le-ltb _ _ c.if-room-file_bytes.false)
