@@ -1,6 +1,5 @@
 // A rack of lines: up to 64 receivers kept as records in one lent list. Three calls, kept thin: crate `records` has what they decide (`rule`) and
-// what a receiver makes of one record (`record`), both without the list; the calls take a record out of the list, and put it back. The borrow checker
-// does not cover a reference to a struct, so each of the three is proved by a walk by hand.
+// what a receiver makes of one record (`record`), both without the list; the calls take a record out of the list, and put it back.
 #![tactic(auto)]
 
 ghost use Rattle.rack.specs.Rack.{FeedMet, ResetMet, AlignedMet};

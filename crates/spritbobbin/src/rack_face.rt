@@ -1,5 +1,4 @@
-// The C face of the rack of lines: the rack's own calls, whose records C lends as a list. Each is handed on as it is, and proved by a walk by hand,
-// because the borrow checker does not cover a reference to a struct.
+// The C face of the rack of lines: the rack's own calls, whose records C lends as a list. Each is handed on as it is.
 ghost use Rattle.rack.specs.Rack.{FeedMet, ResetMet, AlignedMet};
 
 use records::record::Record;
