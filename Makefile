@@ -24,7 +24,7 @@ VERSION := $(shell cat VERSION)
 SONAME := libspritbobbin.so.$(firstword $(subst ., ,$(VERSION)))
 SHARED := libspritbobbin.so.$(VERSION)
 BUILD := build
-SOURCES := crates.txt $(shell find crates -name '*.rt' -o -name '*.antt')
+SOURCES := crates.txt $(shell find crates -name out -prune -o \( -name '*.rt' -o -name '*.antt' \) -print)
 PROGRAM := Cargo.lock $(shell find rust program -name '*.rs' -o -name Cargo.toml)
 
 .PHONY: all check install uninstall clean

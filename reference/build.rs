@@ -13,7 +13,7 @@ fn main() {
     // Joined to the package's own folder, so that the default does not depend on where
     // cargo was started; an absolute folder in the variable stays as it is.
     let package = PathBuf::from(env::var_os("CARGO_MANIFEST_DIR").unwrap_or_default());
-    let folder = env::var_os("SPRITBOBBIN_LIB").unwrap_or_else(|| "../target/staticlib".into());
+    let folder = env::var_os("SPRITBOBBIN_LIB").unwrap_or_else(|| "../target/native".into());
     let archive = package.join(folder).join("libspritbobbin.a");
     println!("cargo:rerun-if-changed={}", archive.display());
     if !archive.exists() {
