@@ -17,7 +17,7 @@ fn main() {
     if !archive.exists() {
         // Only a warning: reading the documentation and checking types need no archive.
         println!("cargo:warning=no {}", archive.display());
-        println!("cargo:warning=build it by tools/native-archive target/native, or set SPRITBOBBIN_LIB");
+        println!("cargo:warning=build it by tools/native-archive, or set SPRITBOBBIN_LIB");
     }
     println!("cargo:rustc-link-search=native={}", folder.display());
     println!("cargo:rustc-link-lib=static=spritbobbin");
