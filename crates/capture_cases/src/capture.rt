@@ -1,5 +1,6 @@
 // Captures written and read through the C face: the example of request 1 byte by byte, each refusal of the writer at its border and in its
 // order, and small files whose field at fault is named.
+use std::io;
 use telling::{inputs, say};
 
 // A write: the bytes of line and label count up from 0, and the file holds 165 in every byte beforehand.
@@ -300,43 +301,51 @@ const FILES: [Small; 24] = [
     },
 ];
 
-pub fn write_all() {
+pub fn write_all(rt: &impl Print) -> io::Result<()> {
     let mut k: usize = 0;
     while k < 24 {
-        write_one(WRITINGS[k]);
+        write_one(rt, WRITINGS[k])?;
         k += 1;
     }
+    Ok(())
 }
 
-pub fn read_all() {
+pub fn read_all(rt: &impl Print) -> io::Result<()> {
     let mut k: usize = 0;
     while k < 24 {
-        read_one(FILES[k]);
+        read_one(rt, FILES[k])?;
         k += 1;
     }
+    Ok(())
 }
 
 // Lends the call parts of arrays that are long enough for every row of the table.
-fn write_one(c: Writing) {
+fn write_one(rt: &impl Print, c: Writing) -> io::Result<()> {
     let l = c.line;
     let n = c.label;
     let f = c.file;
     if 65536 < l {
-        return;
+        return Ok(());
     }
     if 65536 < n {
-        return;
+        return Ok(());
     }
     if 65536 < f {
-        return;
+        return Ok(());
     }
-    let mut line = io::large_buffer();
-    let mut label = io::large_buffer();
-    let mut file = io::large_buffer();
-    write_on(c, &mut line[..l], &mut label[..n], &mut file[..f]);
+    let mut line = inputs::large_buffer();
+    let mut label = inputs::large_buffer();
+    let mut file = inputs::large_buffer();
+    write_on(rt, c, &mut line[..l], &mut label[..n], &mut file[..f])
 }
 
-fn write_on(c: Writing, line: &mut [u8], label: &mut [u8], file: &mut [u8]) {
+fn write_on(
+    rt: &impl Print,
+    c: Writing,
+    line: &mut [u8],
+    label: &mut [u8],
+    file: &mut [u8],
+) -> io::Result<()> {
     inputs::count_up(line);
     inputs::count_up(label);
     inputs::fill(file, 165);
@@ -349,76 +358,77 @@ fn write_on(c: Writing, line: &mut [u8], label: &mut [u8], file: &mut [u8]) {
         file,
         &mut answer,
     );
-    written(c, no, answer, inputs::sum(file));
-    read_back(file, answer[0]);
+    written(rt, c, no, answer, inputs::sum(file))?;
+    read_back(rt, file, answer[0])
 }
 
-fn written(c: Writing, no: u64, answer: [u64; 2], sum: u64) {
-    say::counted(b"write level ", c.level);
-    say::labelled(b" line ", c.line);
-    say::labelled(b" label ", c.label);
-    say::counted(b" labelled ", c.labelled);
-    say::labelled(b" file ", c.file);
-    say::counted(b": refusal ", no);
-    say::counted(b" bytes ", answer[0]);
-    say::counted(b" byte ", answer[1]);
-    say::counted(b" sum ", sum);
-    say::text(b"\n");
+fn written(rt: &impl Print, c: Writing, no: u64, answer: [u64; 2], sum: u64) -> io::Result<()> {
+    say::counted(rt, b"write level ", c.level)?;
+    say::labelled(rt, b" line ", c.line)?;
+    say::labelled(rt, b" label ", c.label)?;
+    say::counted(rt, b" labelled ", c.labelled)?;
+    say::labelled(rt, b" file ", c.file)?;
+    say::counted(rt, b": refusal ", no)?;
+    say::counted(rt, b" bytes ", answer[0])?;
+    say::counted(rt, b" byte ", answer[1])?;
+    say::counted(rt, b" sum ", sum)?;
+    say::text(rt, b"\n")
 }
 
 // What was written is read: so many bytes of the file.
-fn read_back(file: &[u8], bytes: u64) {
+fn read_back(rt: &impl Print, file: &[u8], bytes: u64) -> io::Result<()> {
     let n = bytes as usize;
     if file.len() < n {
-        return;
+        return Ok(());
     }
-    say::counted(b"read back ", bytes);
-    read_on(&file[..n]);
+    say::counted(rt, b"read back ", bytes)?;
+    read_on(rt, &file[..n])
 }
 
-fn read_one(c: Small) {
+fn read_one(rt: &impl Print, c: Small) -> io::Result<()> {
     let n = c.bytes;
     if 65536 < n {
-        return;
+        return Ok(());
     }
-    let mut file = io::large_buffer();
-    read_small(c, &mut file[..n]);
+    let mut file = inputs::large_buffer();
+    read_small(rt, c, &mut file[..n])
 }
 
-fn read_small(c: Small, file: &mut [u8]) {
+fn read_small(rt: &impl Print, c: Small, file: &mut [u8]) -> io::Result<()> {
     inputs::fill(file, 0);
     let head = c.head;
-    begin(file, &head);
-    read_on(file);
+    begin(rt, file, &head)?;
+    read_on(rt, file)
 }
 
-fn begin(file: &mut [u8], head: &[u8; 11]) {
-    say::text(b"read");
+fn begin(rt: &impl Print, file: &mut [u8], head: &[u8; 11]) -> io::Result<()> {
+    say::text(rt, b"read")?;
     let mut i: usize = 0;
     while i < 11 {
         inputs::put_byte(file, i, head[i]);
-        say::byte(b" ", head[i]);
+        say::byte(rt, b" ", head[i])?;
         i += 1;
     }
+    Ok(())
 }
 
-fn read_on(file: &[u8]) {
+fn read_on(rt: &impl Print, file: &[u8]) -> io::Result<()> {
     let mut answer = [0u64; 7];
     let no = spritbobbin::spritbobbin_capture_read(file, &mut answer);
-    say::labelled(b" bytes ", file.len());
-    say::counted(b": refusal ", no);
-    say::counted(b" level ", answer[0]);
-    say::counted(b" line ", answer[1]);
-    say::counted(b" ", answer[2]);
-    say::counted(b" labelled ", answer[3]);
-    say::counted(b" label ", answer[4]);
-    say::counted(b" ", answer[5]);
-    say::counted(b" byte ", answer[6]);
-    say::text(b"\n");
+    say::labelled(rt, b" bytes ", file.len())?;
+    say::counted(rt, b": refusal ", no)?;
+    say::counted(rt, b" level ", answer[0])?;
+    say::counted(rt, b" line ", answer[1])?;
+    say::counted(rt, b" ", answer[2])?;
+    say::counted(rt, b" labelled ", answer[3])?;
+    say::counted(rt, b" label ", answer[4])?;
+    say::counted(rt, b" ", answer[5])?;
+    say::counted(rt, b" byte ", answer[6])?;
+    say::text(rt, b"\n")
 }
 
 // Request 1's example: the capture of case 1's line without a label, all its bytes.
-pub fn example() {
+pub fn example(rt: &impl Print) -> io::Result<()> {
     let mut line = [0u8; 106];
     let notes = [0x20u8];
     let buffer = [0u8; 104];
@@ -427,7 +437,7 @@ pub fn example() {
     let mut answer = [0u64; 2];
     let none = [0u8; 1];
     let no = spritbobbin::spritbobbin_capture_write(2, &line, &none, 0, &mut file, &mut answer);
-    say::counted(b"case 1 kept: refusal ", no);
-    say::counted(b" bytes ", answer[0]);
-    say::bytes(&file);
+    say::counted(rt, b"case 1 kept: refusal ", no)?;
+    say::counted(rt, b" bytes ", answer[0])?;
+    say::bytes(rt, &file)
 }

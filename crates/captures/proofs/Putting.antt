@@ -4,9 +4,9 @@ use mathlib.Core.Bool.{Bool, cond, true, false}
 use mathlib.Core.List.{List, [], ◌∷◌, ◌++◌, append-nil, append_assoc}
 use Prim.Native.Nat.{ℕ, suc, ◌+◌, ◌-◌, ◌/◌, ◌%◌, ◌≤◌}
 use native.Mathlib.Omega.{arith}
-use lib.ListN.{length, take, drop, set, length-append, length-drop, length-set, drop_of_length-le}
-use lib.Seq.{take_all, take_at, drop_at, length-take-le, sets-eq, drop-drop}
-use borrow.Rule.Slice.PartMut.{put_mid, mid_of, mid_len, Post-is}
+use lib.ListN.{length, take, drop, set, length-append, length-drop, length-set}
+use lib.Seq.{take_at, drop_at, length-take-le, sets-eq, drop-drop}
+use borrow.Rule.Slice.PartMut.{put_mid, Post-is}
 use Rattle.captures.specs.Captures.{field_of, file_of, put_at, filed}
 
 module _ (p : ℕ) (xs old : List ℕ) (h : p + length xs ≤ length old) where

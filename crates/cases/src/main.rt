@@ -9,6 +9,7 @@ use capture_cases::capture;
 use levels::faults::Counted;
 use multiframe_cases::{hunt, whole};
 use reading::Noted;
+use std::io;
 use stream_cases::{alarm, reader, stream};
 use telling::{inputs, say};
 
@@ -452,153 +453,180 @@ const RECEIVINGS: [Receiving; 10] = [
     },
 ];
 
-fn main() {
-    send_all();
-    votes::vote_all();
-    receive_all();
-    stream::feed_all();
-    alarm::stretch_all();
-    stream::case_11(3392);
-    stream::case_11(1);
-    stream::case_11(7);
-    stream::case_11(1000);
-    reader::read_all();
-    capture::example();
-    capture::write_all();
-    capture::read_all();
-    whole::example();
-    whole::make_all();
-    hunt::hunt_all();
-    hunt::frames(5120);
-    hunt::frames(1);
-    hunt::frames(7);
-    hunt::frames(1000);
+// A write that fails ends the run with its error.
+fn main(rt: HostRuntime) -> io::Result<()> {
+    send_all(&rt)?;
+    votes::vote_all(&rt)?;
+    receive_all(&rt)?;
+    stream::feed_all(&rt)?;
+    alarm::stretch_all(&rt)?;
+    stream::case_11(&rt, 3392)?;
+    stream::case_11(&rt, 1)?;
+    stream::case_11(&rt, 7)?;
+    stream::case_11(&rt, 1000)?;
+    reader::read_all(&rt)?;
+    capture::example(&rt)?;
+    capture::write_all(&rt)?;
+    capture::read_all(&rt)?;
+    whole::example(&rt)?;
+    whole::make_all(&rt)?;
+    hunt::hunt_all(&rt)?;
+    hunt::frames(&rt, 5120)?;
+    hunt::frames(&rt, 1)?;
+    hunt::frames(&rt, 7)?;
+    hunt::frames(&rt, 1000)
 }
 
-fn send_all() {
+fn send_all(rt: &impl Print) -> io::Result<()> {
     let mut k: usize = 0;
     while k < 37 {
-        send(SENDINGS[k]);
+        send(rt, SENDINGS[k])?;
         k += 1;
     }
+    Ok(())
 }
 
-fn receive_all() {
+fn receive_all(rt: &impl Print) -> io::Result<()> {
     let mut k: usize = 0;
     while k < 10 {
-        receive(RECEIVINGS[k]);
+        receive(rt, RECEIVINGS[k])?;
         k += 1;
     }
+    Ok(())
 }
 
 // Lends the call parts of arrays that are long enough for every row of the table.
-fn send(c: Sending) {
+fn send(rt: &impl Print, c: Sending) -> io::Result<()> {
     let l = c.line;
     let f = c.notes;
     let b = c.buffer;
     if 65536 < l {
-        return;
+        return Ok(());
     }
     if 65536 < f {
-        return;
+        return Ok(());
     }
     if 65536 < b {
-        return;
+        return Ok(());
     }
-    let mut line = io::large_buffer();
-    let mut notes = io::large_buffer();
-    let mut buffer = io::large_buffer();
-    send_on(c, &mut line[..l], &mut notes[..f], &mut buffer[..b]);
+    let mut line = inputs::large_buffer();
+    let mut notes = inputs::large_buffer();
+    let mut buffer = inputs::large_buffer();
+    send_on(rt, c, &mut line[..l], &mut notes[..f], &mut buffer[..b])
 }
 
-fn send_on(c: Sending, line: &mut [u8], notes: &mut [u8], buffer: &mut [u8]) {
+fn send_on(
+    rt: &impl Print,
+    c: Sending,
+    line: &mut [u8],
+    notes: &mut [u8],
+    buffer: &mut [u8],
+) -> io::Result<()> {
     inputs::fill(line, 165);
     inputs::notes_from(notes, c.before, c.note, c.from);
     inputs::count_up(buffer);
     let r = multiplex::multiplex(c.level, 0, line, notes, buffer);
-    say::text(b"multiplex");
-    sent(c, r, inputs::sum(line));
-    extract_on(c, line, notes, buffer);
+    say::text(rt, b"multiplex")?;
+    sent(rt, c, r, inputs::sum(line))?;
+    extract_on(rt, c, line, notes, buffer)
 }
 
-fn extract_on(c: Sending, line: &[u8], notes: &[u8], buffer: &mut [u8]) {
+fn extract_on(
+    rt: &impl Print,
+    c: Sending,
+    line: &[u8],
+    notes: &[u8],
+    buffer: &mut [u8],
+) -> io::Result<()> {
     inputs::fill(buffer, 165);
     let r = extraction::extract(c.level, 0, line, notes, buffer);
-    say::text(b"extract");
-    sent(c, r, inputs::sum(buffer));
+    say::text(rt, b"extract")?;
+    sent(rt, c, r, inputs::sum(buffer))
 }
 
-fn sent(c: Sending, r: Counted, sum: u64) {
-    say::counted(b" level ", c.level);
-    say::labelled(b" line ", c.line);
-    say::labelled(b" notes ", c.notes);
-    say::labelled(b" before ", c.before as usize);
-    say::labelled(b" note ", c.note as usize);
-    say::labelled(b" from ", c.from);
-    say::labelled(b" buffer ", c.buffer);
-    counted(r, sum);
+fn sent(rt: &impl Print, c: Sending, r: Counted, sum: u64) -> io::Result<()> {
+    say::counted(rt, b" level ", c.level)?;
+    say::labelled(rt, b" line ", c.line)?;
+    say::labelled(rt, b" notes ", c.notes)?;
+    say::labelled(rt, b" before ", c.before as usize)?;
+    say::labelled(rt, b" note ", c.note as usize)?;
+    say::labelled(rt, b" from ", c.from)?;
+    say::labelled(rt, b" buffer ", c.buffer)?;
+    counted(rt, r, sum)
 }
 
-pub fn counted(r: Counted, sum: u64) {
-    say::counted(b": refusal ", r.refusal);
-    say::labelled(b" frame ", r.frame);
+pub fn counted(rt: &impl Print, r: Counted, sum: u64) -> io::Result<()> {
+    say::counted(rt, b": refusal ", r.refusal)?;
+    say::labelled(rt, b" frame ", r.frame)?;
     let counts = r.counts;
-    say::four(b" counts ", counts);
-    say::counted(b" sum ", sum);
-    say::text(b"\n");
+    say::four(rt, b" counts ", counts)?;
+    say::counted(rt, b" sum ", sum)?;
+    say::text(rt, b"\n")
 }
 
-fn receive(c: Receiving) {
+fn receive(rt: &impl Print, c: Receiving) -> io::Result<()> {
     let l = c.line;
     let f = c.notes;
     let b = c.buffer;
     if 65536 < l {
-        return;
+        return Ok(());
     }
     if 65536 < f {
-        return;
+        return Ok(());
     }
     if 65536 < b {
-        return;
+        return Ok(());
     }
-    let mut line = io::large_buffer();
-    let mut notes = io::large_buffer();
-    let mut buffer = io::large_buffer();
-    receive_on(c, &mut line[..l], &mut notes[..f], &mut buffer[..b]);
+    let mut line = inputs::large_buffer();
+    let mut notes = inputs::large_buffer();
+    let mut buffer = inputs::large_buffer();
+    receive_on(rt, c, &mut line[..l], &mut notes[..f], &mut buffer[..b])
 }
 
-fn receive_on(c: Receiving, line: &mut [u8], notes: &mut [u8], buffer: &mut [u8]) {
+fn receive_on(
+    rt: &impl Print,
+    c: Receiving,
+    line: &mut [u8],
+    notes: &mut [u8],
+    buffer: &mut [u8],
+) -> io::Result<()> {
     inputs::fill(line, c.fill);
     inputs::fill(notes, 165);
     let r = reading::read_notes(c.level, line, notes);
-    noted(c, r, inputs::sum(notes));
-    extract_by(c, line, notes, buffer);
+    noted(rt, c, r, inputs::sum(notes))?;
+    extract_by(rt, c, line, notes, buffer)
 }
 
-fn extract_by(c: Receiving, line: &[u8], notes: &[u8], buffer: &mut [u8]) {
+fn extract_by(
+    rt: &impl Print,
+    c: Receiving,
+    line: &[u8],
+    notes: &[u8],
+    buffer: &mut [u8],
+) -> io::Result<()> {
     inputs::fill(buffer, 165);
     let r = extraction::extract(c.level, 0, line, notes, buffer);
-    extracted(c, r, inputs::sum(buffer));
+    extracted(rt, c, r, inputs::sum(buffer))
 }
 
-fn noted(c: Receiving, r: Noted, sum: u64) {
-    say::counted(b"read_notes level ", c.level);
-    say::labelled(b" line ", c.line);
-    say::labelled(b" fill ", c.fill as usize);
-    say::labelled(b" notes ", c.notes);
-    say::counted(b": refusal ", r.refusal);
-    say::labelled(b" alignment ", r.alignment);
+fn noted(rt: &impl Print, c: Receiving, r: Noted, sum: u64) -> io::Result<()> {
+    say::counted(rt, b"read_notes level ", c.level)?;
+    say::labelled(rt, b" line ", c.line)?;
+    say::labelled(rt, b" fill ", c.fill as usize)?;
+    say::labelled(rt, b" notes ", c.notes)?;
+    say::counted(rt, b": refusal ", r.refusal)?;
+    say::labelled(rt, b" alignment ", r.alignment)?;
     let dissent = r.dissent;
-    say::four(b" dissent ", dissent);
-    say::counted(b" sum ", sum);
-    say::text(b"\n");
+    say::four(rt, b" dissent ", dissent)?;
+    say::counted(rt, b" sum ", sum)?;
+    say::text(rt, b"\n")
 }
 
-fn extracted(c: Receiving, r: Counted, sum: u64) {
-    say::counted(b"extract level ", c.level);
-    say::labelled(b" line ", c.line);
-    say::labelled(b" fill ", c.fill as usize);
-    say::labelled(b" notes ", c.notes);
-    say::labelled(b" buffer ", c.buffer);
-    counted(r, sum);
+fn extracted(rt: &impl Print, c: Receiving, r: Counted, sum: u64) -> io::Result<()> {
+    say::counted(rt, b"extract level ", c.level)?;
+    say::labelled(rt, b" line ", c.line)?;
+    say::labelled(rt, b" fill ", c.fill as usize)?;
+    say::labelled(rt, b" notes ", c.notes)?;
+    say::labelled(rt, b" buffer ", c.buffer)?;
+    counted(rt, r, sum)
 }

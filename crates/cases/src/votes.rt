@@ -1,6 +1,7 @@
 // Two frames each of levels 12 and 14 after a vote, in which each tributary does something else, sent and extracted again; and the refusals of
 // the earlier vote and of a note.
 use levels::faults::Counted;
+use std::io;
 use telling::{inputs, say};
 
 #[derive(Clone, Copy)]
@@ -65,52 +66,53 @@ const VOTINGS: [Voting; 6] = [
     },
 ];
 
-pub fn vote_all() {
+pub fn vote_all(rt: &impl Print) -> io::Result<()> {
     let mut k: usize = 0;
     while k < 6 {
-        vote(VOTINGS[k]);
+        vote(rt, VOTINGS[k])?;
         k += 1;
     }
+    Ok(())
 }
 
-fn vote(c: Voting) {
+fn vote(rt: &impl Print, c: Voting) -> io::Result<()> {
     let l = c.line;
     let b = c.buffer;
     if 65536 < l {
-        return;
+        return Ok(());
     }
     if 65536 < b {
-        return;
+        return Ok(());
     }
-    let mut line = io::large_buffer();
-    let mut buffer = io::large_buffer();
-    vote_on(c, &mut line[..l], &mut buffer[..b]);
+    let mut line = inputs::large_buffer();
+    let mut buffer = inputs::large_buffer();
+    vote_on(rt, c, &mut line[..l], &mut buffer[..b])
 }
 
-fn vote_on(c: Voting, line: &mut [u8], buffer: &mut [u8]) {
+fn vote_on(rt: &impl Print, c: Voting, line: &mut [u8], buffer: &mut [u8]) -> io::Result<()> {
     let notes = [c.one, c.two];
     inputs::fill(line, 165);
     inputs::count_up(buffer);
     let r = multiplex::multiplex(c.level, c.earlier, line, &notes, buffer);
-    say::text(b"multiplex");
-    voted(c, r, inputs::sum(line));
-    extract_on(c, line, buffer);
+    say::text(rt, b"multiplex")?;
+    voted(rt, c, r, inputs::sum(line))?;
+    extract_on(rt, c, line, buffer)
 }
 
-fn extract_on(c: Voting, line: &[u8], buffer: &mut [u8]) {
+fn extract_on(rt: &impl Print, c: Voting, line: &[u8], buffer: &mut [u8]) -> io::Result<()> {
     let notes = [c.one, c.two];
     inputs::fill(buffer, 165);
     let r = extraction::extract(c.level, c.earlier, line, &notes, buffer);
-    say::text(b"extract");
-    voted(c, r, inputs::sum(buffer));
+    say::text(rt, b"extract")?;
+    voted(rt, c, r, inputs::sum(buffer))
 }
 
-fn voted(c: Voting, r: Counted, sum: u64) {
-    say::counted(b" level ", c.level);
-    say::counted(b" earlier ", c.earlier);
-    say::labelled(b" line ", c.line);
-    say::labelled(b" notes ", c.one as usize);
-    say::labelled(b" ", c.two as usize);
-    say::labelled(b" buffer ", c.buffer);
-    crate::counted(r, sum);
+fn voted(rt: &impl Print, c: Voting, r: Counted, sum: u64) -> io::Result<()> {
+    say::counted(rt, b" level ", c.level)?;
+    say::counted(rt, b" earlier ", c.earlier)?;
+    say::labelled(rt, b" line ", c.line)?;
+    say::labelled(rt, b" notes ", c.one as usize)?;
+    say::labelled(rt, b" ", c.two as usize)?;
+    say::labelled(rt, b" buffer ", c.buffer)?;
+    crate::counted(rt, r, sum)
 }

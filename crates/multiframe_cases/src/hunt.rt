@@ -2,6 +2,7 @@
 // pieces of 1, 7 and 1,000 digits.
 ghost use Rattle.std.specs.Prelude.{◌≡◌, length};
 
+use std::io;
 use telling::{inputs, say};
 
 // A state, and a piece of a slice of zeros.
@@ -181,12 +182,13 @@ const HUNTINGS: [Hunting; 18] = [
     },
 ];
 
-pub fn hunt_all() {
+pub fn hunt_all(rt: &impl Print) -> io::Result<()> {
     let mut k: usize = 0;
     while k < 18 {
-        hunt_one(HUNTINGS[k]);
+        hunt_one(rt, HUNTINGS[k])?;
         k += 1;
     }
+    Ok(())
 }
 
 // A byte more than a piece may have.
@@ -196,16 +198,16 @@ fn zeros() -> [u8; 65537]
     [0; 65537]
 }
 
-fn hunt_one(c: Hunting) {
+fn hunt_one(rt: &impl Print, c: Hunting) -> io::Result<()> {
     let n = c.slice;
     if 65537 < n {
-        return;
+        return Ok(());
     }
     let slice = zeros();
-    hunt_on(c, &slice[..n]);
+    hunt_on(rt, c, &slice[..n])
 }
 
-fn hunt_on(c: Hunting, slice: &[u8]) {
+fn hunt_on(rt: &impl Print, c: Hunting, slice: &[u8]) -> io::Result<()> {
     let mut state = [c.window, c.seen, c.mode, c.place];
     let mut answer = [0u64; 2];
     let no = spritbobbin::finder_face::spritbobbin_finder_feed(
@@ -215,29 +217,29 @@ fn hunt_on(c: Hunting, slice: &[u8]) {
         c.count,
         &mut answer,
     );
-    say::counted(b"hunt window ", c.window);
-    say::counted(b" seen ", c.seen);
-    say::counted(b" mode ", c.mode);
-    say::counted(b" place ", c.place);
-    say::labelled(b" slice ", c.slice);
-    say::counted(b" first ", c.first);
-    say::counted(b" count ", c.count);
-    hunted(no, state, answer);
+    say::counted(rt, b"hunt window ", c.window)?;
+    say::counted(rt, b" seen ", c.seen)?;
+    say::counted(rt, b" mode ", c.mode)?;
+    say::counted(rt, b" place ", c.place)?;
+    say::labelled(rt, b" slice ", c.slice)?;
+    say::counted(rt, b" first ", c.first)?;
+    say::counted(rt, b" count ", c.count)?;
+    hunted(rt, no, state, answer)
 }
 
-fn hunted(no: u64, state: [u64; 4], answer: [u64; 2]) {
-    say::counted(b": refusal ", no);
-    say::counted(b" taken ", answer[0]);
-    say::counted(b" aligned ", answer[1]);
-    say::counted(b" state ", state[0]);
-    say::counted(b" ", state[1]);
-    say::counted(b" ", state[2]);
-    say::counted(b" ", state[3]);
-    say::text(b"\n");
+fn hunted(rt: &impl Print, no: u64, state: [u64; 4], answer: [u64; 2]) -> io::Result<()> {
+    say::counted(rt, b": refusal ", no)?;
+    say::counted(rt, b" taken ", answer[0])?;
+    say::counted(rt, b" aligned ", answer[1])?;
+    say::counted(rt, b" state ", state[0])?;
+    say::counted(rt, b" ", state[1])?;
+    say::counted(rt, b" ", state[2])?;
+    say::counted(rt, b" ", state[3])?;
+    say::text(rt, b"\n")
 }
 
 // Twenty frames of ones in pairs; those of pairs 3, 4 and 5 have no word.
-pub fn frames(size: u64) {
+pub fn frames(rt: &impl Print, size: u64) -> io::Result<()> {
     let mut line = [255u8; 640];
     line[0] = 155;
     line[64] = 155;
@@ -246,11 +248,11 @@ pub fn frames(size: u64) {
     line[448] = 155;
     line[512] = 155;
     line[576] = 155;
-    follow(&line, size);
+    follow(rt, &line, size)
 }
 
 // At most a call for each digit of the line; a line to each change of alignment.
-fn follow(line: &[u8; 640], size: u64) {
+fn follow(rt: &impl Print, line: &[u8; 640], size: u64) -> io::Result<()> {
     let mut state = [0u64; 4];
     let mut answer = [0u64; 2];
     spritbobbin::finder_face::spritbobbin_finder_fresh(&mut state);
@@ -259,7 +261,7 @@ fn follow(line: &[u8; 640], size: u64) {
     let mut aligned: u64 = 0;
     while turns < 5120 {
         if 5120 <= first {
-            return;
+            return Ok(());
         }
         let count = inputs::least(size, 5120 - first);
         let no = spritbobbin::finder_face::spritbobbin_finder_feed(
@@ -269,18 +271,27 @@ fn follow(line: &[u8; 640], size: u64) {
             count,
             &mut answer,
         );
-        first = std::num::wrapping_add_u64(first, answer[0]);
-        turned(size, first, no, state, answer, aligned);
+        first = first.wrapping_add(answer[0]);
+        turned(rt, size, first, no, state, answer, aligned)?;
         aligned = answer[1];
         turns += 1;
     }
+    Ok(())
 }
 
-fn turned(size: u64, digits: u64, no: u64, state: [u64; 4], answer: [u64; 2], before: u64) {
+fn turned(
+    rt: &impl Print,
+    size: u64,
+    digits: u64,
+    no: u64,
+    state: [u64; 4],
+    answer: [u64; 2],
+    before: u64,
+) -> io::Result<()> {
     if answer[1] == before {
-        return;
+        return Ok(());
     }
-    say::counted(b"frames pieces ", size);
-    say::counted(b" digits ", digits);
-    hunted(no, state, answer);
+    say::counted(rt, b"frames pieces ", size)?;
+    say::counted(rt, b" digits ", digits)?;
+    hunted(rt, no, state, answer)
 }

@@ -4,7 +4,7 @@ use mathlib.Core.Bool.{Bool, cond, true, false}
 use Prim.Native.Nat.{ℕ, zero, suc, ◌-◌}
 use native.Mathlib.Omega.{arith}
 use borrow.Author.Tests.{ne_eqb, le-leb}
-use lib.Dec.{leb, eqb}
+use lib.Dec.{leb}
 use Rattle.modes.specs.declared.Mode.TheVariants.{Aligned}
 use Rattle.pieces.specs.Frame.{aligned}
 use Rattle.receiver.specs.Numbers.{mode_of}

@@ -1,5 +1,6 @@
 // Stretches at their borders: the limit of each level, the begin and the end of the alarm, what is reported, and each refusal.
 use crate::stream;
+use std::io;
 use telling::say;
 
 // A state that hunts, all zero but for its stretch, and a piece of a slice of one byte.
@@ -253,15 +254,16 @@ const STRETCHES: [Stretched; 23] = [
     },
 ];
 
-pub fn stretch_all() {
+pub fn stretch_all(rt: &impl Print) -> io::Result<()> {
     let mut k: usize = 0;
     while k < 23 {
-        stretch_one(STRETCHES[k]);
+        stretch_one(rt, STRETCHES[k])?;
         k += 1;
     }
+    Ok(())
 }
 
-fn stretch_one(c: Stretched) {
+fn stretch_one(rt: &impl Print, c: Stretched) -> io::Result<()> {
     let mut state = [c.level, 0, 0, 0, 0, c.digits, c.zeros, c.few, c.alarm];
     let mut frame = [0u8; 366];
     let mut answer = [0u64; 4];
@@ -274,18 +276,18 @@ fn stretch_one(c: Stretched) {
         c.count,
         &mut answer,
     );
-    given(c);
-    stream::fed(no, state, answer);
-    say::text(b"\n");
+    given(rt, c)?;
+    stream::fed(rt, no, state, answer)?;
+    say::text(rt, b"\n")
 }
 
-fn given(c: Stretched) {
-    say::counted(b"stretch level ", c.level);
-    say::counted(b" digits ", c.digits);
-    say::counted(b" zeros ", c.zeros);
-    say::counted(b" few ", c.few);
-    say::counted(b" alarm ", c.alarm);
-    say::byte(b" fill ", c.fill);
-    say::counted(b" first ", c.first);
-    say::counted(b" count ", c.count);
+fn given(rt: &impl Print, c: Stretched) -> io::Result<()> {
+    say::counted(rt, b"stretch level ", c.level)?;
+    say::counted(rt, b" digits ", c.digits)?;
+    say::counted(rt, b" zeros ", c.zeros)?;
+    say::counted(rt, b" few ", c.few)?;
+    say::counted(rt, b" alarm ", c.alarm)?;
+    say::byte(rt, b" fill ", c.fill)?;
+    say::counted(rt, b" first ", c.first)?;
+    say::counted(rt, b" count ", c.count)
 }

@@ -4,6 +4,7 @@ ghost use Rattle.line_reader.specs.Step.{StepMet};
 
 use crate::stream;
 use line_reader::Step;
+use std::io;
 use telling::{inputs, say};
 
 // A line of so many bytes, byte i of it i modulo 256, and the place that is read from.
@@ -49,57 +50,59 @@ const READINGS: [Reading; 10] = [
     },
 ];
 
-pub fn read_all() {
+pub fn read_all(rt: &impl Print) -> io::Result<()> {
     let mut k: usize = 0;
     while k < 10 {
-        read_one(READINGS[k]);
+        read_one(rt, READINGS[k])?;
         k += 1;
     }
+    Ok(())
 }
 
-fn read_one(c: Reading) {
+fn read_one(rt: &impl Print, c: Reading) -> io::Result<()> {
     let n = c.line;
     if 65537 < n {
-        return;
+        return Ok(());
     }
     let mut line = stream::zeros();
-    read_on(c, &mut line[..n]);
+    read_on(rt, c, &mut line[..n])
 }
 
-fn read_on(c: Reading, line: &mut [u8]) {
+fn read_on(rt: &impl Print, c: Reading, line: &mut [u8]) -> io::Result<()> {
     inputs::count_up(line);
-    say::labelled(b"reader line ", c.line);
-    say::labelled(b" place ", c.place);
-    say::text(b": digits");
-    to_the_end(line, c.place);
+    say::labelled(rt, b"reader line ", c.line)?;
+    say::labelled(rt, b" place ", c.place)?;
+    say::text(rt, b": digits")?;
+    to_the_end(rt, line, c.place)
 }
 
 // At most 32 digits: more than any row of the table has left.
-fn to_the_end(line: &[u8], from: usize) {
+fn to_the_end(rt: &impl Print, line: &[u8], from: usize) -> io::Result<()> {
     let mut place = from;
     let mut turns: usize = 0;
     while turns < 16 {
         let two = two_from(line, place);
-        if ends(two.first) {
-            return;
+        if ends(rt, two.first)? {
+            return Ok(());
         }
-        if ends(two.second) {
-            return;
+        if ends(rt, two.second)? {
+            return Ok(());
         }
         place = two.second.place;
         turns += 1;
     }
+    Ok(())
 }
 
 // Writes a step, and answers whether the line has ended.
-fn ends(s: Step) -> bool {
+fn ends(rt: &impl Print, s: Step) -> io::Result<bool> {
     if s.ended {
-        say::labelled(b" ended at ", s.place);
-        say::text(b"\n");
-        return true;
+        say::labelled(rt, b" ended at ", s.place)?;
+        say::text(rt, b"\n")?;
+        return Ok(true);
     }
-    say::byte(b" ", s.digit);
-    false
+    say::byte(rt, b" ", s.digit)?;
+    Ok(false)
 }
 
 // A reader made at a place, and stepped twice.

@@ -1,6 +1,7 @@
 // Pieces fed to receivers: each refusal of a piece at its border, and worked case 11 whole and in pieces of 1, 7 and 1,000 digits.
 ghost use Rattle.std.specs.Prelude.{◌≡◌, length};
 
+use std::io;
 use telling::{inputs, say};
 
 // A state whose frame store is zero, and a piece of a slice of zeros.
@@ -201,12 +202,13 @@ const FEEDINGS: [Feeding; 18] = [
     },
 ];
 
-pub fn feed_all() {
+pub fn feed_all(rt: &impl Print) -> io::Result<()> {
     let mut k: usize = 0;
     while k < 18 {
-        feed_one(FEEDINGS[k]);
+        feed_one(rt, FEEDINGS[k])?;
         k += 1;
     }
+    Ok(())
 }
 
 // A byte more than a piece may have.
@@ -216,16 +218,16 @@ pub fn zeros() -> [u8; 65537]
     [0; 65537]
 }
 
-fn feed_one(c: Feeding) {
+fn feed_one(rt: &impl Print, c: Feeding) -> io::Result<()> {
     let n = c.slice;
     if 65537 < n {
-        return;
+        return Ok(());
     }
     let slice = zeros();
-    feed_on(c, &slice[..n]);
+    feed_on(rt, c, &slice[..n])
 }
 
-fn feed_on(c: Feeding, slice: &[u8]) {
+fn feed_on(rt: &impl Print, c: Feeding, slice: &[u8]) -> io::Result<()> {
     let mut state = [c.level, c.window, c.seen, c.mode, c.place, 0, 0, 0, 0];
     let mut frame = [0u8; 366];
     let mut answer = [0u64; 4];
@@ -237,52 +239,53 @@ fn feed_on(c: Feeding, slice: &[u8]) {
         c.count,
         &mut answer,
     );
-    given(c);
-    fed(no, state, answer);
-    say::text(b"\n");
+    given(rt, c)?;
+    fed(rt, no, state, answer)?;
+    say::text(rt, b"\n")
 }
 
-fn given(c: Feeding) {
-    say::counted(b"feed level ", c.level);
-    say::counted(b" window ", c.window);
-    say::counted(b" seen ", c.seen);
-    say::counted(b" mode ", c.mode);
-    say::counted(b" place ", c.place);
-    say::labelled(b" slice ", c.slice);
-    say::counted(b" first ", c.first);
-    say::counted(b" count ", c.count);
+fn given(rt: &impl Print, c: Feeding) -> io::Result<()> {
+    say::counted(rt, b"feed level ", c.level)?;
+    say::counted(rt, b" window ", c.window)?;
+    say::counted(rt, b" seen ", c.seen)?;
+    say::counted(rt, b" mode ", c.mode)?;
+    say::counted(rt, b" place ", c.place)?;
+    say::labelled(rt, b" slice ", c.slice)?;
+    say::counted(rt, b" first ", c.first)?;
+    say::counted(rt, b" count ", c.count)
 }
 
 // What every feed answers, and the state's numbers.
-pub fn fed(no: u64, state: [u64; 9], answer: [u64; 4]) {
-    say::counted(b": refusal ", no);
-    answered(answer);
-    numbered(state);
+pub fn fed(rt: &impl Print, no: u64, state: [u64; 9], answer: [u64; 4]) -> io::Result<()> {
+    say::counted(rt, b": refusal ", no)?;
+    answered(rt, answer)?;
+    numbered(rt, state)
 }
 
-fn answered(answer: [u64; 4]) {
-    say::counted(b" taken ", answer[0]);
-    say::counted(b" ready ", answer[1]);
-    say::counted(b" alarm ", answer[2]);
-    say::counted(b" words ", answer[3]);
+fn answered(rt: &impl Print, answer: [u64; 4]) -> io::Result<()> {
+    say::counted(rt, b" taken ", answer[0])?;
+    say::counted(rt, b" ready ", answer[1])?;
+    say::counted(rt, b" alarm ", answer[2])?;
+    say::counted(rt, b" words ", answer[3])
 }
 
-fn numbered(state: [u64; 9]) {
-    say::counted(b" state ", state[0]);
+fn numbered(rt: &impl Print, state: [u64; 9]) -> io::Result<()> {
+    say::counted(rt, b" state ", state[0])?;
     let mut i: usize = 1;
     while i < 9 {
-        say::counted(b" ", state[i]);
+        say::counted(rt, b" ", state[i])?;
         i += 1;
     }
+    Ok(())
 }
 
 // Case 1's line four times over, in pieces of at most so many digits: a line to each frame that is ready.
-pub fn case_11(size: u64) {
+pub fn case_11(rt: &impl Print, size: u64) -> io::Result<()> {
     let mut one = [0u8; 106];
     send_zeros(&mut one);
     let mut line = [0u8; 424];
     repeat(&mut line, &one);
-    walk(&line, size);
+    walk(rt, &line, size)
 }
 
 fn send_zeros(line: &mut [u8; 106]) {
@@ -300,7 +303,7 @@ fn repeat(line: &mut [u8; 424], one: &[u8; 106]) {
 }
 
 // At most a call for each digit of the line.
-fn walk(line: &[u8; 424], size: u64) {
+fn walk(rt: &impl Print, line: &[u8; 424], size: u64) -> io::Result<()> {
     let mut state = [0u64; 9];
     let mut frame = [0u8; 366];
     let mut answer = [0u64; 4];
@@ -309,7 +312,7 @@ fn walk(line: &[u8; 424], size: u64) {
     let mut turns: u64 = 0;
     while turns < 3392 {
         if 3392 <= first {
-            return;
+            return Ok(());
         }
         let count = inputs::least(size, 3392 - first);
         let no = spritbobbin::spritbobbin_receiver_feed(
@@ -320,23 +323,32 @@ fn walk(line: &[u8; 424], size: u64) {
             count,
             &mut answer,
         );
-        first = std::num::wrapping_add_u64(first, answer[0]);
+        first = first.wrapping_add(answer[0]);
         if answer[1] == 1 {
-            ready(size, first, no, state, answer, &frame);
+            ready(rt, size, first, no, state, answer, &frame)?;
         }
         turns += 1;
     }
+    Ok(())
 }
 
-fn ready(size: u64, digits: u64, no: u64, state: [u64; 9], answer: [u64; 4], frame: &[u8; 366]) {
-    say::counted(b"case 11 pieces ", size);
-    say::counted(b" digits ", digits);
-    fed(no, state, answer);
-    say::text(b" frame");
+fn ready(
+    rt: &impl Print,
+    size: u64,
+    digits: u64,
+    no: u64,
+    state: [u64; 9],
+    answer: [u64; 4],
+    frame: &[u8; 366],
+) -> io::Result<()> {
+    say::counted(rt, b"case 11 pieces ", size)?;
+    say::counted(rt, b" digits ", digits)?;
+    fed(rt, no, state, answer)?;
+    say::text(rt, b" frame")?;
     let mut i: usize = 0;
     while i < 106 {
-        say::byte(b" ", frame[i]);
+        say::byte(rt, b" ", frame[i])?;
         i += 1;
     }
-    say::text(b"\n");
+    say::text(rt, b"\n")
 }

@@ -1,4 +1,12 @@
 // How the inputs of the cases are made, and the sum by which a line or a buffer is told from another.
+ghost use Rattle.std.specs.Prelude.{◌≡◌, length};
+
+// 65,536 zeros, of which the cases lend parts. The `ensures` gives only the length, which lending the array as a slice needs.
+pub fn large_buffer() -> [u8; 65536]
+    ensures { 65536 ≡ length result }
+{
+    [0; 65536]
+}
 
 // Every byte b.
 pub fn fill(s: &mut [u8], b: u8) {
@@ -48,8 +56,8 @@ pub fn sum(s: &[u8]) -> u64 {
     let mut total: u64 = 0;
     while 0 < i {
         i -= 1;
-        after = std::num::wrapping_add_u64(after, s[i] as u64);
-        total = std::num::wrapping_add_u64(total, after);
+        after = after.wrapping_add(s[i] as u64);
+        total = total.wrapping_add(after);
     }
     total
 }

@@ -12,7 +12,7 @@ use lib.ListN.{length, get_or}
 use borrow.Author.Tests.{eq-eqb, ne_eqb, le-leb, lt-ltb}
 use Rattle.digits.specs.Digits.{tab}
 use Rattle.digits.proofs.Laws.{tab-length, tab-at, tab-of}
-use Rattle.slips.specs.Slips.{lent_from, wrong_of, held_at, held_of, step_of, least_of, best_of, laid_of, fresh, enter_of}
+use Rattle.slips.specs.Slips.{lent_from, wrong_of, held_at, held_of, step_of, least_of, best_of, laid_of, enter_of}
 use Rattle.patterns.specs.Patterns.{window_after, pattern_digits}
 use Rattle.patterns.proofs.Eights.{window-cat}
 use Rattle.verdict_blocks.specs.Blocks.{Block, fresh_low, judged_by, taken_up, sent_to, digit_of, digits_to, laid_anew, frame_to, start_of, frames_to}

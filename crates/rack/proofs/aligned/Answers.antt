@@ -6,7 +6,6 @@ use lib.ListN.{length}
 use native.Mathlib.Omega.{arith}
 use Rattle.digits.specs.Sums.{sum_to}
 use Rattle.rack.specs.Rack.{aligned_of}
-use Rattle.records.specs.Rule.{counted_to}
 use Rattle.rack.proofs.Lists.{counted-in, aligned-most, counted-more, aligned-done}
 use Rattle.rack.proofs.aligned.Goals as goal
 
