@@ -1,7 +1,7 @@
 -- The statements of the functions guard the functions. Each leaves no second answer: whatever meets it on the same input is the same step,
 -- digit or reader (`..-one-answer`). And each is what its function ensures, whole (`..-met`): one whose contract said less would not be
--- proved. Nor does a function ask anything of its caller (`..-asks-nothing`). `new` and `next` are proved by hand, so that what they ask
--- and ensure is read from their clauses, in any model of the logic, and not from a summary of them.
+-- proved. Nor does a function ask anything of its caller (`..-asks-nothing`). Of `new` and `next`, whose
+-- struct holds a reference, what they ask and ensure is read from their clauses, in any model of the logic, and not from a summary of them.
 use mathlib.Core.Path.{◌≡◌, refl}
 use mathlib.Core.List.{List}
 use Prim.Native.Nat.{ℕ}
