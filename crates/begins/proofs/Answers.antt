@@ -5,8 +5,7 @@ use Prim.Native.Nat.{ℕ}
 use contract.Lifetimes.{Lfts}
 use denote.Triple.Clauses.{AtExit}
 use borrow.Fn.World.{ArgsD, ResD}
-use Rattle.begins.specs.declared.Begun.{Begun}
-use Rattle.begins.specs.Begins.{BeginsMet}
+use Rattle.begins.specs.Begins.{Begun, numbers_of, BeginsMet}
 use Rattle.begins.specs.contracts.begins.{signature, ended}
 use Rattle.begins.proofs.begins.Reads.{Asked, Learnt}
 
@@ -16,7 +15,7 @@ no-second-answer read digits sent first count r s x y = x ∙ sym y
 
 -- and what the call ensures is that statement
 pub begins-met : (κs : Lfts 2) (a : ArgsD signature κs) (r : ResD signature κs) (e : AtExit ended κs) → Learnt κs a r e
-    → BeginsMet a.0.now a.1.0 a.1.1.0.now a.1.1.1.0 a.1.1.1.1.0 r
+    → BeginsMet a.0.now a.1.0 a.1.1.0.now a.1.1.1.0 a.1.1.1.1.0 (numbers_of r)
 begins-met κs a r e met = met
 
 -- and it asks nothing of its caller

@@ -1,7 +1,10 @@
 // Captures written and read through the C face: the example of request 1 byte by byte, each refusal of the writer at its border and in its
 // order, and small files whose field at fault is named.
-use std::io;
-use telling::{inputs, say};
+ghost use Rattle.std.specs.Prelude.{◌≤◌};
+
+use std::{fmt, io};
+use telling::inputs;
+use telling::say::Spaced;
 
 // A write: the bytes of line and label count up from 0, and the file holds 165 in every byte beforehand.
 #[derive(Clone, Copy)]
@@ -11,6 +14,8 @@ struct Writing {
     label: usize,
     labelled: u64,
     file: usize,
+    // at most what `write_one` lends
+    ghost lent: { (line ≤ 23790) × (label ≤ 33) × (file ≤ 24000) },
 }
 
 // A file of so many bytes: these, and zeros after them.
@@ -18,6 +23,8 @@ struct Writing {
 struct Small {
     bytes: usize,
     head: [u8; 11],
+    // at most what `read_one` lends
+    ghost lent: { bytes ≤ 43 },
 }
 
 const WRITINGS: [Writing; 24] = [
@@ -301,143 +308,87 @@ const FILES: [Small; 24] = [
     },
 ];
 
+impl fmt::Display for Writing {
+    fn fmt<W: fmt::Write>(&self, f: &mut fmt::Formatter<W>) -> fmt::Result {
+        write!(
+            f,
+            "level {} line {} label {} labelled {} file {}",
+            self.level, self.line, self.label, self.labelled, self.file
+        )
+    }
+}
+
 pub fn write_all(rt: &impl Print) -> io::Result<()> {
-    let mut k: usize = 0;
-    while k < 24 {
-        write_one(rt, WRITINGS[k])?;
-        k += 1;
+    for case in &WRITINGS {
+        write_one(rt, case)?;
     }
     Ok(())
 }
 
 pub fn read_all(rt: &impl Print) -> io::Result<()> {
-    let mut k: usize = 0;
-    while k < 24 {
-        read_one(rt, FILES[k])?;
-        k += 1;
+    for case in &FILES {
+        read_one(rt, case)?;
     }
     Ok(())
 }
 
-// Lends the call parts of arrays that are long enough for every row of the table.
-fn write_one(rt: &impl Print, c: Writing) -> io::Result<()> {
-    let l = c.line;
-    let n = c.label;
-    let f = c.file;
-    if 65536 < l {
-        return Ok(());
-    }
-    if 65536 < n {
-        return Ok(());
-    }
-    if 65536 < f {
-        return Ok(());
-    }
-    let mut line = inputs::large_buffer();
-    let mut label = inputs::large_buffer();
-    let mut file = inputs::large_buffer();
-    write_on(rt, c, &mut line[..l], &mut label[..n], &mut file[..f])
-}
-
-fn write_on(
-    rt: &impl Print,
-    c: Writing,
-    line: &mut [u8],
-    label: &mut [u8],
-    file: &mut [u8],
-) -> io::Result<()> {
-    inputs::count_up(line);
-    inputs::count_up(label);
-    inputs::fill(file, 165);
+fn write_one(rt: &impl Print, case: &Writing) -> io::Result<()> {
+    let mut line = [0u8; 23790];
+    let mut label = [0u8; 33];
+    let mut file = [165u8; 24000];
+    inputs::count_up(&mut line);
+    inputs::count_up(&mut label);
+    let file = &mut file[..case.file];
     let mut answer = [0u64; 2];
-    let no = spritbobbin::spritbobbin_capture_write(
-        c.level,
-        line,
-        label,
-        c.labelled,
+    let refusal = spritbobbin::spritbobbin_capture_write(
+        case.level,
+        &line[..case.line],
+        &label[..case.label],
+        case.labelled,
         file,
         &mut answer,
     );
-    written(rt, c, no, answer, inputs::sum(file))?;
-    read_back(rt, file, answer[0])
-}
-
-fn written(rt: &impl Print, c: Writing, no: u64, answer: [u64; 2], sum: u64) -> io::Result<()> {
-    say::counted(rt, b"write level ", c.level)?;
-    say::labelled(rt, b" line ", c.line)?;
-    say::labelled(rt, b" label ", c.label)?;
-    say::counted(rt, b" labelled ", c.labelled)?;
-    say::labelled(rt, b" file ", c.file)?;
-    say::counted(rt, b": refusal ", no)?;
-    say::counted(rt, b" bytes ", answer[0])?;
-    say::counted(rt, b" byte ", answer[1])?;
-    say::counted(rt, b" sum ", sum)?;
-    say::text(rt, b"\n")
+    let [bytes, byte] = answer;
+    let sum = inputs::sum(file);
+    println!(rt; "write {case}: refusal {refusal} bytes {bytes} byte {byte} sum {sum}")?;
+    read_back(rt, file, bytes)
 }
 
 // What was written is read: so many bytes of the file.
 fn read_back(rt: &impl Print, file: &[u8], bytes: u64) -> io::Result<()> {
-    let n = bytes as usize;
-    if file.len() < n {
+    let Some(written) = file.get(..bytes as usize) else {
         return Ok(());
-    }
-    say::counted(rt, b"read back ", bytes)?;
-    read_on(rt, &file[..n])
+    };
+    print!(rt; "read back {bytes}")?;
+    read(rt, written)
 }
 
-fn read_one(rt: &impl Print, c: Small) -> io::Result<()> {
-    let n = c.bytes;
-    if 65536 < n {
-        return Ok(());
-    }
-    let mut file = inputs::large_buffer();
-    read_small(rt, c, &mut file[..n])
+fn read_one(rt: &impl Print, case: &Small) -> io::Result<()> {
+    let mut file = [0u8; 43];
+    file[..11].copy_from_slice(&case.head);
+    print!(rt; "read{}", Spaced(&case.head))?;
+    read(rt, &file[..case.bytes])
 }
 
-fn read_small(rt: &impl Print, c: Small, file: &mut [u8]) -> io::Result<()> {
-    inputs::fill(file, 0);
-    let head = c.head;
-    begin(rt, file, &head)?;
-    read_on(rt, file)
-}
-
-fn begin(rt: &impl Print, file: &mut [u8], head: &[u8; 11]) -> io::Result<()> {
-    say::text(rt, b"read")?;
-    let mut i: usize = 0;
-    while i < 11 {
-        inputs::put_byte(file, i, head[i]);
-        say::byte(rt, b" ", head[i])?;
-        i += 1;
-    }
-    Ok(())
-}
-
-fn read_on(rt: &impl Print, file: &[u8]) -> io::Result<()> {
+fn read(rt: &impl Print, file: &[u8]) -> io::Result<()> {
     let mut answer = [0u64; 7];
-    let no = spritbobbin::spritbobbin_capture_read(file, &mut answer);
-    say::labelled(rt, b" bytes ", file.len())?;
-    say::counted(rt, b": refusal ", no)?;
-    say::counted(rt, b" level ", answer[0])?;
-    say::counted(rt, b" line ", answer[1])?;
-    say::counted(rt, b" ", answer[2])?;
-    say::counted(rt, b" labelled ", answer[3])?;
-    say::counted(rt, b" label ", answer[4])?;
-    say::counted(rt, b" ", answer[5])?;
-    say::counted(rt, b" byte ", answer[6])?;
-    say::text(rt, b"\n")
+    let refusal = spritbobbin::spritbobbin_capture_read(file, &mut answer);
+    let [level, line, line_bytes, labelled, label, label_bytes, byte] = answer;
+    let bytes = file.len();
+    print!(rt; " bytes {bytes}: refusal {refusal} level {level} line {line} {line_bytes}")?;
+    println!(rt; " labelled {labelled} label {label} {label_bytes} byte {byte}")
 }
 
 // Request 1's example: the capture of case 1's line without a label, all its bytes.
 pub fn example(rt: &impl Print) -> io::Result<()> {
     let mut line = [0u8; 106];
-    let notes = [0x20u8];
-    let buffer = [0u8; 104];
-    multiplex::multiplex(2, 0, &mut line, &notes, &buffer);
+    let _ = multiplex::multiplex(2, 0, &mut line, &[0x20], &[0; 104]);
     let mut file = [0u8; 113];
     let mut answer = [0u64; 2];
-    let none = [0u8; 1];
-    let no = spritbobbin::spritbobbin_capture_write(2, &line, &none, 0, &mut file, &mut answer);
-    say::counted(rt, b"case 1 kept: refusal ", no)?;
-    say::counted(rt, b" bytes ", answer[0])?;
-    say::bytes(rt, &file)
+    let refusal = spritbobbin::spritbobbin_capture_write(2, &line, &[0], 0, &mut file, &mut answer);
+    let [bytes, _byte] = answer;
+    println!(rt;
+        "case 1 kept: refusal {refusal} bytes {bytes}{}",
+        Spaced(&file)
+    )
 }

@@ -1,6 +1,7 @@
 -- Writer and reader together: reading gives back what was written, and every accepted file is what the writer makes of its reading, so that no
 -- two files read alike. Refusal 9 is given exactly to what is no run of fields. And the statements of the two calls guard them: they leave
 -- no second answer, they are what the calls ensure, and the calls ask nothing of their callers.
+use Rattle.std.specs.Prelude.{Option, Some, None}
 use mathlib.Core.Path.{◌≡◌, refl, sym, ◌∙◌, ap, subst}
 use mathlib.Core.Logic.{◌≢◌, ◌⊎◌, inl, inr, ⊎_elim}
 use mathlib.Core.Bool.{Bool, cond, true, false}
@@ -16,15 +17,12 @@ use borrow.Fn.World.{ArgsD, ResD}
 use borrow.Author.Tests.{eq-eqb, ne_eqb, eqb-true, eqb-false}
 use Rattle.digits.specs.Digits.{Bytes}
 use Rattle.table.specs.declared.Row.{Row}
-use Rattle.table.specs.declared.Level.{Level}
-use Rattle.table.specs.declared.Level.TheVariants.{Of, NoSuchLevel}
 use Rattle.table.specs.Table.{level_of}
 use Rattle.levels.specs.Sizes.{on_level, bad_line}
 use Rattle.levels.proofs.Choice.{cond-by}
 use Rattle.levels.proofs.Rows.{shared-row}
-use Rattle.captures.specs.declared.Written.{Written}
 use Rattle.captures.specs.declared.Reading.{Reading}
-use Rattle.captures.specs.Captures.{file_of, filed, write_refusal, unwritten, written_of, written_on, WriteMet, end_at, field_at, unread, after_line, fields_of, judged, read_of, ReadMet, bytes_in}
+use Rattle.captures.specs.Captures.{Written, file_of, filed, write_refusal, unwritten, written_of, written_on, written_in, WriteMet, end_at, field_at, unread, after_line, fields_of, judged, read_of, ReadMet, bytes_in}
 use Rattle.captures.specs.Trips.{Gives, Run}
 use Rattle.captures.proofs.Judging.{judged-good, short-enough, short-label, unrefused-so}
 use Rattle.captures.proofs.Files.{found, fields-found, gives_back, remade, fields_made}
@@ -37,7 +35,7 @@ use Rattle.captures.proofs.read.Reads as read-reads
 
 pub record WrittenWell (level : ℕ) (line label : List ℕ) (labelled : Bool) (room : ℕ) : Type 0 where
   pub row : Row
-  pub has_row : level_of level ≡ Of row
+  pub has_row : level_of level ≡ Some row
   pub unrefused : write_refusal row level line label labelled room ≡ 0
 
 written-well : (level : ℕ) (line label : List ℕ) (labelled : Bool) (room : ℕ) → (written_of level line label labelled room).refusal ≡ 0
@@ -52,17 +50,17 @@ written-well level line label labelled room = go (level_of level) refl
     one : ◌≡◌ {A = ℕ} 1 0 → ⊥
     one e = omega arith
 
-    go : (l : Level) → level_of level ≡ l → (on_level l (λ (row : Row). written_on row level line label labelled room) (unwritten 1)).refusal ≡ 0
+    go : (l : Option Row) → level_of level ≡ l → (on_level l (λ (row : Row). written_on row level line label labelled room) (unwritten 1)).refusal ≡ 0
         → WrittenWell level line label labelled room
-    go (Of row) x e =
+    go (Some row) x e =
         let no = write_refusal row level line label labelled room in
         record { row = row; has_row = x; unrefused = zero_of row (eqb no 0) no refl e }
-    go NoSuchLevel x e = absurd (one e)
+    go None x e = absurd (one e)
 
 pub record ReadWell (file : List ℕ) : Type 0 where
   pub fields : (fields_of file).refusal ≡ 0
   pub row : Row
-  pub has_row : level_of (fields_of file).level ≡ Of row
+  pub has_row : level_of (fields_of file).level ≡ Some row
   pub line_good : bad_line row (fields_of file).line.bytes ≡ false
   pub same : read_of file ≡ fields_of file
 
@@ -78,17 +76,17 @@ read-well file ok = go (eqb f.refusal 0) refl (level_of f.level) refl
     no_line : ◌≡◌ {A = ℕ} 2 0 → ⊥
     no_line e = omega arith
 
-    go : (t : Bool) → eqb f.refusal 0 ≡ t → (l : Level) → level_of f.level ≡ l → ReadWell file
+    go : (t : Bool) → eqb f.refusal 0 ≡ t → (l : Option Row) → level_of f.level ≡ l → ReadWell file
     go false x l y = absurd (eqb-false f.refusal 0 x (rw x at ok))
-    go true x NoSuchLevel y = absurd (no_such (rw (x, y) at ok))
-    go true x (Of row) y = by-line (bad_line row f.line.bytes) refl
+    go true x None y = absurd (no_such (rw (x, y) at ok))
+    go true x (Some row) y = by-line (bad_line row f.line.bytes) refl
       where
         by-line : (t : Bool) → bad_line row f.line.bytes ≡ t → ReadWell file
         by-line true z = absurd (no_line (rw (x, y, z) at ok))
         by-line false z = record { fields = eqb-true f.refusal 0 x; row = row; has_row = y; line_good = z; same = rw (x, y, z) refl }
 
 -- a run of fields whose level and line are good is read as it was found
-read_found : (file : List ℕ) (f : Reading) → fields_of file ≡ f → f.refusal ≡ 0 → (row : Row) → level_of f.level ≡ Of row → bad_line row f.line.bytes ≡ false
+read_found : (file : List ℕ) (f : Reading) → fields_of file ≡ f → f.refusal ≡ 0 → (row : Row) → level_of f.level ≡ Some row → bad_line row f.line.bytes ≡ false
     → read_of file ≡ f
 read_found file f is z row x good = rw (is, eq-eqb f.refusal 0 z, x, good) refl
 
@@ -169,9 +167,9 @@ nine-is-no-run file r reads nine run = by_level (level_of run.level) refl (sym (
     by-line true e = omega arith
     by-line false e = omega arith
 
-    by_level : (l : Level) → level_of run.level ≡ l → (judged f).refusal ≡ 9 → ⊥
-    by_level (Of row) x e = by-line (bad_line row (length run.line)) (rw x at e)
-    by_level NoSuchLevel x e = not-one (rw x at e)
+    by_level : (l : Option Row) → level_of run.level ≡ l → (judged f).refusal ≡ 9 → ⊥
+    by_level (Some row) x e = by-line (bad_line row (length run.line)) (rw x at e)
+    by_level None x e = not-one (rw x at e)
 
 -- the run of tags and lengths alone is refused with 9 or not at all
 nine-or-none : (file : List ℕ) → ((fields_of file).refusal ≡ 0) ⊎ ((fields_of file).refusal ≡ 9)
@@ -217,7 +215,7 @@ read-one-answer file a b x y = x ∙ sym y
 -- ---- what the calls ensure is their statements
 
 pub write-met : (κs : Lfts 3) (a : ArgsD write.signature κs) (r : ResD write.signature κs) (e : AtExit write.ended κs) → write-reads.Learnt κs a r e
-    → WriteMet a.0 a.1.0.now a.1.1.0.now a.1.1.1.0 a.1.1.1.1.0.now r e.1.1.1.1.0.now
+    → WriteMet a.0 a.1.0.now a.1.1.0.now a.1.1.1.0 a.1.1.1.1.0.now (written_in r) e.1.1.1.1.0.now
 write-met κs a r e met = met
 
 pub read-met : (κs : Lfts 1) (a : ArgsD read.signature κs) (r : ResD read.signature κs) (e : AtExit read.ended κs) → read-reads.Learnt κs a r e

@@ -1,16 +1,16 @@
 -- The reader's table of faults (specs/Faults.antt): each case has its refusal and its byte, and so have the worked files.
+use Rattle.std.specs.Prelude.{Some, None}
 use mathlib.Core.Path.{◌≡◌, refl, sym, ◌∙◌, ap}
 use mathlib.Core.Bool.{Bool, true, false}
 use mathlib.Core.List.{List, [], ◌∷◌, ◌++◌}
 use Prim.Native.Nat.{ℕ, ◌+◌, ◌≤◌, ◌<◌}
 use native.Mathlib.Omega.{arith}
-use lib.ListN.{length, get_or, take, drop, length-append, length-drop}
+use lib.ListN.{length, get_or, drop, length-append, length-drop}
 use lib.Seq.{length-take-le, drop_at, get_or-append-add}
 use lib.Dec.{eqb}
 use borrow.Author.Tests.{ne_eqb}
 use Rattle.digits.specs.Digits.{Bytes}
 use Rattle.table.specs.declared.Row.{Row}
-use Rattle.table.specs.declared.Level.TheVariants.{Of, NoSuchLevel}
 use Rattle.table.specs.Table.{level_of}
 use Rattle.levels.specs.Sizes.{bad_line}
 use Rattle.captures.specs.Captures.{field_of, file_of, length_at, end_at, part_at, field_at, unread, after_line, fields_of, read_of, bytes_in}
@@ -128,10 +128,10 @@ module _ (level : ℕ) (line label : List ℕ) (labelled : Bool) (h : length lin
   judged-so : fields_of (file_of level line label labelled) ≡ found level line label labelled
   judged-so = fields-found level line label h labelled short
 
-  level_judged : level_of level ≡ NoSuchLevel → read_of (file_of level line label labelled) ≡ unread 1 0
+  level_judged : level_of level ≡ None → read_of (file_of level line label labelled) ≡ unread 1 0
   level_judged e = rw (judged-so, e)
 
-  line_judged : (row : Row) → level_of level ≡ Of row → bad_line row (length line) ≡ true → read_of (file_of level line label labelled) ≡ unread 2 0
+  line_judged : (row : Row) → level_of level ≡ Some row → bad_line row (length line) ≡ true → read_of (file_of level line label labelled) ≡ unread 2 0
   line_judged row e bad = rw (judged-so, e, bad)
 
 pub faults : Faults

@@ -2,9 +2,9 @@
 use mathlib.Core.Path.{◌≡◌, sym, ◌∙◌, ap, ap₂}
 use mathlib.Core.Bool.{Bool, cond, true, false}
 use mathlib.Core.List.{List, [], ◌∷◌, ◌++◌, append-nil, append_assoc}
-use Prim.Native.Nat.{ℕ, suc, ◌+◌, ◌-◌, ◌/◌, ◌%◌, ◌≤◌}
+use Prim.Native.Nat.{ℕ, ◌+◌, ◌-◌, ◌/◌, ◌%◌, ◌≤◌}
 use native.Mathlib.Omega.{arith}
-use lib.ListN.{length, take, drop, set, length-append, length-drop, length-set}
+use lib.ListN.{length, take, drop, set, length-append}
 use lib.Seq.{take_at, drop_at, length-take-le, sets-eq, drop-drop}
 use borrow.Rule.Slice.PartMut.{put_mid, Post-is}
 use Rattle.captures.specs.Captures.{field_of, file_of, put_at, filed}
@@ -16,13 +16,6 @@ module _ (p : ℕ) (xs old : List ℕ) (h : p + length xs ≤ length old) where
 
   regrouped : put_at p xs old ≡ (take p old ++ xs) ++ drop (p + length xs) old
   regrouped = sym (append_assoc (take p old) xs (drop (p + length xs) old))
-
-  -- a buffer keeps its length
-  pub put-length : length (put_at p xs old) ≡ length old
-  put-length =
-      ap (λ (l : List ℕ). length l) regrouped
-      ∙ length-append (take p old ++ xs) (drop (p + length xs) old)
-      ∙ omega (arith, front, length-drop (p + length xs) old)
 
   -- bytes put, and more behind them, are put at once
   pub put-behind : (ys : List ℕ) → put_at (p + length xs) ys (put_at p xs old) ≡ put_at p (xs ++ ys) old
@@ -41,29 +34,28 @@ module _ (p : ℕ) (xs old : List ℕ) (h : p + length xs ≤ length old) where
       ∙ append_assoc (take p old) xs (ys ++ drop (p + length (xs ++ ys)) old)
       ∙ ap (λ (l : List ℕ). take p old ++ l) (sym (append_assoc xs ys (drop (p + length (xs ++ ys)) old)))
 
--- what a field's head and its body leave: three bytes are stored, then the body is copied into the part that is lent for it
+-- what a field's tag, its length and its body leave: the tag is stored, then the others are copied into the parts that are lent for them
 module _ (p tag : ℕ) (body old : List ℕ) (h : p + 3 + length body ≤ length old) where
-  abbrev headed : List ℕ
-  headed = set (set (set old p tag) (p + 1) (length body / 256)) (p + 2) (length body % 256)
+  abbrev long : List ℕ
+  long = length body / 256 ∷ length body % 256 ∷ []
 
-  head-put : headed ≡ put_at p (tag ∷ length body / 256 ∷ length body % 256 ∷ []) old
-  head-put =
-      let one : p + 1 ≡ suc p = omega arith in
-      let two : p + 2 ≡ suc (suc p) = omega arith in
-      rw (one, two) (sets-eq (tag ∷ length body / 256 ∷ length body % 256 ∷ []) old p (omega arith))
-      ∙ append_assoc (take p old) (tag ∷ length body / 256 ∷ length body % 256 ∷ []) (drop (p + 3) old)
+  tag-put : set old p tag ≡ put_at p (tag ∷ []) old
+  tag-put = sets-eq (tag ∷ []) old p (omega arith) ∙ append_assoc (take p old) (tag ∷ []) (drop (p + 1) old)
 
-  as_long : length headed ≡ length old
-  as_long = simp (length-set)
+  module _ (sent : List ℕ) (led : sent ≡ long) where
+    abbrev headed : List ℕ
+    headed = put_mid (p + 1) (p + 3 - (p + 1)) (set old p tag) sent
 
-  module _ (part : List ℕ) (filled : part ≡ body) where
-    pub field_put : put_mid (p + 3) (p + 3 + length body - (p + 3)) headed part ≡ put_at p (field_of tag body) old
-    field_put =
-        rw (filled, Post-is (p + 3) (p + 3 + length body) headed (omega arith), head-put)
-        (put-behind p (tag ∷ length body / 256 ∷ length body % 256 ∷ []) old (omega arith) body)
+    head-put : headed ≡ put_at p (tag ∷ long) old
+    head-put =
+        let three : p + 1 + 2 ≡ p + 3 = omega arith in
+        rw (led, Post-is (p + 1) (p + 3) (set old p tag) (omega arith), tag-put) (rw three at (put-behind p (tag ∷ []) old (omega arith) long))
 
-    pub field-length : length (put_mid (p + 3) (p + 3 + length body - (p + 3)) headed part) ≡ length old
-    field-length = ap (λ (l : List ℕ). length l) field_put ∙ put-length p (field_of tag body) old (omega arith)
+    module _ (part : List ℕ) (filled : part ≡ body) where
+      pub field_put : put_mid (p + 3) (p + 3 + length body - (p + 3)) headed part ≡ put_at p (field_of tag body) old
+      field_put =
+          rw (filled, Post-is (p + 3) (p + 3 + length body) headed (omega arith), head-put)
+          (put-behind p (tag ∷ long) old (omega arith) body)
 
 -- ---- the fields of a file, one behind the other
 

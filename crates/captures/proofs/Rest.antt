@@ -1,17 +1,17 @@
 -- "bytes after the file stay": of an accepted write the first so many bytes that it answers are the file, and all after them are as they were.
+use Rattle.std.specs.Prelude.{Option, Some, None}
 use mathlib.Core.Path.{◌≡◌, refl, sym, ◌∙◌, ap}
 use mathlib.Core.Bool.{Bool, true, false}
 use mathlib.Core.List.{List}
 use Prim.Native.Nat.{ℕ}
 use native.Mathlib.Omega.{arith}
 use lib.Dec.{eqb}
-use lib.ListN.{length, take, drop}
+use lib.ListN.{length, drop}
 use lib.Seq.{drop_at, take-append_seam}
 use borrow.Author.Tests.{eqb-false}
-use Rattle.table.specs.declared.Level.{Level}
-use Rattle.table.specs.declared.Level.TheVariants.{Of, NoSuchLevel}
+use Rattle.table.specs.declared.Row.{Row}
 use Rattle.table.specs.Table.{level_of}
-use Rattle.captures.specs.declared.Written.{Written}
+use Rattle.captures.specs.Captures.{Written}
 use Rattle.captures.specs.Captures.{file_of, write_refusal, written_of, left_of, WriteMet}
 use Rattle.captures.specs.Trips.{Stays}
 
@@ -26,10 +26,10 @@ rest-stays level line label labelled file answer left met ok =
     one : ◌≡◌ {A = ℕ} 1 0 → ⊥
     one e = omega arith
 
-    go : (l : Level) → level_of level ≡ l → (written_of level line label labelled (length file)).refusal ≡ 0
+    go : (l : Option Row) → level_of level ≡ l → (written_of level line label labelled (length file)).refusal ≡ 0
         → Stays made file (left_of level line label labelled file) (written_of level line label labelled (length file)).bytes
-    go NoSuchLevel e z = absurd (one (rw e at z))
-    go (Of row) e z = by (eqb (write_refusal row level line label labelled (length file)) 0) refl
+    go None e z = absurd (one (rw e at z))
+    go (Some row) e z = by (eqb (write_refusal row level line label labelled (length file)) 0) refl
       where
         by : (t : Bool) → eqb (write_refusal row level line label labelled (length file)) 0 ≡ t
             → Stays made file (left_of level line label labelled file) (written_of level line label labelled (length file)).bytes

@@ -1,10 +1,11 @@
 -- Captures kept in a file: what the writer and the reader answer, and what the writer leaves, refused or not, for any input. Request 1 of
 -- document 02. Level and line are judged by the definitions that every other call uses.
-use Rattle.std.specs.Prelude.{◌≡◌, Bool, cond, true, false, ◌&&◌, List, [], ◌∷◌, ◌++◌, ℕ, ◌+◌, ◌*◌, ◌/◌, ◌%◌, eqb, ltb, leb, length, get_or, take, drop}
+use Rattle.std.specs.Prelude.{◌≡◌, Bool, cond, true, false, ◌&&◌, List, [], ◌∷◌, ◌++◌, ℕ, ◌+◌, ◌*◌, ◌/◌, ◌%◌, eqb, ltb, leb, length, get_or, take, drop, Result, Ok, Err}
 use Rattle.table.specs.declared.Row.{Row}
 use Rattle.table.specs.Table.{level_of}
 use Rattle.levels.specs.Sizes.{on_level, bad_line}
-use Rattle.captures.specs.declared.Written.{Written}
+use Rattle.refusal.specs.declared.Refusal.{Refusal}
+use Rattle.refusal.specs.Refusal.{number_of}
 use Rattle.captures.specs.declared.Part.{Part}
 use Rattle.captures.specs.declared.Reading.{Reading}
 
@@ -27,9 +28,20 @@ write_refusal row level line label labelled room =
     (cond (labelled && ltb 32 (length label)) 9
     (cond (ltb room (length (file_of level line label labelled))) 4 0))
 
+-- the writer's answer as numbers: the refusal, 0 for none, how many bytes the file has, and the byte that a refusal names
+pub record Written : Type 0 where
+  pub refusal : ℕ
+  pub bytes : ℕ
+  pub byte : ℕ
+
 -- "naming byte 0": no refusal of the writer names another
 abbrev pub unwritten : ℕ → Written
 unwritten refusal = record { refusal = refusal; bytes = 0; byte = 0 }
+
+-- the numbers of what the code answers
+abbrev pub written_in : Result ℕ Refusal → Written
+written_in (Ok bytes) = record { refusal = 0; bytes = bytes; byte = 0 }
+written_in (Err refusal) = unwritten (number_of refusal)
 
 -- the answer: the refusal, or how many bytes the file has
 abbrev pub written_on : Row → ℕ → List ℕ → List ℕ → Bool → ℕ → Written

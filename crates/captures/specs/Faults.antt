@@ -1,10 +1,9 @@
 -- The reader's faults, a second time: a table of cases, each with its file, where specs/Captures.antt has one walk over the fields. "The reader refuses with 9 any
 -- other run of tags and lengths, and names the byte where the field at fault begins or should begin (0 in other answers); only then is the level judged by 1 and the
 -- line by 2." proofs/Faults.antt shows that the two are one.
-use Rattle.std.specs.Prelude.{◌≡◌, Bool, true, List, [], ◌∷◌, ◌++◌, ℕ, ◌+◌, ◌≤◌, ◌<◌, length, replicate}
+use Rattle.std.specs.Prelude.{◌≡◌, Bool, true, List, [], ◌∷◌, ◌++◌, ℕ, ◌+◌, ◌≤◌, ◌<◌, length, replicate, Some, None}
 use Rattle.digits.specs.Digits.{Bytes}
 use Rattle.table.specs.declared.Row.{Row}
-use Rattle.table.specs.declared.Level.TheVariants.{Of, NoSuchLevel}
 use Rattle.table.specs.Table.{level_of}
 use Rattle.levels.specs.Sizes.{bad_line}
 use Rattle.captures.specs.Captures.{field_of, file_of, unread, read_of}
@@ -33,10 +32,10 @@ pub record Faults : Type 0 where
       → read_of (lined level line ++ (field_of 3 label ++ rest)) ≡ unread 9 (10 + length line + length label)
   -- only then the level, naming byte 0
   pub level_judged : (level : ℕ) (line label : List ℕ) (labelled : Bool) → length line < 65536 → (labelled ≡ true → length label ≤ 32)
-      → level_of level ≡ NoSuchLevel → read_of (file_of level line label labelled) ≡ unread 1 0
+      → level_of level ≡ None → read_of (file_of level line label labelled) ≡ unread 1 0
   -- and then the line, naming byte 0
   pub line_judged : (level : ℕ) (line label : List ℕ) (labelled : Bool) (row : Row) → length line < 65536 → (labelled ≡ true → length label ≤ 32)
-      → level_of level ≡ Of row → bad_line row (length line) ≡ true → read_of (file_of level line label labelled) ≡ unread 2 0
+      → level_of level ≡ Some row → bad_line row (length line) ≡ true → read_of (file_of level line label labelled) ≡ unread 2 0
 
 -- worked files: the bytes, the refusal and the byte it names
 pub record Worked : Type 0 where

@@ -3,13 +3,15 @@
 #![tactic(auto)]
 
 ghost use Rattle.std.specs.Prelude.{◌≡◌, true, cond, ◌&&◌, ◌+◌, ◌^◌, ◌<◌, ◌≤◌, ltb, length, get_or};
+ghost use Rattle.refusal.specs.Refusal.{refusal_in};
 ghost use Rattle.levels.specs.Table.{Shared};
 ghost use Rattle.levels.specs.Sizes.{bad_line};
-ghost use Rattle.captures.specs.Captures.{field_of, file_of, put_at, filed, write_refusal, written_on, left_on, unwritten, WriteMet};
+ghost use Rattle.captures.specs.Captures.{field_of, file_of, put_at, filed, write_refusal, written_on, left_on, written_in, WriteMet};
 ghost use Rattle.captures.specs.Captures.{length_at, end_at, part_at, field_at, unread, after_line, fields_of, ReadMet};
 
 use levels::sizes;
-use table::{Level, Row};
+use refusal::Refusal;
+use table::Row;
 
 // The tags of the fields, in the order of a file.
 const LEVEL: u8 = 1;
@@ -23,14 +25,6 @@ const LABEL_MOST: usize = 32;
 
 // Where there is no line or no label.
 const NOWHERE: Part = Part { start: 0, bytes: 0 };
-
-// The writer's answer: the refusal, how many bytes the file has, and the byte that a refusal names.
-#[derive(Clone, Copy)]
-pub struct Written {
-    pub refusal: u64,
-    pub bytes: usize,
-    pub byte: usize,
-}
 
 // Where something stands in a file: its first byte, and how many it has.
 #[derive(Clone, Copy)]
@@ -50,16 +44,6 @@ pub struct Reading {
     pub byte: usize,
 }
 
-fn refused(refusal: u64) -> Written
-    ensures { result ≡ unwritten refusal }
-{
-    Written {
-        refusal,
-        bytes: 0,
-        byte: 0,
-    }
-}
-
 // Puts a field behind the first p bytes of the file, and answers the byte after it.
 fn put_field(file: &mut [u8], p: usize, tag: u8, body: &[u8]) -> usize
     requires { (length body.now < 65536) × (p + 3 + length body.now ≤ length file.old) }
@@ -67,11 +51,10 @@ fn put_field(file: &mut [u8], p: usize, tag: u8, body: &[u8]) -> usize
         × (file.new ≡ put_at p (field_of tag body.now) file.old) }
 {
     let n = body.len();
-    file[p] = tag;
-    file[p + 1] = (n / 256) as u8;
-    file[p + 2] = (n % 256) as u8;
     let start = p + 3;
     let end = start + n;
+    file[p] = tag;
+    file[p + 1..start].copy_from_slice(&(n as u16).to_be_bytes());
     file[start..end].copy_from_slice(body);
     end
 }
@@ -80,10 +63,7 @@ fn put_field(file: &mut [u8], p: usize, tag: u8, body: &[u8]) -> usize
 fn long_label(label: &[u8], labelled: bool) -> bool
     ensures { result ≡ labelled && ltb 32 (length label.now) }
 {
-    if labelled {
-        return LABEL_MOST < label.len();
-    }
-    false
+    labelled && LABEL_MOST < label.len()
 }
 
 // How many bytes the file of a line and a label of so many bytes has.
@@ -92,12 +72,13 @@ fn file_bytes(line: usize, label: usize, labelled: bool) -> usize
     ensures { result ≡ 7 + line + cond labelled (3 + label) 0 }
 {
     if labelled {
-        return 10 + line + label;
+        10 + line + label
+    } else {
+        7 + line
     }
-    7 + line
 }
 
-// A level's row is known: the first refusal of 2, 9 and 4 that applies, or 0.
+// A level's row is known: the first refusal of 2, 9 and 4 that applies.
 fn write_refusal(
     row: Row,
     level: u64,
@@ -105,20 +86,20 @@ fn write_refusal(
     label: &[u8],
     labelled: bool,
     room: usize,
-) -> u64
+) -> Result<(), Refusal>
     requires { Shared row }
-    ensures { result ≡ write_refusal row level line.now label.now labelled room }
+    ensures { refusal_in result ≡ write_refusal row level line.now label.now labelled room }
 {
     if sizes::bad_line(row, line.len()) {
-        return 2;
+        return Err(Refusal::Line);
     }
     if long_label(label, labelled) {
-        return 9;
+        return Err(Refusal::Field);
     }
     if room < file_bytes(line.len(), label.len(), labelled) {
-        return 4;
+        return Err(Refusal::Buffer);
     }
-    0
+    Ok(())
 }
 
 // The fields of an accepted capture, one behind the other. Answers the byte after the last.
@@ -129,13 +110,13 @@ fn put_fields(level: u8, line: &[u8], label: &[u8], labelled: bool, file: &mut [
     ensures { (result ≡ length (file_of level line.now label.now labelled))
         × (file.new ≡ filed (file_of level line.now label.now labelled) file.old) }
 {
-    let levels = [level];
-    let first = put_field(file, 0, LEVEL, &levels);
+    let first = put_field(file, 0, LEVEL, &[level]);
     let second = put_field(file, first, LINE, line);
     if labelled {
-        return put_field(file, second, LABEL, label);
+        put_field(file, second, LABEL, label)
+    } else {
+        second
     }
-    second
 }
 
 // A level's row is known: line, label and room are judged, and the file is written.
@@ -146,31 +127,31 @@ fn write_on(
     label: &[u8],
     labelled: bool,
     file: &mut [u8],
-) -> Written
+) -> Result<usize, Refusal>
     requires { Shared row × (level < 256) }
-    ensures { (result ≡ written_on row level line.now label.now labelled (length file.old))
+    ensures { (written_in result ≡ written_on row level line.now label.now labelled (length file.old))
         × (file.new ≡ left_on row level line.now label.now labelled file.old) }
 {
-    let no = write_refusal(row, level, line, label, labelled, file.len());
-    if no != 0 {
-        return refused(no);
-    }
+    write_refusal(row, level, line, label, labelled, file.len())?;
     let bytes = put_fields(level as u8, line, label, labelled, file);
-    Written {
-        refusal: 0,
-        bytes,
-        byte: 0,
-    }
+    Ok(bytes)
 }
 
-// Writes a capture into the file. Any level number, any lengths; where labelled is false there is no label, and the slice is not looked at.
-pub fn write(level: u64, line: &[u8], label: &[u8], labelled: bool, file: &mut [u8]) -> Written
-    ensures { WriteMet level line.now label.now labelled file.old result file.new }
+// Writes a capture into the file, and answers how many bytes it has. Any level number, any lengths; where labelled is false there is no label, and the
+// slice is not looked at.
+pub fn write(
+    level: u64,
+    line: &[u8],
+    label: &[u8],
+    labelled: bool,
+    file: &mut [u8],
+) -> Result<usize, Refusal>
+    ensures { WriteMet level line.now label.now labelled file.old (written_in result) file.new }
 {
     let found = table::level_of(level);
     match found {
-        Level::Of(row) => write_on(row, level, line, label, labelled, file),
-        Level::NoSuchLevel => refused(1),
+        Some(row) => write_on(row, level, line, label, labelled, file),
+        None => Err(Refusal::Level),
     }
 }
 
@@ -178,10 +159,7 @@ pub fn write(level: u64, line: &[u8], label: &[u8], labelled: bool, file: &mut [
 pub fn byte_at(file: &[u8], i: usize) -> u8
     ensures { result ≡ get_or file.now i 0 }
 {
-    if file.len() <= i {
-        return 0;
-    }
-    file[i]
+    file.get(i).copied().unwrap_or(0)
 }
 
 // The length that a field which begins at byte p gives, high byte first.
@@ -189,7 +167,7 @@ pub fn length_at(file: &[u8], p: usize) -> usize
     requires { p < 2 ^ 63 }
     ensures { (result ≡ length_at file.now p) × (result < 65536) }
 {
-    256 * byte_at(file, p + 1) as usize + byte_at(file, p + 2) as usize
+    u16::from_be_bytes([byte_at(file, p + 1), byte_at(file, p + 2)]) as usize
 }
 
 // The byte after that field.
@@ -216,17 +194,8 @@ fn field_at(file: &[u8], p: usize, tag: u8, least: usize, most: usize) -> bool
     requires { p < 2 ^ 63 }
     ensures { result ≡ field_at file.now p tag least most }
 {
-    if byte_at(file, p) != tag {
-        return false;
-    }
     let bytes = length_at(file, p);
-    if bytes < least {
-        return false;
-    }
-    if most < bytes {
-        return false;
-    }
-    end_at(file, p) <= file.len()
+    byte_at(file, p) == tag && least <= bytes && bytes <= most && end_at(file, p) <= file.len()
 }
 
 // Nothing is read, and this byte is named.
@@ -311,7 +280,7 @@ pub fn read(file: &[u8]) -> Reading
     }
     let level = table::level_of(found.level);
     match level {
-        Level::Of(row) => judged_on(row, found),
-        Level::NoSuchLevel => unread_at(1, 0),
+        Some(row) => judged_on(row, found),
+        None => unread_at(1, 0),
     }
 }

@@ -5,13 +5,15 @@
 
 mod votes;
 
+ghost use Rattle.std.specs.Prelude.{◌≤◌};
+
 use capture_cases::capture;
-use levels::faults::Counted;
+use levels::faults::Refused;
 use multiframe_cases::{hunt, whole};
-use reading::Noted;
-use std::io;
+use std::{fmt, io};
 use stream_cases::{alarm, reader, stream};
-use telling::{inputs, say};
+use telling::inputs;
+use telling::say::Spaced;
 
 // A multiplex call: the notes are `before` before frame `from` and `note` from there on. The line that it leaves is then extracted by these notes.
 #[derive(Clone, Copy)]
@@ -23,6 +25,8 @@ struct Sending {
     note: u8,
     from: usize,
     buffer: usize,
+    // at most what `send` lends
+    ghost lent: { (line ≤ 23790) × (notes ≤ 65) × (buffer ≤ 23500) },
 }
 
 // A line whose bytes are all `fill`: its notes are read, and it is extracted by them.
@@ -33,6 +37,8 @@ struct Receiving {
     fill: u8,
     notes: usize,
     buffer: usize,
+    // at most what `receive` lends
+    ghost lent: { (line ≤ 6890) × (notes ≤ 65) × (buffer ≤ 6696) },
 }
 
 const SENDINGS: [Sending; 37] = [
@@ -453,6 +459,26 @@ const RECEIVINGS: [Receiving; 10] = [
     },
 ];
 
+impl fmt::Display for Sending {
+    fn fmt<W: fmt::Write>(&self, f: &mut fmt::Formatter<W>) -> fmt::Result {
+        write!(
+            f,
+            "level {} line {} notes {} before {} note {} from {} buffer {}",
+            self.level, self.line, self.notes, self.before, self.note, self.from, self.buffer
+        )
+    }
+}
+
+impl fmt::Display for Receiving {
+    fn fmt<W: fmt::Write>(&self, f: &mut fmt::Formatter<W>) -> fmt::Result {
+        write!(
+            f,
+            "level {} line {} fill {} notes {}",
+            self.level, self.line, self.fill, self.notes
+        )
+    }
+}
+
 // A write that fails ends the run with its error.
 fn main(rt: HostRuntime) -> io::Result<()> {
     send_all(&rt)?;
@@ -460,10 +486,7 @@ fn main(rt: HostRuntime) -> io::Result<()> {
     receive_all(&rt)?;
     stream::feed_all(&rt)?;
     alarm::stretch_all(&rt)?;
-    stream::case_11(&rt, 3392)?;
-    stream::case_11(&rt, 1)?;
-    stream::case_11(&rt, 7)?;
-    stream::case_11(&rt, 1000)?;
+    stream::case_11(&rt)?;
     reader::read_all(&rt)?;
     capture::example(&rt)?;
     capture::write_all(&rt)?;
@@ -471,162 +494,72 @@ fn main(rt: HostRuntime) -> io::Result<()> {
     whole::example(&rt)?;
     whole::make_all(&rt)?;
     hunt::hunt_all(&rt)?;
-    hunt::frames(&rt, 5120)?;
-    hunt::frames(&rt, 1)?;
-    hunt::frames(&rt, 7)?;
-    hunt::frames(&rt, 1000)
+    hunt::frames(&rt)
 }
 
 fn send_all(rt: &impl Print) -> io::Result<()> {
-    let mut k: usize = 0;
-    while k < 37 {
-        send(rt, SENDINGS[k])?;
-        k += 1;
+    for case in &SENDINGS {
+        send(rt, case)?;
     }
     Ok(())
 }
 
 fn receive_all(rt: &impl Print) -> io::Result<()> {
-    let mut k: usize = 0;
-    while k < 10 {
-        receive(rt, RECEIVINGS[k])?;
-        k += 1;
+    for case in &RECEIVINGS {
+        receive(rt, case)?;
     }
     Ok(())
 }
 
-// Lends the call parts of arrays that are long enough for every row of the table.
-fn send(rt: &impl Print, c: Sending) -> io::Result<()> {
-    let l = c.line;
-    let f = c.notes;
-    let b = c.buffer;
-    if 65536 < l {
-        return Ok(());
-    }
-    if 65536 < f {
-        return Ok(());
-    }
-    if 65536 < b {
-        return Ok(());
-    }
-    let mut line = inputs::large_buffer();
-    let mut notes = inputs::large_buffer();
-    let mut buffer = inputs::large_buffer();
-    send_on(rt, c, &mut line[..l], &mut notes[..f], &mut buffer[..b])
+fn send(rt: &impl Print, case: &Sending) -> io::Result<()> {
+    let mut line = [165u8; 23790];
+    let mut notes = [0u8; 65];
+    let mut buffer = [0u8; 23500];
+    inputs::notes_from(&mut notes, case.before, case.note, case.from);
+    inputs::count_up(&mut buffer);
+    let line = &mut line[..case.line];
+    let notes = &notes[..case.notes];
+    let buffer = &mut buffer[..case.buffer];
+    let sent = multiplex::multiplex(case.level, 0, line, notes, buffer);
+    answered(rt, "multiplex", case, sent, inputs::sum(line))?;
+    buffer.fill(165);
+    let taken = extraction::extract(case.level, 0, line, notes, buffer);
+    answered(rt, "extract", case, taken, inputs::sum(buffer))
 }
 
-fn send_on(
+fn receive(rt: &impl Print, case: &Receiving) -> io::Result<()> {
+    let line = [case.fill; 6890];
+    let mut notes = [165u8; 65];
+    let mut buffer = [165u8; 6696];
+    let line = &line[..case.line];
+    let notes = &mut notes[..case.notes];
+    let buffer = &mut buffer[..case.buffer];
+    let (refusal, alignment, dissent) = match reading::read_notes(case.level, line, notes) {
+        Ok(errors) => {
+            let dissent = errors.dissent;
+            (0, errors.alignment, dissent)
+        }
+        Err(refusal) => (u64::from(refusal), 0, [0; 4]),
+    };
+    print!(rt; "read_notes {case}: refusal {refusal} alignment {alignment}")?;
+    println!(rt; " dissent{} sum {}", Spaced(&dissent), inputs::sum(notes))?;
+    let taken = extraction::extract(case.level, 0, line, notes, buffer);
+    let lent = format_args!("{case} buffer {}", case.buffer);
+    answered(rt, "extract", &lent, taken, inputs::sum(buffer))
+}
+
+// What a call counted, and the sum of what it wrote.
+fn answered(
     rt: &impl Print,
-    c: Sending,
-    line: &mut [u8],
-    notes: &mut [u8],
-    buffer: &mut [u8],
+    call: &str,
+    case: &impl fmt::Display,
+    answer: Result<[usize; 4], Refused>,
+    sum: u64,
 ) -> io::Result<()> {
-    inputs::fill(line, 165);
-    inputs::notes_from(notes, c.before, c.note, c.from);
-    inputs::count_up(buffer);
-    let r = multiplex::multiplex(c.level, 0, line, notes, buffer);
-    say::text(rt, b"multiplex")?;
-    sent(rt, c, r, inputs::sum(line))?;
-    extract_on(rt, c, line, notes, buffer)
-}
-
-fn extract_on(
-    rt: &impl Print,
-    c: Sending,
-    line: &[u8],
-    notes: &[u8],
-    buffer: &mut [u8],
-) -> io::Result<()> {
-    inputs::fill(buffer, 165);
-    let r = extraction::extract(c.level, 0, line, notes, buffer);
-    say::text(rt, b"extract")?;
-    sent(rt, c, r, inputs::sum(buffer))
-}
-
-fn sent(rt: &impl Print, c: Sending, r: Counted, sum: u64) -> io::Result<()> {
-    say::counted(rt, b" level ", c.level)?;
-    say::labelled(rt, b" line ", c.line)?;
-    say::labelled(rt, b" notes ", c.notes)?;
-    say::labelled(rt, b" before ", c.before as usize)?;
-    say::labelled(rt, b" note ", c.note as usize)?;
-    say::labelled(rt, b" from ", c.from)?;
-    say::labelled(rt, b" buffer ", c.buffer)?;
-    counted(rt, r, sum)
-}
-
-pub fn counted(rt: &impl Print, r: Counted, sum: u64) -> io::Result<()> {
-    say::counted(rt, b": refusal ", r.refusal)?;
-    say::labelled(rt, b" frame ", r.frame)?;
-    let counts = r.counts;
-    say::four(rt, b" counts ", counts)?;
-    say::counted(rt, b" sum ", sum)?;
-    say::text(rt, b"\n")
-}
-
-fn receive(rt: &impl Print, c: Receiving) -> io::Result<()> {
-    let l = c.line;
-    let f = c.notes;
-    let b = c.buffer;
-    if 65536 < l {
-        return Ok(());
-    }
-    if 65536 < f {
-        return Ok(());
-    }
-    if 65536 < b {
-        return Ok(());
-    }
-    let mut line = inputs::large_buffer();
-    let mut notes = inputs::large_buffer();
-    let mut buffer = inputs::large_buffer();
-    receive_on(rt, c, &mut line[..l], &mut notes[..f], &mut buffer[..b])
-}
-
-fn receive_on(
-    rt: &impl Print,
-    c: Receiving,
-    line: &mut [u8],
-    notes: &mut [u8],
-    buffer: &mut [u8],
-) -> io::Result<()> {
-    inputs::fill(line, c.fill);
-    inputs::fill(notes, 165);
-    let r = reading::read_notes(c.level, line, notes);
-    noted(rt, c, r, inputs::sum(notes))?;
-    extract_by(rt, c, line, notes, buffer)
-}
-
-fn extract_by(
-    rt: &impl Print,
-    c: Receiving,
-    line: &[u8],
-    notes: &[u8],
-    buffer: &mut [u8],
-) -> io::Result<()> {
-    inputs::fill(buffer, 165);
-    let r = extraction::extract(c.level, 0, line, notes, buffer);
-    extracted(rt, c, r, inputs::sum(buffer))
-}
-
-fn noted(rt: &impl Print, c: Receiving, r: Noted, sum: u64) -> io::Result<()> {
-    say::counted(rt, b"read_notes level ", c.level)?;
-    say::labelled(rt, b" line ", c.line)?;
-    say::labelled(rt, b" fill ", c.fill as usize)?;
-    say::labelled(rt, b" notes ", c.notes)?;
-    say::counted(rt, b": refusal ", r.refusal)?;
-    say::labelled(rt, b" alignment ", r.alignment)?;
-    let dissent = r.dissent;
-    say::four(rt, b" dissent ", dissent)?;
-    say::counted(rt, b" sum ", sum)?;
-    say::text(rt, b"\n")
-}
-
-fn extracted(rt: &impl Print, c: Receiving, r: Counted, sum: u64) -> io::Result<()> {
-    say::counted(rt, b"extract level ", c.level)?;
-    say::labelled(rt, b" line ", c.line)?;
-    say::labelled(rt, b" fill ", c.fill as usize)?;
-    say::labelled(rt, b" notes ", c.notes)?;
-    say::labelled(rt, b" buffer ", c.buffer)?;
-    counted(rt, r, sum)
+    let (refusal, frame, counts) = match answer {
+        Ok(counts) => (0, 0, counts),
+        Err(refused) => (u64::from(refused.refusal), refused.frame, [0; 4]),
+    };
+    print!(rt; "{call} {case}: refusal {refusal} frame {frame}")?;
+    println!(rt; " counts{} sum {sum}", Spaced(&counts))
 }

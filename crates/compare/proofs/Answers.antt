@@ -1,6 +1,7 @@
 -- What follows from the statement of a comparison, for any two files: the fifteen sums add up to all differing digits, the list shows the differing
 -- digits up to its length and no other, a file does not differ from itself, and exchanged files have the same sums and list. And the statement
 -- guards the call: it leaves no second answer, it is what the call ensures, and the call asks nothing of its caller.
+use Rattle.std.specs.Prelude.{Option, Some, None}
 use mathlib.Core.Path.{◌≡◌, refl, sym, ◌∙◌, ap}
 use mathlib.Core.Bool.{Bool, cond, true, false, not}
 use mathlib.Core.List.{List}
@@ -18,8 +19,6 @@ use Rattle.digits.specs.Sums.{sum_to}
 use Rattle.digits.proofs.Sums.{sum-all}
 use Rattle.digits.proofs.Laws.{zeros-at}
 use Rattle.table.specs.declared.Row.{Row}
-use Rattle.table.specs.declared.Level.{Level}
-use Rattle.table.specs.declared.Level.TheVariants.{Of, NoSuchLevel}
 use Rattle.table.specs.Table.{level_of}
 use Rattle.levels.specs.Sizes.{on_level}
 use Rattle.levels.proofs.Choice.{cond-by}
@@ -73,16 +72,16 @@ sums-add-up one other lent a l met =
     rw met.0
     (cond-by AddsUp (eqb (fault_of (read_of one) (read_of other)).refusal 0) (by_level (level_of (read_of one).level)) (refused-adds (fault_of (read_of one) (read_of other))))
   where
-    by_level : (v : Level) → AddsUp (on_level v (λ (row : Row). counted_on row (line_of one) (line_of other)) (refused_by (fault_in 1 0 0)))
-    by_level (Of row) = counted-adds row (line_of one) (line_of other)
-    by_level NoSuchLevel = refused-adds (fault_in 1 0 0)
+    by_level : (v : Option Row) → AddsUp (on_level v (λ (row : Row). counted_on row (line_of one) (line_of other)) (refused_by (fault_in 1 0 0)))
+    by_level (Some row) = counted-adds row (line_of one) (line_of other)
+    by_level None = refused-adds (fault_in 1 0 0)
 
 -- ---- what is known of an accepted comparison
 
 pub record ComparedWell (one other lent : List ℕ) : Type 0 where
   pub fits : Fitting (read_of one) (read_of other)
   pub row : Row
-  pub has_row : level_of (read_of one).level ≡ Of row
+  pub has_row : level_of (read_of one).level ≡ Some row
   pub answer_is : compared_of one other ≡ counted_on row (line_of one) (line_of other)
   pub list_is : listed_of one other lent ≡ listed_on row (line_of one) (line_of other)
 
@@ -96,16 +95,16 @@ compared-well one other lent = go (eqb f.refusal 0) (level_of (read_of one).leve
     no_level : ◌≡◌ {A = ℕ} 1 0 → ⊥
     no_level e = omega arith
 
-    go : (t : Bool) (v : Level) → eqb f.refusal 0 ≡ t → level_of (read_of one).level ≡ v
+    go : (t : Bool) (v : Option Row) → eqb f.refusal 0 ≡ t → level_of (read_of one).level ≡ v
         → (cond t (on_level v (λ (row : Row). counted_on row (line_of one) (line_of other)) (refused_by (fault_in 1 0 0))) (refused_by f)).refusal ≡ 0
         → ComparedWell one other lent
-    go true (Of row) x y e =
+    go true (Some row) x y e =
         record { fits = fitting (read_of one) (read_of other) (eqb-true f.refusal 0 x); row = row; has_row = y; answer_is = rw (x, y) refl; list_is = rw (x, y) refl }
-    go true NoSuchLevel x y e = absurd (no_level e)
+    go true None x y e = absurd (no_level e)
     go false v x y e = absurd (eqb-false f.refusal 0 x e)
 
 -- where two readings fit each other and their level has this row, that is the comparison
-fitted : (one other lent : List ℕ) → Fitting (read_of one) (read_of other) → (row : Row) → level_of (read_of one).level ≡ Of row
+fitted : (one other lent : List ℕ) → Fitting (read_of one) (read_of other) → (row : Row) → level_of (read_of one).level ≡ Some row
     → (compared_of one other ≡ counted_on row (line_of one) (line_of other)) × (listed_of one other lent ≡ listed_on row (line_of one) (line_of other))
 unfolding compared_of listed_of fault_of
 fitted one other lent f row has =
@@ -133,21 +132,21 @@ refused-leaves-the-list one other lent a l met bad =
     f : Fault
     f = fault_of (read_of one) (read_of other)
 
-    go : (t : Bool) (v : Level) → eqb f.refusal 0 ≡ t → level_of (read_of one).level ≡ v
+    go : (t : Bool) (v : Option Row) → eqb f.refusal 0 ≡ t → level_of (read_of one).level ≡ v
         → cond t (on_level v (λ (row : Row). listed_on row (line_of one) (line_of other)) lent) lent ≡ lent
-    go true (Of row) x y = absurd (bad (ap (λ (v : Compared). v.refusal) met.0 ∙ rw (x, y) refl))
-    go true NoSuchLevel x y = refl
+    go true (Some row) x y = absurd (bad (ap (λ (v : Compared). v.refusal) met.0 ∙ rw (x, y) refl))
+    go true None x y = refl
     go false v x y = refl
 
 -- ---- the list shows the differing digits up to its length, and no other
 
 pub list-shows : (one other lent : List ℕ) (a : Compared) (l : List ℕ) → CompareMet one other lent a l → a.refusal ≡ 0
-    → (row : Row) → level_of (read_of one).level ≡ Of row → Lists row (differ_at (line_of one) (line_of other)) (8 * length (line_of one)) a.listed l
+    → (row : Row) → level_of (read_of one).level ≡ Some row → Lists row (differ_at (line_of one) (line_of other)) (8 * length (line_of one)) a.listed l
 unfolding counted_on
 list-shows one other lent a l met z row has =
     let w = well one other lent a l met z in
-    let same : Of row ≡ Of w.row = sym has ∙ w.has_row in
-    let is_row : row ≡ w.row = ap (λ (v : Level). on_level v (λ (r : Row). r) row) same in
+    let same : Some row ≡ Some w.row = sym has ∙ w.has_row in
+    let is_row : row ≡ w.row = ap (λ (v : Option Row). on_level v (λ (r : Row). r) row) same in
     let sh = shared-row (read_of one).level row has in
     rw (met.0, met.1, w.answer_is, w.list_is, ← is_row)
     (lists-all row (omega (arith, sh.counted, sh.later_set)) (differ_at (line_of one) (line_of other)) (8 * length (line_of one)))

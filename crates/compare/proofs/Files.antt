@@ -1,5 +1,6 @@
 -- Two files and their lines: where a reading's line stands in its file, what two readings that fit each other have in common, and what is
 -- answered of their lines as they are lent.
+use Rattle.std.specs.Prelude.{Option, Some, None}
 use mathlib.Core.Path.{◌≡◌, refl, sym, ◌∙◌, ap}
 use mathlib.Core.Bool.{Bool, cond, true, false}
 use mathlib.Core.List.{List}
@@ -12,8 +13,6 @@ use lib.Seq.{length-take-le}
 use borrow.Author.Tests.{eqb-true, eqb-false}
 use Rattle.digits.proofs.Tests.{cond-told}
 use Rattle.table.specs.declared.Row.{Row}
-use Rattle.table.specs.declared.Level.{Level}
-use Rattle.table.specs.declared.Level.TheVariants.{Of, NoSuchLevel}
 use Rattle.table.specs.Table.{level_of}
 use Rattle.levels.specs.Table.{Shared}
 use Rattle.levels.specs.Sizes.{on_level, frames_of, bad_line}
@@ -60,16 +59,16 @@ module _ (file : List ℕ) where
       (λ _. unread-in 9 4))
       (unread-in 9 0)
 
-  judged-in : (l : Level) → In (on_level l (λ (row : Row). cond (bad_line row (fields_of file).line.bytes) (unread 2 0) (fields_of file)) (unread 1 0))
-  judged-in (Of row) = cond-by In (bad_line row (fields_of file).line.bytes) (unread-in 2 0) fields_in
-  judged-in NoSuchLevel = unread-in 1 0
+  judged-in : (l : Option Row) → In (on_level l (λ (row : Row). cond (bad_line row (fields_of file).line.bytes) (unread 2 0) (fields_of file)) (unread 1 0))
+  judged-in (Some row) = cond-by In (bad_line row (fields_of file).line.bytes) (unread-in 2 0) fields_in
+  judged-in None = unread-in 1 0
 
   -- any reading's line lies in its file: one that is refused has none
   pub line-within : Within file (read_of file).line
   line-within = cond-by In (eqb (fields_of file).refusal 0) (judged-in (level_of (fields_of file).level)) fields_in
 
   -- and that of one that is not refused is whole frames of its level
-  pub line_whole : (row : Row) → (read_of file).refusal ≡ 0 → level_of (read_of file).level ≡ Of row
+  pub line_whole : (row : Row) → (read_of file).refusal ≡ 0 → level_of (read_of file).level ≡ Some row
       → (read_of file).line.bytes ≡ frames_of row (read_of file).line.bytes * row.bytes
   line_whole row good has = by-fields (eqb (fields_of file).refusal 0) refl
     where
@@ -85,19 +84,19 @@ module _ (file : List ℕ) where
           omega (arith, div-add-mod' n row.bytes, (line-frames row n e).0)
 
       by-line : (r : Row) (t : Bool) → bad_line r (fields_of file).line.bytes ≡ t → (cond t (unread 2 0) (fields_of file)).refusal ≡ 0
-          → level_of (cond t (unread 2 0) (fields_of file)).level ≡ Of row → level_of (fields_of file).level ≡ Of r → Whole row (cond t (unread 2 0) (fields_of file))
+          → level_of (cond t (unread 2 0) (fields_of file)).level ≡ Some row → level_of (fields_of file).level ≡ Some r → Whole row (cond t (unread 2 0) (fields_of file))
       by-line r true x g h l = absurd (two g)
       by-line r false x g h l =
-          let same : Of r ≡ Of row = sym l ∙ h in
-          let is_row : r ≡ row = ap (λ (v : Level). on_level v (λ (q : Row). q) r) same in
+          let same : Some r ≡ Some row = sym l ∙ h in
+          let is_row : r ≡ row = ap (λ (v : Option Row). on_level v (λ (q : Row). q) r) same in
           framed (rw is_row at x)
 
-      by_level : (v : Level) → level_of (fields_of file).level ≡ v
+      by_level : (v : Option Row) → level_of (fields_of file).level ≡ v
           → (on_level v (λ (r : Row). cond (bad_line r (fields_of file).line.bytes) (unread 2 0) (fields_of file)) (unread 1 0)).refusal ≡ 0
-          → level_of (on_level v (λ (r : Row). cond (bad_line r (fields_of file).line.bytes) (unread 2 0) (fields_of file)) (unread 1 0)).level ≡ Of row
+          → level_of (on_level v (λ (r : Row). cond (bad_line r (fields_of file).line.bytes) (unread 2 0) (fields_of file)) (unread 1 0)).level ≡ Some row
           → Whole row (on_level v (λ (r : Row). cond (bad_line r (fields_of file).line.bytes) (unread 2 0) (fields_of file)) (unread 1 0))
-      by_level (Of r) l g h = by-line r (bad_line r (fields_of file).line.bytes) refl g h l
-      by_level NoSuchLevel l g h = absurd (no_level g)
+      by_level (Some r) l g h = by-line r (bad_line r (fields_of file).line.bytes) refl g h l
+      by_level None l g h = absurd (no_level g)
 
       by-fields : (t : Bool) → eqb (fields_of file).refusal 0 ≡ t → Whole row (read_of file)
       by-fields true x = rw x (by_level (level_of (fields_of file).level) refl (rw x at good) (rw x at has))

@@ -2,12 +2,13 @@
 -- leaves the list, the fifteen sums add up to all differing digits, the list shows the differing digits up to its length and no other, equal lines have
 -- none, and exchanged lines have the same. Of stretches: the whole line is the comparison, and two that meet are one. And the statements guard the calls:
 -- no second answer, what is ensured is the statement, and nothing is asked.
+use Rattle.std.specs.Prelude.{Option, Some, None}
 use mathlib.Core.Path.{◌≡◌, refl, sym, ◌∙◌, ap}
 use mathlib.Core.Bool.{Bool, cond, true, false, ◌&&◌}
 use mathlib.Core.List.{List}
 use Prim.Native.Nat.{ℕ, zero, suc, ◌+◌, ◌*◌, ◌<◌}
 use native.Mathlib.Omega.{arith}
-use lib.Dec.{eqb, leb}
+use lib.Dec.{eqb}
 use lib.ListN.{length, get_or, replicate}
 use contract.Lifetimes.{Lfts}
 use denote.Triple.Clauses.{AtExit}
@@ -16,8 +17,6 @@ use borrow.Author.Tests.{eqb-true, le-leb, lt-leb, eq-eqb}
 use Rattle.digits.specs.Sums.{sum_to}
 use Rattle.digits.proofs.Sums.{sum-all}
 use Rattle.table.specs.declared.Row.{Row}
-use Rattle.table.specs.declared.Level.{Level}
-use Rattle.table.specs.declared.Level.TheVariants.{Of, NoSuchLevel}
 use Rattle.table.specs.Table.{level_of}
 use Rattle.levels.specs.Sizes.{on_level}
 use Rattle.levels.proofs.Choice.{cond-by}
@@ -66,7 +65,7 @@ stretch-asks-nothing κs a = tt
 
 pub record LinesWell (level : ℕ) (one other lent : List ℕ) : Type 0 where
   pub row : Row
-  pub has_row : level_of level ≡ Of row
+  pub has_row : level_of level ≡ Some row
   pub fits : lines_refusal row (length one) (length other) ≡ 0
   pub answer_is : lines_of level one other ≡ counted_on row one other
   pub list_is : lines_listed level one other lent ≡ listed_on row one other
@@ -92,15 +91,15 @@ module _ (level : ℕ) (one other lent : List ℕ) where
   unfolding lines_of lines_listed
   lines-well = go (level_of level) refl
     where
-      on : (row : Row) (t : Bool) → level_of level ≡ Of row → fit row ≡ t → (answer-on row t).refusal ≡ 0 → LinesWell level one other lent
+      on : (row : Row) (t : Bool) → level_of level ≡ Some row → fit row ≡ t → (answer-on row t).refusal ≡ 0 → LinesWell level one other lent
       on row true has x e =
           record { row = row; has_row = has; fits = eqb-true _ 0 x; answer_is = rw (has, x) refl; list_is = rw (has, x) refl }
       on row false has x e = absurd (two e)
 
-      go : (v : Level) → level_of level ≡ v → (on_level v (λ (row : Row). answer-on row (fit row)) (refused_by (fault_in 1 0 0))).refusal ≡ 0
+      go : (v : Option Row) → level_of level ≡ v → (on_level v (λ (row : Row). answer-on row (fit row)) (refused_by (fault_in 1 0 0))).refusal ≡ 0
           → LinesWell level one other lent
-      go (Of row) has e = on row (fit row) has refl e
-      go NoSuchLevel has e = absurd (no_level e)
+      go (Some row) has e = on row (fit row) has refl e
+      go None has e = absurd (no_level e)
 
   module _ (a : Compared) (l : List ℕ) (met : LinesMet level one other lent a l) where
     well : a.refusal ≡ 0 → LinesWell level one other lent
@@ -110,30 +109,30 @@ module _ (level : ℕ) (one other lent : List ℕ) where
     unfolding lines_of lines_listed counted_on
     refused-lines-leave-the-list bad = met.1 ∙ go (level_of level) refl
       where
-        on : (row : Row) (t : Bool) → level_of level ≡ Of row → fit row ≡ t → cond t (listed_on row one other) lent ≡ lent
+        on : (row : Row) (t : Bool) → level_of level ≡ Some row → fit row ≡ t → cond t (listed_on row one other) lent ≡ lent
         on row true has x = absurd (bad (ap (λ (v : Compared). v.refusal) met.0 ∙ rw (has, x) refl))
         on row false has x = refl
 
-        go : (v : Level) → level_of level ≡ v → on_level v (λ (row : Row). cond (fit row) (listed_on row one other) lent) lent ≡ lent
-        go (Of row) has = on row (fit row) has refl
-        go NoSuchLevel has = refl
+        go : (v : Option Row) → level_of level ≡ v → on_level v (λ (row : Row). cond (fit row) (listed_on row one other) lent) lent ≡ lent
+        go (Some row) has = on row (fit row) has refl
+        go None has = refl
 
     -- the fifteen add up to all differing digits, refused or not
     pub lines-add-up : AddsUp a
     unfolding lines_of
     lines-add-up = rw met.0 (by_level (level_of level))
       where
-        by_level : (v : Level) → AddsUp (on_level v (λ (row : Row). answer-on row (fit row)) (refused_by (fault_in 1 0 0)))
-        by_level (Of row) = cond-by AddsUp (fit row) (counted-adds row one other) (refused-adds (fault_in 2 0 0))
-        by_level NoSuchLevel = refused-adds (fault_in 1 0 0)
+        by_level : (v : Option Row) → AddsUp (on_level v (λ (row : Row). answer-on row (fit row)) (refused_by (fault_in 1 0 0)))
+        by_level (Some row) = cond-by AddsUp (fit row) (counted-adds row one other) (refused-adds (fault_in 2 0 0))
+        by_level None = refused-adds (fault_in 1 0 0)
 
     -- the list shows the differing digits up to its length, and no other
-    pub lines-list-shows : a.refusal ≡ 0 → (row : Row) → level_of level ≡ Of row → Lists row (differ_at one other) (8 * length one) a.listed l
+    pub lines-list-shows : a.refusal ≡ 0 → (row : Row) → level_of level ≡ Some row → Lists row (differ_at one other) (8 * length one) a.listed l
     unfolding counted_on
     lines-list-shows z row has =
         let w = well z in
-        let same : Of row ≡ Of w.row = sym has ∙ w.has_row in
-        let is_row : row ≡ w.row = ap (λ (v : Level). on_level v (λ (r : Row). r) row) same in
+        let same : Some row ≡ Some w.row = sym has ∙ w.has_row in
+        let is_row : row ≡ w.row = ap (λ (v : Option Row). on_level v (λ (r : Row). r) row) same in
         let sh = shared-row level row has in
         rw (met.0, met.1, w.answer_is, w.list_is, ← is_row)
         (lists-all row (omega (arith, sh.counted, sh.later_set)) (differ_at one other) (8 * length one))

@@ -13,7 +13,7 @@ ghost use Rattle.compare.specs.Compare.{fault_in, fault_of, refused_by, CompareM
 
 use captures::{Part, Reading};
 use differing::Compared;
-use table::{Level, Row};
+use table::Row;
 
 // Why two files are not compared: the refusal, or 0; the file at fault, 1 or 2, or 0 where the two do not fit each other; the byte it names.
 #[derive(Clone, Copy)]
@@ -38,18 +38,16 @@ fn fault_of(one: Reading, other: Reading) -> Fault
     ensures { result ≡ fault_of one other }
 {
     if one.refusal != 0 {
-        return fault_in(one.refusal, 1, one.byte);
+        fault_in(one.refusal, 1, one.byte)
+    } else if other.refusal != 0 {
+        fault_in(other.refusal, 2, other.byte)
+    } else if one.level != other.level {
+        fault_in(1, 0, 0)
+    } else if one.line.bytes != other.line.bytes {
+        fault_in(2, 0, 0)
+    } else {
+        fault_in(0, 0, 0)
     }
-    if other.refusal != 0 {
-        return fault_in(other.refusal, 2, other.byte);
-    }
-    if one.level != other.level {
-        return fault_in(1, 0, 0);
-    }
-    if one.line.bytes != other.line.bytes {
-        return fault_in(2, 0, 0);
-    }
-    fault_in(0, 0, 0)
 }
 
 pub fn refused(fault: Fault) -> Compared
@@ -83,11 +81,9 @@ fn compared_on(
     ensures { (result ≡ counted_on row (bytes_in one.now first) (bytes_in other.now second))
         × (places.new ≡ listed_on row (bytes_in one.now first) (bytes_in other.now second)) }
 {
-    let a = first.start;
-    let b = a + first.bytes;
-    let c = second.start;
-    let d = c + second.bytes;
-    differing::counted_on(row, &one[a..b], &other[c..d], places)
+    let one = &one[first.start..first.start + first.bytes];
+    let other = &other[second.start..second.start + second.bytes];
+    differing::counted_on(row, one, other, places)
 }
 
 // Compares two captures. Any bytes: where they are no two captures of one level and length, the list stays as it was, and all is zero but what the
@@ -103,7 +99,7 @@ pub fn compare(one: &[u8], other: &[u8], places: &mut [u64; 128]) -> Compared
     }
     let found = table::level_of(first.level);
     match found {
-        Level::Of(row) => compared_on(row, one, other, first.line, second.line, places),
-        Level::NoSuchLevel => refused(fault_in(1, 0, 0)),
+        Some(row) => compared_on(row, one, other, first.line, second.line, places),
+        None => refused(fault_in(1, 0, 0)),
     }
 }

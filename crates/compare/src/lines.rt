@@ -11,7 +11,7 @@ ghost use Rattle.compare.specs.Summing.{Summed};
 use differing::Compared;
 use levels::places::FramePlace;
 use levels::sizes;
-use table::{Level, Row};
+use table::Row;
 
 // What a stretch of two lines answers: the refusal, the fifteen sums of differing digits by kind and tributary, and all of them.
 #[derive(Clone, Copy)]
@@ -21,18 +21,12 @@ pub struct Stretch {
     pub all: usize,
 }
 
-// 2, or 0: the first line is whole frames, at most 64, and the second is as long.
-fn lines_refusal(row: Row, one: usize, other: usize) -> u64
+// Whether the first line is whole frames, at most 64, and the second is as long.
+fn fits(row: Row, one: usize, other: usize) -> bool
     requires { Shared row }
-    ensures { result ≡ lines_refusal row one other }
+    ensures { result ≡ eqb (lines_refusal row one other) 0 }
 {
-    if sizes::bad_line(row, one) {
-        return 2;
-    }
-    if other != one {
-        return 2;
-    }
-    0
+    !sizes::bad_line(row, one) && other == one
 }
 
 // A level's row is known: the lines are judged and compared.
@@ -47,10 +41,11 @@ fn lines_on(row: Row, one: &[u8], other: &[u8], places: &mut [u64; 128]) -> Comp
         (listed_on row one.now other.now)
         places.old) }
 {
-    if lines_refusal(row, one.len(), other.len()) != 0 {
-        return crate::refused(crate::fault_in(2, 0, 0));
+    if fits(row, one.len(), other.len()) {
+        differing::counted_on(row, one, other, places)
+    } else {
+        crate::refused(crate::fault_in(2, 0, 0))
     }
-    differing::counted_on(row, one, other, places)
 }
 
 // Compares two lines of a level. Any number, any bytes: where the call is refused the list stays as it was.
@@ -59,8 +54,8 @@ pub fn compare_lines(level: u64, one: &[u8], other: &[u8], places: &mut [u64; 12
 {
     let found = table::level_of(level);
     match found {
-        Level::Of(row) => lines_on(row, one, other, places),
-        Level::NoSuchLevel => crate::refused(crate::fault_in(1, 0, 0)),
+        Some(row) => lines_on(row, one, other, places),
+        None => crate::refused(crate::fault_in(1, 0, 0)),
     }
 }
 
@@ -93,10 +88,11 @@ fn sum_place(
     if levels::lent::line_digit(one, FramePlace(p))
         == levels::lent::line_digit(other, FramePlace(p))
     {
-        return all;
+        all
+    } else {
+        tally::count_at(row, FramePlace(p), sums);
+        all + 1
     }
-    tally::count_at(row, FramePlace(p), sums);
-    all + 1
 }
 
 // So many places from `first` on, one after another.
@@ -106,11 +102,8 @@ fn stretch_on(row: Row, one: &[u8], other: &[u8], first: usize, count: usize) ->
 {
     let mut sums: [usize; 15] = [0; 15];
     let mut all: usize = 0;
-    let mut p = first;
-    let end = first + count;
-    while p < end {
+    for p in first..first + count {
         all = sum_place(row, one, other, first, p, all, &mut sums);
-        p += 1;
     }
     Stretch {
         refusal: 0,
@@ -128,17 +121,15 @@ fn stretch_judged(row: Row, one: &[u8], other: &[u8], first: usize, count: usize
         (stretch_on row one.now other.now first count))
         (stretch_refused 2) }
 {
-    if lines_refusal(row, one.len(), other.len()) != 0 {
+    if !fits(row, one.len(), other.len()) {
         return stretch_refused(2);
     }
     let digits = 8 * one.len();
-    if digits < first {
-        return stretch_refused(7);
+    if digits < first || digits - first < count {
+        stretch_refused(7)
+    } else {
+        stretch_on(row, one, other, first, count)
     }
-    if digits - first < count {
-        return stretch_refused(7);
-    }
-    stretch_on(row, one, other, first, count)
 }
 
 // Counts what differs among `count` places from place `first` of two lines of a level on. Any numbers, any bytes.
@@ -147,7 +138,7 @@ pub fn compare_stretch(level: u64, one: &[u8], other: &[u8], first: usize, count
 {
     let found = table::level_of(level);
     match found {
-        Level::Of(row) => stretch_judged(row, one, other, first, count),
-        Level::NoSuchLevel => stretch_refused(1),
+        Some(row) => stretch_judged(row, one, other, first, count),
+        None => stretch_refused(1),
     }
 }

@@ -5,6 +5,7 @@ use Prim.Native.Nat.{ℕ}
 use contract.Lifetimes.{Lfts}
 use denote.Triple.Clauses.{AtExit}
 use borrow.Fn.World.{ArgsD, ResD}
+use Rattle.refusal.specs.Refusal.{refusal_in}
 use Rattle.copying.specs.Copying.{CopyMet}
 use Rattle.copying.specs.contracts.copy_digits.{signature, ended}
 use Rattle.copying.proofs.copy_digits.Reads.{Asked, Learnt}
@@ -15,7 +16,7 @@ no-second-answer to at from first count a b l m x y = (x.refusal ∙ sym y.refus
 
 -- and what the call ensures is that statement
 pub copy_met : (κs : Lfts 2) (a : ArgsD signature κs) (r : ResD signature κs) (e : AtExit ended κs) → Learnt κs a r e
-    → CopyMet a.0.now a.1.0 a.1.1.0.now a.1.1.1.0 a.1.1.1.1.0 r e.0.now
+    → CopyMet a.0.now a.1.0 a.1.1.0.now a.1.1.1.0 a.1.1.1.1.0 (refusal_in r) e.0.now
 copy_met κs a r e met = met
 
 -- and it asks nothing of its caller

@@ -4,9 +4,11 @@
 
 ghost use Rattle.std.specs.Prelude.{◌≡◌, ◌++◌, ◌+◌, ◌*◌, ◌-◌, ◌^◌, ◌≤◌, ◌<◌, leb, length, drop};
 ghost use Rattle.digits.specs.Digits.{digits_of, written};
+ghost use Rattle.refusal.specs.Refusal.{refusal_in};
 ghost use Rattle.words.specs.Words.{Ready, out_from, Appended};
 ghost use Rattle.copying.specs.Copying.{digits_from, Begun, CopyMet};
 
+use refusal::Refusal;
 use words::Writer;
 
 // Whether a slice of so many bytes has count digits from its digit `first` on: the bytes in which they end are counted, which is exact for every two numbers.
@@ -22,10 +24,10 @@ fn word_at(s: &[u8], byte: usize, p: usize, n: usize) -> u64
     ensures { (written n result ≡ digits_from s.now (8 * byte + p) n) × (result < 2 ^ n) }
 {
     if n == 0 {
-        return 0;
+        0
+    } else {
+        words::read_digits(&s[byte..], p, n)
     }
-    let end = s.len();
-    words::read_digits(&s[byte..end], p, n)
 }
 
 // A writer at digit `at`, which holds the digits before it of its byte.
@@ -50,17 +52,15 @@ fn append(to: &mut [u8], begun: Writer, from: &[u8], first: usize, count: usize)
         × (first + count ≤ 8 * length from.now) }
     ensures { Appended to.old to.new begun result count (digits_from from.now first count) }
 {
+    let byte = first / 8;
     let p = first % 8;
-    let mut byte = first / 8;
-    let mut left = count;
     let mut w = begun;
-    while 32 < left {
-        let word = word_at(from, byte, p, 32);
+    for turn in 0..count / 32 {
+        let word = word_at(from, byte + 4 * turn, p, 32);
         w = words::put(to, w, word, 32);
-        byte += 4;
-        left -= 32;
     }
-    let word = word_at(from, byte, p, left);
+    let left = count % 32;
+    let word = word_at(from, byte + 4 * (count / 32), p, left);
     words::put(to, w, word, left)
 }
 
@@ -77,18 +77,21 @@ fn close(to: &mut [u8], w: Writer)
     words::finish(to, closed);
 }
 
-// Puts count digits of `from`, its digit first and on, in place of those of `to` at digit `at` and on. Returns the refusal number.
-pub fn copy_digits(to: &mut [u8], at: usize, from: &[u8], first: usize, count: usize) -> u64
-    ensures { CopyMet to.old at from.now first count result to.new }
+// Puts count digits of `from`, its digit first and on, in place of those of `to` at digit `at` and on.
+pub fn copy_digits(
+    to: &mut [u8],
+    at: usize,
+    from: &[u8],
+    first: usize,
+    count: usize,
+) -> Result<(), Refusal>
+    ensures { CopyMet to.old at from.now first count (refusal_in result) to.new }
 {
-    if !has_digits(to.len(), at, count) {
-        return 7;
-    }
-    if !has_digits(from.len(), first, count) {
-        return 7;
+    if !has_digits(to.len(), at, count) || !has_digits(from.len(), first, count) {
+        return Err(Refusal::Digits);
     }
     let begun = begin(to, at);
     let w = append(to, begun, from, first, count);
     close(to, w);
-    0
+    Ok(())
 }

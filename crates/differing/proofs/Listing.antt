@@ -7,8 +7,7 @@ use Prim.Native.Nat.{ℕ, zero, suc, ◌+◌, ◌-◌, ◌*◌, ◌/◌, ◌%◌
 use native.Mathlib.Omega.{arith}
 use native.Mathlib.Decide.{dec_lt}
 use native.Mathlib.Numerals.{add-one}
-use lib.Dec.{ltb}
-use lib.ListN.{length, set, take, replicate, length-append}
+use lib.ListN.{length, set, replicate, length-append}
 use lib.Seq.{take_all, take-append-le, append_snoc, set_at}
 use borrow.Author.Tests.{lt-ltb, le-ltb}
 use Rattle.digits.specs.Sums.{sum_to}

@@ -6,7 +6,7 @@ use mathlib.Core.List.{[], ◌∷◌, ◌++◌, append-nil}
 use Prim.Native.Nat.{ℕ, zero, suc, ◌+◌, ◌≤◌, ◌<◌}
 use native.Mathlib.Omega.{arith}
 use native.Mathlib.Decide.{dec_lt, dec_le}
-use lib.ListN.{length, get_or, get_or-append}
+use lib.ListN.{get_or, get_or-append}
 use lib.Seq.{get_or_at}
 use Rattle.digits.specs.Sums.{sum_to}
 use Rattle.tally.specs.Tally.{all_of}

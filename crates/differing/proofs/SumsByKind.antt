@@ -7,9 +7,9 @@ use mathlib.Core.List.{List}
 use Prim.Native.Nat.{ℕ, zero, suc, ◌+◌, ◌-◌, ◌*◌, ◌/◌, ◌%◌, ◌^◌, ◌≤◌, ◌<◌}
 use native.Mathlib.Omega.{arith}
 use native.Mathlib.Decide.{dec_lt}
-use native.Mathlib.Nat.{mul_left_comm, div-le_self, add-mul, mul-le-mul_right}
+use native.Mathlib.Nat.{mul_left_comm, add-mul, mul-le-mul_right}
 use lib.Dec.{eqb}
-use lib.ListN.{length, get_or, set, replicate}
+use lib.ListN.{length, get_or, replicate}
 use lib.Seq.{ext_get_or}
 use borrow.Author.Tests.{eq-eqb, ne_eqb, lt-ltb, le-ltb}
 use Rattle.digits.specs.Sums.{sum_to}
@@ -421,9 +421,6 @@ module _ (row : Row) (one other : List ℕ) (l : Lines row one other) where
   -- the frames of the line, and no other
   frames-of : (n : ℕ) → n * row.digits ≡ 8 * (n * row.bytes)
   frames-of n = ap (λ (k : ℕ). n * k) sh.packed ∙ mul_left_comm n 8 row.bytes
-
-  pub few_frames : frames_of row (length one) ≤ 65536
-  few_frames = omega (arith, div-le_self (length one) row.bytes, l.short)
 
   pub frame-in : (f : ℕ) → f < frames_of row (length one) → InFrame row one f
   frame-in f h =

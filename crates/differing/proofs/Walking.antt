@@ -1,14 +1,14 @@
 -- The walks over two lines: where they do not differ nothing changes, where they differ the place is listed as long as there is room, and bytes that are
 -- equal have no differing digits. At the end of the lines what is counted and listed is the answer.
 use mathlib.Core.Path.{◌≡◌, refl, sym, ◌∙◌, ap}
-use mathlib.Core.Bool.{Bool, true, false, not}
+use mathlib.Core.Bool.{Bool, true, false}
 use mathlib.Core.List.{List}
 use Prim.Native.Nat.{ℕ, zero, suc, ◌+◌, ◌-◌, ◌*◌, ◌/◌, ◌≤◌, ◌<◌, min}
 use native.Mathlib.Omega.{arith}
-use native.Mathlib.Decide.{ℕ_discrete, dec_lt}
+use native.Mathlib.Decide.{dec_lt}
 use native.Mathlib.Nat.{min_comm}
-use lib.Dec.{eqb}
-use lib.ListN.{length, get_or, take, replicate, length-take}
+use lib.ListN.{length, get_or, take, drop, replicate, length-take}
+use Rattle.std.proofs.lemmas.List.{get_or-take, get_or-drop}
 use borrow.Author.Tests.{eq-eqb, ne_eqb, le-ltb}
 use Rattle.digits.specs.Digits.{digits_of}
 use Rattle.digits.specs.Sums.{sum_to}
@@ -56,20 +56,19 @@ pub equal-digits : (one other : List ℕ) (from to : ℕ) → EqualBytes one oth
 equal-digits one other from to same q l h =
     not-differ one other q (digit_at one q ∙ rw (same (q / 8) (omega arith) (omega arith)) (sym (digit_at other q)))
 
--- one byte more that is equal
-pub equal-more : (one other : List ℕ) (from i : ℕ) → EqualBytes one other from i → get_or one i 0 ≡ get_or other i 0 → EqualBytes one other from (i + 1)
-equal-more one other from i same e k l h =
-    elim (ℕ_discrete k i) [
-      | yes s ↦ rw s e
-      | no n ↦ same k l (omega arith)
-    ]
+-- a byte of a stretch is a byte of the list
+in-stretch : (xs : List ℕ) (from to k : ℕ) → from ≤ k → k < to → get_or xs k 0 ≡ get_or (take (to - from) (drop from xs)) (k - from) 0
+in-stretch xs from to k l h =
+    let e : from + (k - from) ≡ k = omega arith in
+    sym (get_or-take (to - from) (drop from xs) (k - from) 0 (omega arith) ∙ get_or-drop from xs (k - from) 0 ∙ ap (λ (i : ℕ). get_or xs i 0) e)
+
+-- the bytes of stretches that are equal
+pub equal-stretch : (one other : List ℕ) (from to : ℕ) → take (to - from) (drop from one) ≡ take (to - from) (drop from other) → EqualBytes one other from to
+equal-stretch one other from to e k l h =
+    in-stretch one from to k l h ∙ ap (λ (xs : List ℕ). get_or xs (k - from) 0) e ∙ sym (in-stretch other from to k l h)
 
 pub equal-one : (one other : List ℕ) (i : ℕ) → get_or one i 0 ≡ get_or other i 0 → EqualBytes one other i (i + 1)
 equal-one one other i e k l h = let s : k ≡ i = omega arith in rw s e
-
--- a step nearer to the end
-pub less : (end p : ℕ) → p < end → end - (p + 1) < end - p
-less end p h = omega arith
 
 -- ---- the list, as far as there is room in it
 

@@ -11,27 +11,12 @@ use table::Row;
 // So many columns go in one turn.
 const MOST: usize = 192;
 
-fn unequal(a: u8, b: u8) -> u16
-    ensures { (result ≡ 0 → a ≡ b) × (result < 2) }
-{
-    if a == b {
-        return 0;
-    }
-    1
-}
-
-// Whether the bytes from one on and before another are equal: every pair is looked at, which a machine does many at once.
+// Whether the bytes from one on and before another are equal.
 pub fn equal_bytes(one: &[u8], other: &[u8], from: usize, to: usize) -> bool
     requires { (from ≤ to) × (to ≤ length one.now) × (length one.now ≡ length other.now) × (to ≤ from + 4096) }
     ensures { result ≡ true → EqualBytes one.now other.now from to }
 {
-    let mut i = from;
-    let mut n: u16 = 0;
-    while i < to {
-        n += unequal(one[i], other[i]);
-        i += 1;
-    }
-    n == 0
+    &one[from..to] == &other[from..to]
 }
 
 // The head of the first set: the word, the remote alarm digit where there is one, and the other service digits.
@@ -62,9 +47,9 @@ fn count_later(row: Row, one: &[u8], other: &[u8], f: usize, s: usize, sums: &mu
     masks::count_column(one, other, p, 3, sums);
     if s == row.sets - 1 {
         masks::count_few(one, other, p + 4, (row.last - 4) / 4, 4, sums);
-        return;
+    } else {
+        masks::count_kind(one, other, p + 4, row.middle - 4, 2, sums);
     }
-    masks::count_kind(one, other, p + 4, row.middle - 4, 2, sums);
 }
 
 // The head of set s of frame f.
@@ -77,9 +62,9 @@ fn count_head(row: Row, one: &[u8], other: &[u8], f: usize, s: usize, sums: &mut
 {
     if s == 0 {
         count_first(row, one, other, f, sums);
-        return;
+    } else {
+        count_later(row, one, other, f, s, sums);
     }
-    count_later(row, one, other, f, s, sums);
 }
 
 // The run behind the head: a tributary digit of each in every column. The runs of every level go in one turn; no row of the table has more than two.
@@ -95,10 +80,10 @@ fn count_run(row: Row, one: &[u8], other: &[u8], f: usize, s: usize, sums: &mut 
     let columns = (row.set - head) / 4;
     if columns <= MOST {
         masks::count_columns(one, other, p, columns, 5, sums);
-        return;
+    } else {
+        masks::count_columns(one, other, p, MOST, 5, sums);
+        masks::count_columns(one, other, p + 4 * MOST, columns - MOST, 5, sums);
     }
-    masks::count_columns(one, other, p, MOST, 5, sums);
-    masks::count_columns(one, other, p + 4 * MOST, columns - MOST, 5, sums);
 }
 
 // Frame f, set after set.
@@ -108,11 +93,9 @@ fn count_frame(row: Row, one: &[u8], other: &[u8], f: usize, sums: &mut [usize; 
         × SumsTo row one.now other.now (f * row.digits) sums.old }
     ensures { SumsTo row one.now other.now ((f + 1) * row.digits) sums.new }
 {
-    let mut s: usize = 0;
-    while s < row.sets {
+    for s in 0..row.sets {
         count_head(row, one, other, f, s, sums);
         count_run(row, one, other, f, s, sums);
-        s += 1;
     }
 }
 
@@ -124,10 +107,9 @@ fn count_unequal(row: Row, one: &[u8], other: &[u8], f: usize, sums: &mut [usize
     ensures { SumsTo row one.now other.now ((f + 1) * row.digits) sums.new }
 {
     let from = f * row.bytes;
-    if equal_bytes(one, other, from, from + row.bytes) {
-        return;
+    if !equal_bytes(one, other, from, from + row.bytes) {
+        count_frame(row, one, other, f, sums);
     }
-    count_frame(row, one, other, f, sums);
 }
 
 // Every frame of two lines.
@@ -136,10 +118,8 @@ pub fn count_frames(row: Row, one: &[u8], other: &[u8], sums: &mut [usize; 15])
     ensures { SumsTo row one.now other.now (8 * length one.now) sums.new }
 {
     let frames = one.len() / row.bytes;
-    let mut f: usize = 0;
-    while f < frames {
+    for f in 0..frames {
         count_unequal(row, one, other, f, sums);
-        f += 1;
     }
 }
 
@@ -148,11 +128,5 @@ pub fn total(sums: &[usize; 15]) -> usize
     requires { (k : ℕ) → get_or sums.now k 0 < 2 ^ 59 }
     ensures { result ≡ sum_to 15 (λ (k : ℕ). get_or sums.now k 0) }
 {
-    let mut all: usize = 0;
-    let mut k: usize = 0;
-    while k < 15 {
-        all += sums[k];
-        k += 1;
-    }
-    all
+    sums.iter().sum()
 }

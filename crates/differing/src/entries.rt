@@ -18,12 +18,10 @@ fn list_place(row: Row, p: FramePlace, before: usize, places: &mut [u64; 128])
     requires { Shared row }
     ensures { places.new ≡ put_place row p.0 before places.old }
 {
-    if crate::LISTED_MOST <= before {
-        return;
+    if before < crate::LISTED_MOST {
+        places[2 * before] = (p.0 / row.digits) as u64;
+        places[2 * before + 1] = (p.0 % row.digits) as u64;
     }
-    let k = p.0;
-    places[2 * before] = (k / row.digits) as u64;
-    places[2 * before + 1] = (k % row.digits) as u64;
 }
 
 // Place p: listed if the lines differ there. Answers how many differ so far.
@@ -41,10 +39,11 @@ fn list_digit(
     ensures { Listed row one.now other.now (p + 1) result places.new }
 {
     if lent::line_digit(one, FramePlace(p)) == lent::line_digit(other, FramePlace(p)) {
-        return all;
+        all
+    } else {
+        list_place(row, FramePlace(p), all, places);
+        all + 1
     }
-    list_place(row, FramePlace(p), all, places);
-    all + 1
 }
 
 // Byte i: passed over if the lines have the same there.
@@ -65,11 +64,8 @@ fn list_byte(
         return before;
     }
     let mut all = before;
-    let mut p = 8 * i;
-    let end = 8 * (i + 1);
-    while p < end {
+    for p in 8 * i..8 * (i + 1) {
         all = list_digit(row, one, other, p, all, places);
-        p += 1;
     }
     all
 }
@@ -95,13 +91,11 @@ fn list_block(
         return before;
     }
     let mut all = before;
-    let mut i = from;
-    while i < to {
+    for i in from..to {
         if crate::LISTED_MOST <= all {
             return all;
         }
         all = list_byte(row, one, other, i, all, places);
-        i += 1;
     }
     all
 }
@@ -113,13 +107,11 @@ pub fn list_lines(row: Row, one: &[u8], other: &[u8], places: &mut [u64; 128])
 {
     let end = one.len();
     let mut all: usize = 0;
-    let mut from: usize = 0;
-    while from < end {
+    for from in (0..end).step_by(BLOCK) {
         if crate::LISTED_MOST <= all {
             return;
         }
-        let to = masks::at_most(from + BLOCK, end);
+        let to = end.min(from + BLOCK);
         all = list_block(row, one, other, from, to, all, places);
-        from = to;
     }
 }

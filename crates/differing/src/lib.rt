@@ -44,6 +44,6 @@ pub fn counted_on(row: Row, one: &[u8], other: &[u8], places: &mut [u64; 128]) -
         byte: 0,
         sums,
         all,
-        listed: masks::at_most(all, LISTED_MOST),
+        listed: all.min(LISTED_MOST),
     }
 }

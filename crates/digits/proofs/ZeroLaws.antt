@@ -96,17 +96,20 @@ byte-digits bs k h =
 zeros-byte : (bs : List ℕ) (k : ℕ) → k < length bs → get_or bs k 0 < 256 → zeros_in (between bs (8 * k) (8 * (k + 1))) + ones (get_or bs k 0) ≡ 8
 zeros-byte bs k h small = rw (byte-digits bs k h, ones-eight (get_or bs k 0) small) (zeros-sum (eight (get_or bs k 0)) (eight-binary (get_or bs k 0)))
 
--- ---- whole bytes so far: their ones and their zeros
+-- ---- whole bytes so far: the ones and the zeros of so many bytes from a first one on
 
-pub ones_none : (bs : List ℕ) (from : ℕ) → 0 + zeros_in (between bs (8 * from) (8 * from)) ≡ 8 * from - 8 * from
-ones_none bs from = omega (arith, zeros-none bs (8 * from))
+pub ones_none : (bs : List ℕ) (from : ℕ) → 0 + zeros_in (between bs (8 * from) (8 * (from + 0))) ≡ 8 * 0
+ones_none bs from = let e : from + 0 ≡ from = omega arith in rw e (omega (arith, zeros-none bs (8 * from)))
 
-pub ones-more : (bs : List ℕ) (from i n k : ℕ) → from ≤ i → i < length bs → get_or bs i 0 < 256 → k ≡ ones (get_or bs i 0)
-    → n + zeros_in (between bs (8 * from) (8 * i)) ≡ 8 * i - 8 * from
-    → n + k + zeros_in (between bs (8 * from) (8 * (i + 1))) ≡ 8 * (i + 1) - 8 * from
-ones-more bs from i n k h room small e inv =
-    last n k (zeros_in (between bs (8 * from) (8 * i))) (zeros_in (between bs (8 * i) (8 * (i + 1)))) (zeros_in (between bs (8 * from) (8 * (i + 1)))) i from h
-    (rw (← e) at (zeros-byte bs i room small)) (zeros-join bs (8 * from) (8 * i) (8 * (i + 1)) _ _ (omega arith) (omega arith) refl refl) inv
+pub ones-more : (bs : List ℕ) (from i n k : ℕ) → from + i < length bs → get_or bs (from + i) 0 < 256 → k ≡ ones (get_or bs (from + i) 0)
+    → n + zeros_in (between bs (8 * from) (8 * (from + i))) ≡ 8 * i
+    → n + k + zeros_in (between bs (8 * from) (8 * (from + (i + 1)))) ≡ 8 * (i + 1)
+ones-more bs from i n k room small e inv =
+    let up : from + (i + 1) ≡ from + i + 1 = omega arith in
+    rw up
+    (last n k (zeros_in (between bs (8 * from) (8 * (from + i)))) (zeros_in (between bs (8 * (from + i)) (8 * (from + i + 1))))
+    (zeros_in (between bs (8 * from) (8 * (from + i + 1)))) i (rw (← e) at (zeros-byte bs (from + i) room small))
+    (zeros-join bs (8 * from) (8 * (from + i)) (8 * (from + i + 1)) _ _ (omega arith) (omega arith) refl refl) inv)
   where
-    last : (n k z b z' i f : ℕ) → f ≤ i → b + k ≡ 8 → z + b ≡ z' → n + z ≡ 8 * i - 8 * f → n + k + z' ≡ 8 * (i + 1) - 8 * f
-    last n k z b z' i f h e s inv = omega arith
+    last : (n k z b z' i : ℕ) → b + k ≡ 8 → z + b ≡ z' → n + z ≡ 8 * i → n + k + z' ≡ 8 * (i + 1)
+    last n k z b z' i e s inv = omega arith

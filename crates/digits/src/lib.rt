@@ -20,10 +20,7 @@ pub fn digit_at(s: &[u8], p: usize) -> u8
 pub fn digit_or_zero(s: &[u8], p: usize) -> u8
     ensures { (result ≡ get_or (digits_of s.now) p 0) × (result < 2) }
 {
-    if s.len() <= p / 8 {
-        return 0;
-    }
-    digit_at(s, p)
+    if p / 8 < s.len() { digit_at(s, p) } else { 0 }
 }
 
 // Digit d at place p; every other digit stays. What is left are bytes, so that equal digits are equal slices.
@@ -47,18 +44,12 @@ fn with_digit(b: u8, k: usize, d: u8) -> u8
 pub fn digit_of(t: bool) -> u8
     ensures { (result ≡ cond t 1 0) × (result < 2) }
 {
-    if t {
-        return 1;
-    }
-    0
+    u8::from(t)
 }
 
 // The same as a number of 64 bits, as answers have it.
 pub fn as_number(t: bool) -> u64
     ensures { result ≡ cond t 1 0 }
 {
-    if t {
-        return 1;
-    }
-    0
+    u64::from(t)
 }

@@ -7,11 +7,9 @@ fn zeros_by_digit(s: &[u8], first: usize, end: usize) -> usize
     requires { (first ≤ end) × (end ≤ 8 * length s.now) × (length s.now ≤ 65536) }
     ensures { (result ≡ zeros_in (between s.now first end)) × (result ≤ end - first) }
 {
-    let mut p = first;
     let mut zeros: usize = 0;
-    while p < end {
-        zeros += 1 - crate::digit_at(s, p) as usize;
-        p += 1;
+    for p in first..end {
+        zeros += 1 - usize::from(crate::digit_at(s, p));
     }
     zeros
 }
@@ -21,13 +19,11 @@ fn zeros_by_byte(s: &[u8], from: usize, to: usize) -> usize
     requires { (from ≤ to) × (to ≤ length s.now) × (length s.now ≤ 65536) × (to ≤ from + 4096) }
     ensures { (result ≡ zeros_in (between s.now (8 * from) (8 * to))) × (result ≤ 8 * to - 8 * from) }
 {
-    let mut i = from;
     let mut ones: u16 = 0;
-    while i < to {
-        ones += u8::count_ones(s[i]) as u16;
-        i += 1;
+    for byte in &s[from..to] {
+        ones += byte.count_ones() as u16;
     }
-    8 * (to - from) - ones as usize
+    8 * (to - from) - usize::from(ones)
 }
 
 // The zeros among the digits from first on and before end, of which there may be 32,768.

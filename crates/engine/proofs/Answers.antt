@@ -2,9 +2,7 @@
 use mathlib.Core.Path.{◌≡◌, sym, ◌∙◌}
 use mathlib.Core.List.{List}
 use Prim.Native.Nat.{ℕ}
-use Rattle.engine.specs.declared.Answered.{Answered}
-use Rattle.engine.specs.declared.NotesRead.{NotesRead}
-use Rattle.engine.specs.Engine.{MultiplexMet, ReadNotesMet, ExtractMet}
+use Rattle.engine.specs.Engine.{Answered, NotesRead, MultiplexMet, ReadNotesMet, ExtractMet}
 
 pub one-multiplex : (level earlier : ℕ) (line notes buffer : List ℕ) (a b : Answered) (l m : List ℕ)
     → MultiplexMet level earlier line notes buffer a l → MultiplexMet level earlier line notes buffer b m → (a ≡ b) × (l ≡ m)

@@ -10,8 +10,7 @@ use lib.Dec.{eqb, ltb}
 use lib.ListN.{length}
 use borrow.Author.Tests.{eqb-true, ltb-false, not-false}
 use Rattle.table.specs.declared.Row.{Row}
-use Rattle.engine.specs.declared.refusals.Refusal.{Refusal}
-use Rattle.engine.specs.Engine.{bad_line, bad_notes, bad_buffer, first_faulty, first_lacking, bad_earlier, refusal_with, refusal_on, sending_on, reading_on}
+use Rattle.engine.specs.Engine.{Refusal, bad_line, bad_notes, bad_buffer, first_faulty, first_lacking, bad_earlier, refusal_with, refusal_on, sending_on, reading_on}
 use Rattle.engine.specs.Walk.{Regular, Fits}
 
 -- where neither of two faults is there

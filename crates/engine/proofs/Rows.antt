@@ -1,12 +1,11 @@
 -- Every row of the table is as the code needs it: shown of each by computation, and handed out by the level's number.
+use Rattle.std.specs.Prelude.{Option, Some, None}
 use mathlib.Core.Path.{◌≡◌, subst}
 use mathlib.Core.Bool.{Bool, cond, true, false}
 use Prim.Native.Nat.{ℕ}
 use native.Mathlib.Omega.{arith}
 use lib.Dec.{eqb}
 use Rattle.table.specs.declared.Row.{Row}
-use Rattle.table.specs.declared.Level.{Level}
-use Rattle.table.specs.declared.Level.TheVariants.{Of, NoSuchLevel}
 use Rattle.table.specs.Table.{level_of, row2, row3, row4, row12, row14}
 use Rattle.engine.specs.Walk.{Regular}
 
@@ -25,9 +24,9 @@ regular12 = omega arith
 regular14 : Regular row14
 regular14 = omega arith
 
-abbrev Known : Level → Type 0
-Known (Of row) = Regular row
-Known NoSuchLevel = Unit {0}
+abbrev Known : Option Row → Type 0
+Known (Some row) = Regular row
+Known None = Unit {0}
 
 -- a property of both answers is one of the answer that is taken
 pub cond-by {ℓ} : {A : Type 0} (P : A → Type ℓ) (t : Bool) {a b : A} → P a → P b → P (cond t a b)
@@ -41,5 +40,5 @@ known level =
     (cond-by Known (eqb level 3) regular3
     (cond-by Known (eqb level 4) regular4 (cond-by Known (eqb level 12) regular12 (cond-by Known (eqb level 14) regular14 tt))))
 
-pub regular-row : (level : ℕ) (row : Row) → level_of level ≡ Of row → Regular row
+pub regular-row : (level : ℕ) (row : Row) → level_of level ≡ Some row → Regular row
 regular-row level row e = subst Known e (known level)

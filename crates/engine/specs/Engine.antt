@@ -1,18 +1,17 @@
 -- The plain engine: multiplexing and demultiplexing as G.742 and G.751 have them, and with positive/zero/negative justification (document 02,
--- request 10), digit by digit. This file is the whole of its specification; besides it only the level table (table/specs/Table.antt) has to
--- be read. Its order is that of the Recommendations: digits, the frame, justification, what is sent, what is received; after them the calls,
--- with document 01's refusals and answers.
+-- request 10), digit by digit. This file is the whole of its specification; besides it only the level table (table/specs/Table.antt)
+-- and the refusals' numbers (refusal/specs/Refusal.antt) have to be read. Its order is that of the Recommendations: digits, the frame,
+-- justification, what is sent, what is received; after them the calls, with document 01's refusals and answers.
 -- Everything is counted from 0: frames, the places of a frame, tributaries, digits. Tributary j is the Recommendations' j + 1.
-use Rattle.std.specs.Prelude.{◌≡◌, Bool, cond, true, false, not, ◌&&◌, ◌||◌, List, [], ◌∷◌, ◌++◌, ℕ, zero, suc, ◌+◌, ◌*◌, ◌-◌, ◌/◌, ◌%◌, ◌^◌, min, eqb, ltb, leb, length, get_or}
+use Rattle.std.specs.Prelude.{◌≡◌, Bool, cond, true, false, not, ◌&&◌, ◌||◌, List, [], ◌∷◌, ◌++◌, ℕ, zero, suc, ◌+◌, ◌*◌, ◌-◌, ◌/◌, ◌%◌, ◌^◌, min, eqb, ltb, leb, length, get_or, Option, Some, None, Result, Ok, Err}
 use Rattle.table.specs.declared.Row.{Row}
-use Rattle.table.specs.declared.Level.{Level}
-use Rattle.table.specs.declared.Level.TheVariants.{Of, NoSuchLevel}
 use Rattle.table.specs.Table.{level_of}
 use Rattle.engine.specs.declared.frame.Place.{Place}
 use Rattle.engine.specs.declared.frame.Place.TheVariants.{Alignment, Service, Fixed, Control, Negative, Positive, Tributary}
-use Rattle.engine.specs.declared.refusals.Refusal.{Refusal}
-use Rattle.engine.specs.declared.Answered.{Answered}
-use Rattle.engine.specs.declared.NotesRead.{NotesRead}
+use Rattle.refusal.specs.declared.Refusal as reason
+use Rattle.refusal.specs.Refusal.{number_of}
+use Rattle.engine.specs.declared.refusals.Refused.{Refused}
+use Rattle.engine.specs.declared.Errors.{Errors}
 
 -- ---- Digits
 
@@ -234,9 +233,9 @@ handed_at row earlier notes line quarter k = get_or (taken_to row earlier notes 
 -- ---- The calls: which are refused (document 01, "Refusal numbers")
 
 -- 1: "level is not 2, 3 or 4", nor 12 or 14: a call goes on with the level's row, or is refused
-abbrev pub on_level {ℓ} : {A : Type ℓ} → Level → (Row → A) → A → A
-on_level (Of row) go none = go row
-on_level NoSuchLevel go none = none
+abbrev pub on_level {ℓ} : {A : Type ℓ} → Option Row → (Row → A) → A → A
+on_level (Some row) go none = go row
+on_level None go none = none
 
 -- 2: "line is not a whole number of frames, or over 64 frames"
 abbrev pub bad_line : Row → ℕ → Bool
@@ -277,6 +276,11 @@ too_few row note = ltb (national_ones row note) row.nationals
 abbrev pub first_lacking : Row → List ℕ → ℕ
 first_lacking row notes = first_with (too_few row) notes
 
+-- the refusal, or 0, and the frame that refusal 5 or 10 names, or 0
+pub record Refusal : Type 0 where
+  pub refusal : ℕ
+  pub frame : ℕ
+
 abbrev pub refusal_with : ℕ → ℕ → Refusal
 refusal_with refusal frame = record { refusal = refusal; frame = frame }
 
@@ -297,17 +301,43 @@ sending_on row earlier line notes buffer =
     (cond (ltb (first_lacking row notes) (length notes)) (refusal_with 10 (first_lacking row notes)) (refusal_with 0 0))
     (refusal_on row earlier line notes buffer)
 
+-- these in what the code answers
+abbrev pub fault_in : {A : Type 0} → Result A Refused → Refusal
+fault_in (Ok _) = refusal_with 0 0
+fault_in (Err refused) = refusal_with (number_of refused.refusal) refused.frame
+
 -- reading the notes: 2 and 3
 unfoldable pub reading_on : Row → ℕ → ℕ → ℕ
 reading_on row line notes = cond (bad_line row line) 2 (cond (bad_notes row line notes) 3 0)
 
 -- ---- The calls: what they answer and leave. Under a refusal all counts are 0 and nothing lent is written
 
+-- what multiplexing and extraction answer: the refusal, the frame that refusal 5 or 10 names, the digits of each tributary
+pub record Answered : Type 0 where
+  pub refusal : ℕ
+  pub frame : ℕ
+  pub counts : List ℕ
+
+-- what reading the notes answers: the refusal, alignment digits that differ from the word and dissenting digits of each tributary, over all frames
+pub record NotesRead : Type 0 where
+  pub refusal : ℕ
+  pub alignment : ℕ
+  pub dissent : List ℕ
+
 abbrev pub none : List ℕ
 none = 0 ∷ 0 ∷ 0 ∷ 0 ∷ []
 
 abbrev pub refused_with : ℕ → Answered
 refused_with refusal = record { refusal = refusal; frame = 0; counts = none }
+
+-- the numbers of what the code answers
+abbrev pub answered_in : Result (List ℕ) Refused → Answered
+answered_in (Ok counts) = record { refusal = 0; frame = 0; counts = counts }
+answered_in (Err refused) = record { refusal = number_of refused.refusal; frame = refused.frame; counts = none }
+
+abbrev pub notes_read_in : Result Errors reason.Refusal → NotesRead
+notes_read_in (Ok errors) = record { refusal = 0; alignment = errors.alignment; dissent = errors.dissent }
+notes_read_in (Err refusal) = record { refusal = number_of refusal; alignment = 0; dissent = none }
 
 -- multiplexing and extraction answer alike: how many digits of each tributary the line carries, by the notes and the earlier vote: n for each
 -- frame, less the stuffed, plus the negative. A line of so many bytes

@@ -24,9 +24,10 @@ fn between(row: Row, r: usize) -> Place
     ensures { result ≡ cond (ltb r row.middle) Fixed Tributary }
 {
     if r < row.middle {
-        return Place::Fixed;
+        Place::Fixed
+    } else {
+        Place::Tributary
     }
-    Place::Tributary
 }
 
 // What stands at place r of the last set, after its control digits.
@@ -35,38 +36,35 @@ fn at_last(row: Row, r: usize) -> Place
     ensures { result ≡ cond (ltb (r + 4) row.last) Negative (cond (ltb r row.last) Positive Tributary) }
 {
     if r + 4 < row.last {
-        return Place::Negative;
+        Place::Negative
+    } else if r < row.last {
+        Place::Positive
+    } else {
+        Place::Tributary
     }
-    if r < row.last {
-        return Place::Positive;
-    }
-    Place::Tributary
 }
 
 // What stands at place q of a frame, by the ranges of the table.
+#[tactic(auto, unfolding(crate::specs::Engine::place_in))]
 pub fn place_in(row: Row, q: usize) -> Place
     requires { Regular row × (q < row.digits) }
     ensures { result ≡ place_in row q }
 {
     if q < row.len {
-        return Place::Alignment;
+        Place::Alignment
+    } else if q < row.len + row.alarms + row.nationals {
+        Place::Service
+    } else if q < row.first {
+        Place::Fixed
+    } else if q < row.set {
+        Place::Tributary
+    } else if q % row.set < 4 {
+        Place::Control
+    } else if q + row.set < row.digits {
+        between(row, q % row.set)
+    } else {
+        at_last(row, q % row.set)
     }
-    if q < row.len + row.alarms + row.nationals {
-        return Place::Service;
-    }
-    if q < row.first {
-        return Place::Fixed;
-    }
-    if q < row.set {
-        return Place::Tributary;
-    }
-    if q % row.set < 4 {
-        return Place::Control;
-    }
-    if q + row.set < row.digits {
-        return between(row, q % row.set);
-    }
-    at_last(row, q % row.set)
 }
 
 // Digit q of the frame alignment signal.
@@ -91,9 +89,10 @@ fn voted_before(earlier: u64, notes: &[u8], f: usize, j: usize) -> bool
     ensures { result ≡ voted_before earlier notes.now f j }
 {
     if f == 0 {
-        return (earlier >> j) % 2 == 1;
+        (earlier >> j) % 2 == 1
+    } else {
+        note_bit(notes[f - 1], j) == 1
     }
-    note_bit(notes[f - 1], j) == 1
 }
 
 // Both votes 1: frame f's positive place is stuffed for tributary j. Without negative places the frame's own vote decides.
@@ -101,13 +100,7 @@ fn stuffed_in(row: Row, earlier: u64, notes: &[u8], f: usize, j: usize) -> bool
     requires { (f < length notes.now) × (j < 4) }
     ensures { result ≡ stuffed_in row earlier notes.now f j }
 {
-    if note_bit(notes[f], j) != 1 {
-        return false;
-    }
-    if row.n < row.room {
-        return voted_before(earlier, notes, f, j);
-    }
-    true
+    note_bit(notes[f], j) == 1 && (row.room <= row.n || voted_before(earlier, notes, f, j))
 }
 
 // Both votes 0: frame f's negative place carries a digit of tributary j too.
@@ -115,13 +108,7 @@ fn negative_in(row: Row, earlier: u64, notes: &[u8], f: usize, j: usize) -> bool
     requires { (f < length notes.now) × (j < 4) }
     ensures { result ≡ negative_in row earlier notes.now f j }
 {
-    if row.n < row.room {
-        if note_bit(notes[f], j) == 1 {
-            return false;
-        }
-        return !voted_before(earlier, notes, f, j);
-    }
-    false
+    row.n < row.room && note_bit(notes[f], j) != 1 && !voted_before(earlier, notes, f, j)
 }
 
 // Whether such a place carries a digit of its tributary, in a frame whose positive place is stuffed or not and whose negative place
@@ -130,10 +117,7 @@ fn carries_by(place: Place, stuffed: bool, negative: bool) -> bool
     ensures { result ≡ carries_by place stuffed negative }
 {
     match place {
-        Place::Alignment => false,
-        Place::Service => false,
-        Place::Fixed => false,
-        Place::Control => false,
+        Place::Alignment | Place::Service | Place::Fixed | Place::Control => false,
         Place::Negative => negative,
         Place::Positive => !stuffed,
         Place::Tributary => true,
@@ -141,6 +125,7 @@ fn carries_by(place: Place, stuffed: bool, negative: bool) -> bool
 }
 
 // Whether place p of a line carries a digit: its frame acts on its own vote and on that of the frame before.
+#[tactic(auto, unfolding(crate::specs::Engine::carries_at))]
 pub fn carries_at(row: Row, earlier: u64, notes: &[u8], p: usize) -> bool
     requires { Regular row × (p / row.digits < length notes.now) }
     ensures { result ≡ carries_at row earlier notes.now p }

@@ -32,13 +32,15 @@ pub fn put_from(bytes: &mut [u8], a: usize, i: usize, d: u8)
 }
 
 // Digit i of quarter j of the buffer; past the quarter's end there are zeros.
+#[tactic(auto, unfolding(crate::specs::Engine::quarter_digit))]
 pub fn quarter_digit(buffer: &[u8], j: usize, i: usize) -> u8
     requires { j < 4 }
     ensures { (result ≡ quarter_digit buffer.now j i) × (result < 2) }
 {
     let q = buffer.len() / 4;
     if i < 8 * q {
-        return digit_from(buffer, j * q, i);
+        digit_from(buffer, j * q, i)
+    } else {
+        0
     }
-    0
 }

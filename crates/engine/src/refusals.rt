@@ -1,14 +1,17 @@
 // The refusals of the three calls, in the documents' order.
-ghost use Rattle.std.specs.Prelude.{◌≡◌, ◌/◌, ◌^◌, ◌<◌, ◌≤◌};
-ghost use Rattle.engine.specs.Engine.{bad_line, bad_buffer, bad_earlier, first_faulty, national_ones, first_lacking, refusal_on, sending_on, reading_on};
+ghost use Rattle.std.specs.Prelude.{◌≡◌, ◌/◌, ◌^◌, ◌<◌, ◌≤◌, position};
+ghost use Rattle.engine.specs.Engine.{bad_line, bad_buffer, bad_earlier, too_much, national_ones, too_few, refusal_with, refusal_on, sending_on, reading_on};
+ghost use Rattle.engine.specs.Engine.{fault_in};
 ghost use Rattle.engine.specs.Walk.{Regular};
+ghost use Rattle.refusal.specs.Refusal.{number_of, refusal_in};
 
+use refusal::Refusal;
 use table::Row;
 
-// The refusal, or 0, and the frame that refusal 5 or 10 names, or 0.
-#[derive(Clone, Copy)]
-pub struct Refusal {
-    pub refusal: u64,
+// Why a call is refused, and the frame that refusal 5 or 10 names, or 0.
+#[derive(Clone, Copy, Debug, PartialEq, Eq, Hash)]
+pub struct Refused {
+    pub refusal: Refusal,
     pub frame: usize,
 }
 
@@ -17,10 +20,7 @@ fn bad_line(row: Row, line: usize) -> bool
     requires { Regular row }
     ensures { result ≡ bad_line row line }
 {
-    if line % row.bytes != 0 {
-        return true;
-    }
-    64 < line / row.bytes
+    line % row.bytes != 0 || 64 < line / row.bytes
 }
 
 // 4: no four equal quarters, or too little room.
@@ -28,125 +28,112 @@ fn bad_buffer(row: Row, line: usize, buffer: usize) -> bool
     requires { Regular row × (line / row.bytes ≤ 64) × (buffer < 2 ^ 63) }
     ensures { result ≡ bad_buffer row line buffer }
 {
-    if buffer % 4 != 0 {
-        return true;
-    }
-    8 * (buffer / 4) < line / row.bytes * row.room
+    buffer % 4 != 0 || 8 * (buffer / 4) < line / row.bytes * row.room
 }
 
 // 5: an earlier vote over 15, where the level has negative places; elsewhere it is not looked at.
 fn bad_earlier(row: Row, earlier: u64) -> bool
     ensures { result ≡ bad_earlier row earlier }
 {
-    if row.n < row.room {
-        return 15 < earlier;
-    }
-    false
+    row.n < row.room && 15 < earlier
 }
 
-// 5: the first frame whose note has a bit that the level has not, or the number of notes where there is none.
-fn first_faulty(row: Row, notes: &[u8]) -> usize
+// 5: the first frame whose note has a bit that the level has not.
+fn first_faulty(row: Row, notes: &[u8]) -> Option<usize>
     requires { Regular row }
-    ensures { result ≡ first_faulty row notes.now }
+    ensures { result ≡ position (too_much row) notes.now }
 {
     let limit: usize = 1 << (4 + row.alarms + row.nationals);
-    let mut f: usize = 0;
-    while f < notes.len() {
-        if limit <= notes[f] as usize {
-            return f;
-        }
-        f += 1;
-    }
-    f
+    notes.iter().position(|note| limit <= *note as usize)
 }
 
-fn refused(refusal: u64, frame: usize) -> Refusal
-    ensures { result ≡ record { refusal = refusal; frame = frame } }
+// Refused so, naming this frame.
+fn refuse(refusal: Refusal, frame: usize) -> Result<(), Refused>
+    ensures { fault_in result ≡ refusal_with (number_of refusal) frame }
 {
-    Refusal { refusal, frame }
+    Err(Refused { refusal, frame })
 }
 
 // How many of a note's bits for national use are 1.
+#[tactic(auto, unfolding(crate::specs::Engine::national_ones, crate::specs::Engine::sum_over))]
 fn national_ones(row: Row, note: u8) -> usize
     requires { Regular row }
     ensures { result ≡ national_ones row note }
 {
     let mut ones: usize = 0;
-    let mut k: usize = 0;
-    while k < row.nationals {
+    for k in 0..row.nationals {
         ones += ((note >> (5 + k)) % 2) as usize;
-        k += 1;
     }
     ones
 }
 
-// 10: the first frame whose note has a bit for national use that is not 1, or the number of notes where there is none.
-fn first_lacking(row: Row, notes: &[u8]) -> usize
+// 10: the first frame whose note has a bit for national use that is not 1.
+fn first_lacking(row: Row, notes: &[u8]) -> Option<usize>
     requires { Regular row }
-    ensures { result ≡ first_lacking row notes.now }
+    ensures { result ≡ position (too_few row) notes.now }
 {
-    let mut f: usize = 0;
-    while f < notes.len() {
-        if national_ones(row, notes[f]) < row.nationals {
-            return f;
-        }
-        f += 1;
-    }
-    f
+    notes
+        .iter()
+        .position(|note| national_ones(row, *note) < row.nationals)
 }
 
 // 2, 3, 4 and 5 in this order: for multiplexing and for extraction.
-pub fn refusal_on(row: Row, earlier: u64, line: usize, notes: &[u8], buffer: usize) -> Refusal
+#[tactic(auto, unfolding(crate::specs::Engine::refusal_on))]
+pub fn refusal_on(
+    row: Row,
+    earlier: u64,
+    line: usize,
+    notes: &[u8],
+    buffer: usize,
+) -> Result<(), Refused>
     requires { Regular row × (buffer < 2 ^ 63) }
-    ensures { result ≡ refusal_on row earlier line notes.now buffer }
+    ensures { fault_in result ≡ refusal_on row earlier line notes.now buffer }
 {
     if bad_line(row, line) {
-        return refused(2, 0);
+        refuse(Refusal::Line, 0)
+    } else if notes.len() != line / row.bytes {
+        refuse(Refusal::Notes, 0)
+    } else if bad_buffer(row, line, buffer) {
+        refuse(Refusal::Buffer, 0)
+    } else if bad_earlier(row, earlier) {
+        refuse(Refusal::NoteBits, 0)
+    } else if let Some(f) = first_faulty(row, notes) {
+        refuse(Refusal::NoteBits, f)
+    } else {
+        Ok(())
     }
-    if notes.len() != line / row.bytes {
-        return refused(3, 0);
-    }
-    let full = bad_buffer(row, line, buffer);
-    let over = bad_earlier(row, earlier);
-    if full {
-        return refused(4, 0);
-    }
-    if over {
-        return refused(5, 0);
-    }
-    let f = first_faulty(row, notes);
-    if f < notes.len() {
-        return refused(5, f);
-    }
-    refused(0, 0)
 }
 
 // Then 10: for multiplexing.
-pub fn sending_on(row: Row, earlier: u64, line: usize, notes: &[u8], buffer: usize) -> Refusal
+pub fn sending_on(
+    row: Row,
+    earlier: u64,
+    line: usize,
+    notes: &[u8],
+    buffer: usize,
+) -> Result<(), Refused>
     requires { Regular row × (buffer < 2 ^ 63) }
-    ensures { result ≡ sending_on row earlier line notes.now buffer }
+    ensures { fault_in result ≡ sending_on row earlier line notes.now buffer }
 {
-    let v = refusal_on(row, earlier, line, notes, buffer);
-    if v.refusal != 0 {
-        return v;
+    refusal_on(row, earlier, line, notes, buffer)?;
+    if let Some(f) = first_lacking(row, notes) {
+        refuse(Refusal::National, f)
+    } else {
+        Ok(())
     }
-    let lacking = first_lacking(row, notes);
-    if lacking < notes.len() {
-        return refused(10, lacking);
-    }
-    refused(0, 0)
 }
 
 // 2 and 3: for reading the notes.
-pub fn reading_on(row: Row, line: usize, notes: usize) -> u64
+#[tactic(auto, unfolding(crate::specs::Engine::reading_on))]
+pub fn reading_on(row: Row, line: usize, notes: usize) -> Result<(), Refusal>
     requires { Regular row }
-    ensures { result ≡ reading_on row line notes }
+    ensures { refusal_in result ≡ reading_on row line notes }
 {
     if bad_line(row, line) {
-        return 2;
+        Err(Refusal::Line)
+    } else if notes != line / row.bytes {
+        Err(Refusal::Notes)
+    } else {
+        Ok(())
     }
-    if notes != line / row.bytes {
-        return 3;
-    }
-    0
 }

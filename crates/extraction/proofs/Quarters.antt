@@ -1,13 +1,13 @@
--- The four quarters of the buffer are ended one after the other: what the first j of them hold, that it holds at the start, that one quarter
--- more keeps it, and that four of them are the buffer, where each writer has put out its tributary's digits.
-use mathlib.Core.Path.{◌≡◌, refl, sym, ◌∙◌, ap}
+-- The four quarters of the buffer are ended one after the other: what the first j of them hold, that one quarter more keeps it, and that four
+-- of them are the buffer, where each writer has put out its tributary's digits.
+use mathlib.Core.Path.{◌≡◌, sym, ◌∙◌, ap}
 use mathlib.Core.List.{List, ◌++◌}
 use Prim.Native.Nat.{ℕ, ◌+◌, ◌*◌, ◌-◌, ◌≤◌, ◌<◌}
 use native.Mathlib.Omega.{arith}
 use native.Mathlib.Nat.{zero-mul}
 use lib.ListN.{length, get_or, set, take, drop, replicate, length-set, length-drop, take-append-drop}
 use lib.Seq.{get_or-set_same, get_or-set_other, take_all, drop-drop}
-use borrow.Author.Count.{below_none, below_more}
+use borrow.Author.Count.{below_more}
 use borrow.Rule.Slice.PartMut.{mid_of, put_mid, same_len_mid}
 use Rattle.digits.specs.Digits.{digits_of, bytes_of, tab}
 use Rattle.digits.proofs.Laws.{bytes-length, tab-of}
@@ -18,7 +18,7 @@ use Rattle.levels.specs.Order.{actions, count_of, counts_of}
 use Rattle.levels.proofs.Counts.{count-of}
 use Rattle.unweave.specs.declared.Writers.{Writers}
 use Rattle.unweave.specs.Quarters.{part_of, writer_of}
-use Rattle.unweave.proofs.Four.{part-inside, part-lent, part-size, part-back, part-others}
+use Rattle.unweave.proofs.Four.{part-lent, part-size, part-back, part-others}
 use Rattle.extraction.specs.Quarters.{taken_to, quarter_from, quarters_from}
 use Rattle.extraction.specs.Handing.{Handing}
 use Rattle.extraction.proofs.Taking.{taken-length}
@@ -38,25 +38,12 @@ pub record Ended (q : ℕ) (w : Writers) (old : List ℕ) (j : ℕ) (counts buff
   pub done : (k : ℕ) → k < j → part_of q buffer k ≡ end_of q (part_of q old k) (writer_of w k)
   pub rest : (k : ℕ) → j ≤ k → part_of q buffer k ≡ part_of q old k
 
-pub ended-none : (q : ℕ) (w : Writers) (counts buffer : List ℕ) → length counts ≡ 4 → Ended q w buffer 0 counts buffer
-ended-none q w counts buffer four =
-    record {
-      four = four;
-      size = refl;
-      counted = below_none (λ (k : ℕ). get_or counts k 0 ≡ count_by (writer_of w k));
-      done = below_none (λ (k : ℕ). part_of q buffer k ≡ end_of q (part_of q buffer k) (writer_of w k));
-      rest = λ k _. refl;
-    }
-
 module _ {q : ℕ} {w : Writers} {old : List ℕ} {j : ℕ} {counts buffer : List ℕ} (so_far : Ended q w old j counts buffer) (room : 4 * q ≤ length old) (h : j < 4) where
   abbrev part : List ℕ
   part = mid_of (j * q) (j * q + q - j * q) buffer
 
   inside : 4 * q ≤ length buffer
   inside = omega (arith, so_far.size)
-
-  pub quarter-inside : j * q + q ≤ length buffer
-  quarter-inside = part-inside q j buffer h inside
 
   pub lent-size : length part ≡ q
   lent-size = part-size q j buffer h inside

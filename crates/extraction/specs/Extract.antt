@@ -3,7 +3,7 @@
 -- call that goes by notes: crates/levels/specs/Judging.antt.
 use Rattle.std.specs.Prelude.{◌≡◌, List, ℕ, ◌/◌, length}
 use Rattle.table.specs.declared.Row.{Row}
-use Rattle.levels.specs.declared.faults.Counted.{Counted}
+use Rattle.levels.specs.Faults.{Counted}
 use Rattle.table.specs.Table.{level_of}
 use Rattle.levels.specs.Sizes.{on_level}
 use Rattle.levels.specs.Faults.{fault_of, answered, left_by}

@@ -31,11 +31,9 @@ fn extract_frame(
     let preceding = order::preceding_of(earlier, notes, f);
     let start = f * row.digits;
     let mut w = w0;
-    let mut s: usize = 0;
-    while s < row.sets {
+    for s in 0..row.sets {
         let p = start + s * row.set;
         w = unweave::receive_set(row, line, p, s, preceding, note, buffer, q, w);
-        s += 1;
     }
     w
 }
@@ -64,23 +62,10 @@ pub fn extract_frames(
         c: first,
         d: first,
     };
-    let mut f: usize = 0;
-    while f < notes.len() {
+    for f in 0..notes.len() {
         w = extract_frame(row, earlier, line, notes, f, buffer, q, w);
-        f += 1;
     }
     w
-}
-
-// Every byte zero.
-fn clear(dst: &mut [u8])
-    ensures { dst.new ≡ replicate (length dst.old) 0 }
-{
-    let mut i: usize = 0;
-    while i < dst.len() {
-        dst[i] = 0;
-        i += 1;
-    }
 }
 
 // The end of a quarter: the digits that its writer still holds, zeros up to the end of their byte, and zero bytes. Answers how many digits came.
@@ -94,8 +79,6 @@ pub fn finish_quarter(quarter: &mut [u8], w: Writer) -> usize
 {
     let count = 8 * w.at + w.fill;
     let end = words::finish(quarter, w);
-    let at = end.at;
-    let e = quarter.len();
-    clear(&mut quarter[at..e]);
+    quarter[end.at..].fill(0);
     count
 }

@@ -9,13 +9,14 @@ ghost use Rattle.std.specs.Prelude.{◌≡◌, ◌/◌, length};
 ghost use Rattle.levels.specs.Table.{Shared};
 ghost use Rattle.levels.specs.Sizes.{Accepted};
 ghost use Rattle.levels.specs.Order.{counts_of};
-ghost use Rattle.levels.specs.Faults.{answer_on};
+ghost use Rattle.levels.specs.Faults.{answer_on, numbers_of};
 ghost use Rattle.extraction.specs.Quarters.{quarters_from};
 ghost use Rattle.extraction.specs.Extract.{buffer_on, ExtractMet};
 
 use levels::faults;
-use levels::faults::{Counted, Fault};
-use table::{Level, Row};
+use levels::faults::Refused;
+use refusal::Refusal;
+use table::Row;
 
 // The four extractions: the frames hand out their digits, then each quarter is ended.
 pub fn extract_all(
@@ -32,45 +33,45 @@ pub fn extract_all(
     let q = buffer.len() / 4;
     let w = frames::extract_frames(row, earlier, line, notes, buffer, q);
     let mut counts = [0usize; 4];
-    let mut j: usize = 0;
-    while j < 4 {
+    for j in 0..4 {
         let a = j * q;
         let e = a + q;
         counts[j] = frames::finish_quarter(&mut buffer[a..e], unweave::writer_of(w, j));
-        j += 1;
     }
     counts
 }
 
 // A level's row is known: the lengths, the earlier vote and the notes are judged, and the tributaries are extracted.
-fn extract_on(row: Row, earlier: u64, line: &[u8], notes: &[u8], buffer: &mut [u8]) -> Counted
+fn extract_on(
+    row: Row,
+    earlier: u64,
+    line: &[u8],
+    notes: &[u8],
+    buffer: &mut [u8],
+) -> Result<[usize; 4], Refused>
     requires { Shared row }
-    ensures { (result ≡ answer_on row earlier (length line.now) notes.now (length buffer.old))
+    ensures { (numbers_of result ≡ answer_on row earlier (length line.now) notes.now (length buffer.old))
         × (buffer.new ≡ buffer_on row earlier line.now notes.now buffer.old) }
 {
-    let found = faults::fault_of(row, earlier, line.len(), notes, buffer.len());
-    if found.refusal != 0 {
-        return faults::refused(found);
-    }
+    faults::fault_of(row, earlier, line.len(), notes, buffer.len())?;
     let counts = extract_all(row, earlier, line, notes, buffer);
-    Counted {
-        refusal: 0,
-        frame: 0,
-        counts,
-    }
+    Ok(counts)
 }
 
-// Extracts the tributaries of the line into the quarters of the buffer, by the notes and the vote before them. Any level number, any vote, any
-// lengths: see specs/Extract.antt.
-pub fn extract(level: u64, earlier: u64, line: &[u8], notes: &[u8], buffer: &mut [u8]) -> Counted
-    ensures { ExtractMet level earlier line.now notes.now buffer.old result buffer.new }
+// Extracts the tributaries of the line into the quarters of the buffer, by the notes and the vote before them, and answers how many digits each has.
+// Any level number, any vote, any lengths: see specs/Extract.antt.
+pub fn extract(
+    level: u64,
+    earlier: u64,
+    line: &[u8],
+    notes: &[u8],
+    buffer: &mut [u8],
+) -> Result<[usize; 4], Refused>
+    ensures { ExtractMet level earlier line.now notes.now buffer.old (numbers_of result) buffer.new }
 {
     let found = table::level_of(level);
     match found {
-        Level::Of(row) => extract_on(row, earlier, line, notes, buffer),
-        Level::NoSuchLevel => faults::refused(Fault {
-            refusal: 1,
-            frame: 0,
-        }),
+        Some(row) => extract_on(row, earlier, line, notes, buffer),
+        None => Err(Refused::from(Refusal::Level)),
     }
 }

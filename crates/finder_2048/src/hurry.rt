@@ -15,6 +15,7 @@ pub struct Hurry {
 }
 
 // A state that hunts after so many digits, of which all but seven are forgotten.
+#[tactic(auto, unfolding(crate::specs::Hurry::still_hunting))]
 fn still_hunting(window: usize, came: usize) -> State
     ensures { result ≡ still_hunting window came }
 {
@@ -63,9 +64,9 @@ pub fn hurry_on(s: State, piece: &[u8], first: usize, end: usize) -> Hurry
     requires { Valid s × (length piece.now ≤ 65536) × (first < end) × (end ≤ 8 * length piece.now) }
     ensures { Hurried piece.now end first s result.at result.state }
 {
-    let mode = s.mode;
-    if crate::is_hunting(mode) {
-        return hunt_on(s, piece, first, end);
+    if crate::is_hunting(s.mode) {
+        hunt_on(s, piece, first, end)
+    } else {
+        carry_on(s, piece, first, end)
     }
-    carry_on(s, piece, first, end)
 }

@@ -21,23 +21,13 @@ pub enum Mode {
 pub fn is_hunting(mode: Mode) -> bool
     ensures { result ≡ hunting mode }
 {
-    match mode {
-        Mode::Hunting => true,
-        Mode::WordFound => false,
-        Mode::SecondSeen => false,
-        Mode::Aligned(_) => false,
-    }
+    matches!(mode, Mode::Hunting)
 }
 
 pub fn is_aligned(mode: Mode) -> bool
     ensures { result ≡ aligned mode }
 {
-    match mode {
-        Mode::Hunting => false,
-        Mode::WordFound => false,
-        Mode::SecondSeen => false, // only the second good word aligns
-        Mode::Aligned(_) => true,
-    }
+    matches!(mode, Mode::Aligned(_)) // only the second good word aligns
 }
 
 // The last seven digits (the newest worth 1), how many digits came since reset (stopping at seven), the mode, and the place, counted from the
@@ -87,52 +77,35 @@ fn is_misplaced(mode: Mode, place: usize) -> bool
 fn is_outside(place: usize) -> bool
     ensures { result ≡ (ltb place 250 || leb 512 place) }
 {
-    if place < 250 {
-        return true;
-    }
-    512 <= place
+    place < 250 || 512 <= place
 }
 
 // Whether a state is refused with 6, item by item.
+#[tactic(auto, unfolding(crate::specs::Feed::invalid))]
 fn is_invalid(s: State) -> bool
     ensures { result ≡ invalid s }
 {
-    let mode = s.mode;
-    if 128 <= s.window {
-        return true;
-    }
-    if 7 < s.seen {
-        return true;
-    }
-    if 2 < modes::missed_of(mode) {
-        return true;
-    }
-    if is_misplaced(mode, s.place) {
-        return true;
-    }
-    if is_hunting(mode) {
-        return false;
-    }
-    s.seen < 7
+    128 <= s.window
+        || 7 < s.seen
+        || 2 < modes::missed_of(s.mode)
+        || is_misplaced(s.mode, s.place)
+        || !is_hunting(s.mode) && s.seen < 7
 }
 
 // The refusal of a piece. The sum of first and count may be too large for a number.
+#[tactic(auto, unfolding(crate::specs::Feed::refusal_of))]
 fn refusal_of(s: State, bytes: usize, first: usize, count: usize) -> u64
     ensures { result ≡ refusal_of s bytes first count }
 {
     if is_invalid(s) {
-        return 6;
+        6
+    } else if 65536 < bytes {
+        2
+    } else if 8 * bytes < first || 8 * bytes - first < count {
+        7
+    } else {
+        0
     }
-    if 65536 < bytes {
-        return 2;
-    }
-    if 8 * bytes < first {
-        return 7;
-    }
-    if 8 * bytes - first < count {
-        return 7;
-    }
-    0
 }
 
 fn refuse(refusal: u64, s: State) -> Fed
@@ -149,12 +122,10 @@ fn refuse(refusal: u64, s: State) -> Fed
 fn accept(s: State, taken: usize, stopped: bool) -> Fed
     ensures { result ≡ fed_by (record { taken = taken; stopped = stopped; state = s }) }
 {
-    let mode = s.mode;
-    let aligned = is_aligned(mode);
     Fed {
         refusal: 0,
         taken,
-        aligned,
+        aligned: is_aligned(s.mode),
         state: s,
     }
 }
@@ -163,12 +134,7 @@ fn accept(s: State, taken: usize, stopped: bool) -> Fed
 fn is_turned(before: State, after: State) -> bool
     ensures { result ≡ turned before after }
 {
-    let was = before.mode;
-    let is = after.mode;
-    if is_aligned(was) {
-        return !is_aligned(is);
-    }
-    is_aligned(is)
+    is_aligned(before.mode) != is_aligned(after.mode)
 }
 
 // Takes the digits of an accepted piece, up to the one at which alignment is found or lost.
@@ -179,6 +145,7 @@ fn take_piece(s: State, piece: &[u8], first: usize, count: usize) -> Fed
     let mut c = s;
     let end = first + count;
     let mut p = first;
+    // no range: a turn goes on to the digit at which hurry_on stops
     while p < end {
         let h = hurry::hurry_on(c, piece, p, end);
         p = h.at;
@@ -193,6 +160,7 @@ fn take_piece(s: State, piece: &[u8], first: usize, count: usize) -> Fed
 }
 
 // Feeds count digits of the piece, from digit first on, and stops after the digit at which alignment is found or lost.
+#[tactic(auto, unfolding(crate::specs::Feed::feed_of))]
 pub fn feed(s: State, piece: &[u8], first: usize, count: usize) -> Fed
     ensures { FeedMet s piece.now first count result }
 {

@@ -10,10 +10,8 @@ pub fn missed_of(mode: Mode) -> u8
     ensures { result ≡ missed mode }
 {
     match mode {
-        Mode::Hunting => 0,
-        Mode::WordFound => 0,
-        Mode::SecondSeen => 0,
         Mode::Aligned(m) => m,
+        _ => 0,
     }
 }
 
@@ -26,16 +24,15 @@ pub fn window_of(window: usize, d: u8) -> usize
 }
 
 // How many digits came, one more, stopping at seven.
+#[tactic(auto, unfolding(crate::specs::Modes::seen_of))]
 fn seen_of(seen: usize) -> usize
     ensures { result ≡ seen_of seen }
 {
-    if seen < 7 {
-        return seen + 1;
-    }
-    seen
+    if seen < 7 { seen + 1 } else { seen }
 }
 
 // Whether the last seven digits are the word 0011011.
+#[tactic(auto, unfolding(crate::specs::Modes::good))]
 pub fn is_good(window: usize) -> bool
     ensures { result ≡ good window }
 {
@@ -49,20 +46,21 @@ pub fn check_at(mode: Mode) -> usize
     match mode {
         Mode::Hunting => 0,
         Mode::WordFound => 250,
-        Mode::SecondSeen => 512,
-        Mode::Aligned(_) => 512,
+        Mode::SecondSeen | Mode::Aligned(_) => 512,
     }
 }
 
 // Whether the mode's rule looks at this digit.
+#[tactic(auto, unfolding(crate::specs::Modes::asks))]
 fn is_asked(seen: usize, mode: Mode, place: usize) -> bool
     requires { place < 512 }
     ensures { result ≡ asks seen mode place }
 {
     if crate::is_hunting(mode) {
-        return 7 <= seen;
+        7 <= seen
+    } else {
+        place + 1 == check_at(mode)
     }
-    place + 1 == check_at(mode)
 }
 
 // Whether it finds what it looks for.
@@ -70,10 +68,8 @@ fn is_passed(mode: Mode, window: usize, d: u8) -> bool
     ensures { result ≡ passes mode window d }
 {
     match mode {
-        Mode::Hunting => is_good(window),
         Mode::WordFound => d == 1,
-        Mode::SecondSeen => is_good(window),
-        Mode::Aligned(_) => is_good(window),
+        Mode::Hunting | Mode::SecondSeen | Mode::Aligned(_) => is_good(window),
     }
 }
 
@@ -82,25 +78,12 @@ fn judge(mode: Mode, passed: bool) -> Mode
     requires { missed mode ≤ 2 }
     ensures { result ≡ judged mode passed }
 {
-    if passed {
-        return match mode {
-            Mode::Hunting => Mode::WordFound,
-            Mode::WordFound => Mode::SecondSeen,
-            Mode::SecondSeen => Mode::Aligned(0),
-            Mode::Aligned(_) => Mode::Aligned(0),
-        };
-    }
     match mode {
-        Mode::Hunting => Mode::Hunting,
-        Mode::WordFound => Mode::Hunting,
-        Mode::SecondSeen => Mode::Hunting,
-        Mode::Aligned(m) => {
-            if m + 1 == 3 {
-                Mode::Hunting
-            } else {
-                Mode::Aligned(m + 1)
-            }
-        }
+        Mode::Hunting if passed => Mode::WordFound,
+        Mode::WordFound if passed => Mode::SecondSeen,
+        Mode::SecondSeen | Mode::Aligned(_) if passed => Mode::Aligned(0),
+        Mode::Aligned(m) if m < 2 => Mode::Aligned(m + 1),
+        _ => Mode::Hunting,
     }
 }
 
@@ -109,25 +92,26 @@ fn place_then(mode: Mode) -> usize
     ensures { result ≡ place_then mode }
 {
     match mode {
-        Mode::Hunting => 0,
-        Mode::WordFound => 0,
         Mode::SecondSeen => 250,
-        Mode::Aligned(_) => 0,
+        Mode::Hunting | Mode::WordFound | Mode::Aligned(_) => 0,
     }
 }
 
 // The place where it did not.
+#[tactic(auto, unfolding(crate::specs::Modes::place_after))]
 fn place_after(mode: Mode, place: usize) -> usize
     requires { place < 512 }
     ensures { result ≡ place_after mode place }
 {
     if crate::is_hunting(mode) {
-        return 0;
+        0
+    } else {
+        place + 1
     }
-    place + 1
 }
 
 // What one digit makes of a state.
+#[tactic(auto, unfolding(crate::specs::Modes::step_of, crate::specs::Modes::after_digit))]
 pub fn step(s: State, d: u8) -> State
     requires { Valid s × (d < 2) }
     ensures { result ≡ step_of s d }
@@ -138,18 +122,18 @@ pub fn step(s: State, d: u8) -> State
     if is_asked(seen, mode, s.place) {
         let judged = judge(mode, is_passed(mode, window, d));
         let place = place_then(judged);
-        return State {
+        State {
             window,
             seen,
             mode: judged,
             place,
-        };
-    }
-    let place = place_after(mode, s.place);
-    State {
-        window,
-        seen,
-        mode,
-        place,
+        }
+    } else {
+        State {
+            window,
+            seen,
+            mode,
+            place: place_after(mode, s.place),
+        }
     }
 }

@@ -9,7 +9,7 @@ use lib.Seq.{get_or-take, get_or-drop, take_all, length-take-le, ext_get_or}
 use Rattle.digits.specs.Digits.{digits_of, tab}
 use Rattle.digits.specs.Runs.{heard, Piece, AllLent, digits_in_all, left_by, calls_for_all}
 use Rattle.digits.proofs.Laws.{digits-binary, tab-length, tab-at, tab-binary}
-use Rattle.multiframe.specs.declared.Built.{Built}
+use Rattle.multiframe.specs.Calls.{Built}
 use Rattle.multiframe.specs.declared.Kind.TheVariants.{Fixed}
 use Rattle.multiframe.specs.Multiframe.{with_word, meant, digit_for, multiframe_of}
 use Rattle.multiframe.specs.Calls.{built_of, BuildMet}

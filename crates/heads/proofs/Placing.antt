@@ -238,3 +238,14 @@ module _ (row : Row) (earlier : ℕ) (notes buffer : List ℕ) (p : ℕ) (out : 
         few = rw (pow-add 2 r 4) (omega (arith, h.few));
         sent = rw (on, written-cat r 4 word four few, ← append_assoc out (written r word) (written 4 four)) s;
       }
+
+-- a column more
+module _ (row : Row) (sh : Shared row) (f s r : ℕ) (hs : s < row.sets) (fours : r % 4 ≡ 0) (hr : r < row.set) where
+  pub headed-column : (earlier : ℕ) (notes buffer out : List ℕ) (preceding note word four : ℕ) (next next' : List ℕ) → preceding ≡ get_or (earlier ∷ notes) f 0
+      → note ≡ get_or notes f 0 → Headed row earlier notes buffer (f * row.digits + s * row.set) out r word next
+      → PlacedTo row note (acts_by row preceding note) s r buffer next 4 four next'
+      → Headed row earlier notes buffer (f * row.digits + s * row.set) out (r + 4) (word * 16 + four) next'
+  headed-column earlier notes buffer out preceding note word four next next' last own h column =
+      headed-more row earlier notes buffer (f * row.digits + s * row.set) out r word four next next' h column.few
+      (sent-column row sh f s r (f * row.digits + s * row.set + r) (omega arith) hs fours hr earlier notes preceding note last own buffer next next'
+      (out ++ written r word) four h.sent column)

@@ -43,9 +43,10 @@ fn place_digit(
         let e = a + q;
         let i = next[j];
         next[j] = i + 1;
-        return lent::tributary_digit(&buffer[a..e], TributaryPlace(i));
+        lent::tributary_digit(&buffer[a..e], TributaryPlace(i))
+    } else {
+        sent::idle_digit(row, kind, note, j, r)
     }
-    sent::idle_digit(row, kind, note, j, r)
 }
 
 // The column of the first set's head from place r on, place by place: none of them carries a digit.
@@ -54,8 +55,7 @@ fn first_column(row: Row, note: u8, r: usize) -> u64
     ensures { (acts : ℕ → Action) (buffer next : List ℕ) → PlacedTo row note acts 0 r buffer next 4 result next }
 {
     let mut word: u64 = 0;
-    let mut j: usize = 0;
-    while j < 4 {
+    for j in 0..4 {
         let place = r + j;
         let kind = places::kind_of(
             row,
@@ -66,7 +66,6 @@ fn first_column(row: Row, note: u8, r: usize) -> u64
             },
         );
         word = word * 2 + sent::idle_digit(row, kind, note, j, place) as u64;
-        j += 1;
     }
     word
 }
@@ -85,9 +84,10 @@ fn start_column(row: Row, note: u8, r: usize) -> u64
     ensures { (acts : ℕ → Action) (buffer next : List ℕ) → PlacedTo row note acts 0 r buffer next 4 result next }
 {
     if r + 4 <= row.len {
-        return word_column(row, r);
+        word_column(row, r)
+    } else {
+        first_column(row, note, r)
     }
-    first_column(row, note, r)
 }
 
 // The column of a later set's head from place r on: what its first place is, the others are.
@@ -112,10 +112,8 @@ fn later_column(
         },
     );
     let mut word: u64 = 0;
-    let mut j: usize = 0;
-    while j < 4 {
+    for j in 0..4 {
         word = word * 2 + place_digit(row, kind, buffer, next, preceding, note, j, r + j) as u64;
-        j += 1;
     }
     word
 }
@@ -134,9 +132,10 @@ fn head_column(
     ensures { ColumnMet row preceding note set r buffer.now next.old result next.new }
 {
     if set == 0 {
-        return start_column(row, note, r);
+        start_column(row, note, r)
+    } else {
+        later_column(row, buffer, next, preceding, note, set, r)
     }
-    later_column(row, buffer, next, preceding, note, set, r)
 }
 
 // The head of a set of frame f, column by column, put out as one number.
@@ -162,10 +161,8 @@ pub fn send_head(
     let preceding = order::preceding_of(earlier, notes, f);
     let end = places::head_end(row, set);
     let mut word: u64 = 0;
-    let mut r: usize = 0;
-    while r < end {
+    for r in (0..end).step_by(4) {
         word = word * 16 + head_column(row, buffer, next, preceding, note, set, r);
-        r += 4;
     }
     words::put(line, w, word, end)
 }

@@ -5,8 +5,7 @@ use Prim.Native.Nat.{ℕ}
 use contract.Lifetimes.{Lfts}
 use denote.Triple.Clauses.{AtExit}
 use borrow.Fn.World.{ArgsD, ResD}
-use Rattle.judge.specs.declared.Judged.{Judged}
-use Rattle.judge.specs.Verdict.{JudgeMet}
+use Rattle.judge.specs.Verdict.{Judged, numbers_of, JudgeMet}
 use Rattle.judge.specs.contracts.judge.{signature, ended}
 use Rattle.judge.proofs.judge.Reads.{Asked, Learnt}
 
@@ -16,7 +15,7 @@ no-second-answer level earlier line pattern buffer r s p q = cc
 
 -- and what the call ensures is that statement
 pub judge-met : (κs : Lfts 2) (a : ArgsD signature κs) (r : ResD signature κs) (e : AtExit ended κs) → Learnt κs a r e
-    → JudgeMet a.0 a.1.0 a.1.1.0.now a.1.1.1.0 a.1.1.1.1.0.now r
+    → JudgeMet a.0 a.1.0 a.1.1.0.now a.1.1.1.0 a.1.1.1.1.0.now (numbers_of r)
 judge-met κs a r e met = met
 
 -- and it asks nothing of its caller

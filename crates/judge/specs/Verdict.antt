@@ -1,13 +1,15 @@
 -- The verdict on a line: did the clock move, or the frame index? What the call answers, refused or not, for any input: for each tributary which of three readings
 -- fit, how many of their digits are wrong, and how often its decision changed. It is lent nothing for writing.
-use Rattle.std.specs.Prelude.{◌≡◌, Bool, cond, not, ◌&&◌, ◌||◌, List, [], ◌∷◌, ℕ, suc, ◌+◌, ◌-◌, ◌/◌, ◌%◌, ◌^◌, min, eqb, length, get_or}
+use Rattle.std.specs.Prelude.{◌≡◌, Bool, cond, not, ◌&&◌, ◌||◌, List, [], ◌∷◌, ℕ, suc, ◌+◌, ◌-◌, ◌/◌, ◌%◌, ◌^◌, min, eqb, length, get_or, Result, Ok, Err}
 use Rattle.digits.specs.Digits.{digits_of}
 use Rattle.digits.specs.Sums.{sum_to}
 use Rattle.table.specs.declared.Row.{Row}
 use Rattle.table.specs.Table.{level_of}
 use Rattle.levels.specs.Sizes.{on_level, bad_line, bad_buffer, quarter_of}
 use Rattle.levels.specs.Faults.{bad_earlier}
-use Rattle.judge.specs.declared.Judged.{Judged}
+use Rattle.refusal.specs.declared.Refusal.{Refusal}
+use Rattle.refusal.specs.Refusal.{number_of as refusal_number}
+use Rattle.judge.specs.declared.Judgement.{Judgement}
 use Rattle.judge.specs.Readings.{majorities, read_by, none_stuffed, all_stuffed, own_votes, before_votes, after_votes}
 use Rattle.judge.specs.Wrong.{wrong_in}
 
@@ -48,6 +50,15 @@ changes_of notes j = sum_to (length notes - 1) (λ (f : ℕ). cond (eqb (decided
 abbrev pub four : (ℕ → ℕ) → List ℕ
 four g = g 0 ∷ g 1 ∷ g 2 ∷ g 3 ∷ []
 
+-- the call's answer as numbers: the refusal, 0 for none, and the five numbers of each tributary
+pub record Judged : Type 0 where
+  pub refusal : ℕ
+  pub fits : List ℕ
+  pub own : List ℕ
+  pub before : List ℕ
+  pub after : List ℕ
+  pub changes : List ℕ
+
 unfoldable pub judgement : Row → ℕ → List ℕ → ℕ → List ℕ → Judged
 judgement row earlier line pattern buffer =
     record {
@@ -83,6 +94,15 @@ refused_with refusal =
       after = four (λ (j : ℕ). 0);
       changes = four (λ (j : ℕ). 0);
     }
+
+-- the numbers of what the code answers, accepted or not
+abbrev pub accepted : Judgement → Judged
+accepted found =
+    record { refusal = 0; fits = found.fits; own = found.own; before = found.before; after = found.after; changes = found.changes }
+
+abbrev pub numbers_of : Result Judgement Refusal → Judged
+numbers_of (Ok found) = accepted found
+numbers_of (Err refusal) = refused_with (refusal_number refusal)
 
 abbrev pub judged_on : Row → ℕ → List ℕ → ℕ → List ℕ → Judged
 judged_on row earlier line pattern buffer =

@@ -7,20 +7,21 @@ pub mod readings;
 pub mod wrong;
 
 ghost use Rattle.std.specs.Prelude.{◌≡◌, cond, false, ◌&&◌, ℕ, ◌*◌, ◌/◌, ◌^◌, ◌<◌, ◌≤◌, eqb, length, get_or};
+ghost use Rattle.refusal.specs.Refusal.{refusal_in};
 ghost use Rattle.levels.specs.Table.{Shared};
 ghost use Rattle.levels.specs.Sizes.{frames_of, bad_buffer, Framed};
 ghost use Rattle.levels.specs.Faults.{bad_earlier};
 ghost use Rattle.judge.specs.Counting.{Judgeable, Accepting, Voted};
-ghost use Rattle.judge.specs.Verdict.{four, fitting, bad_pattern, number_of, judgement, refused_with, judged_on, JudgeMet};
+ghost use Rattle.judge.specs.Verdict.{four, fitting, bad_pattern, number_of, judgement, accepted, judged_on, numbers_of, JudgeMet};
 
 use levels::{faults, sizes};
-use table::{Level, Row};
+use refusal::Refusal;
+use table::Row;
 
-// What is judged: the refusal, and for each tributary which readings fit (1 own, 2 before, 4 after, added up), the wrong digits read by its own frame, by the
-// frame before and by the frame after, and in how many frames its decision differs from the frame before.
-#[derive(Clone, Copy)]
-pub struct Judged {
-    pub refusal: u64,
+// What is judged: for each tributary which readings fit (1 own, 2 before, 4 after, added up), the wrong digits read by its own frame, by the frame before and by
+// the frame after, and in how many frames its decision differs from the frame before.
+#[derive(Clone, Copy, Debug, PartialEq, Eq, Hash)]
+pub struct Judgement {
     pub fits: [usize; 4],
     pub own: [usize; 4],
     pub before: [usize; 4],
@@ -28,27 +29,11 @@ pub struct Judged {
     pub changes: [usize; 4],
 }
 
-fn refused(refusal: u64) -> Judged
-    ensures { result ≡ refused_with refusal }
-{
-    Judged {
-        refusal,
-        fits: [0; 4],
-        own: [0; 4],
-        before: [0; 4],
-        after: [0; 4],
-        changes: [0; 4],
-    }
-}
-
 // What a reading with so many wrong digits is worth: it fits if it has none.
 fn worth(wrong: usize, fits: usize) -> usize
     ensures { (result ≡ cond (eqb wrong 0) fits 0) × (result ≤ fits) }
 {
-    if wrong == 0 {
-        return fits;
-    }
-    0
+    if wrong == 0 { fits } else { 0 }
 }
 
 fn fits_of(own: usize, before: usize, after: usize) -> usize
@@ -61,11 +46,12 @@ fn fits_of(own: usize, before: usize, after: usize) -> usize
 fn fits_four(own: [usize; 4], before: [usize; 4], after: [usize; 4]) -> [usize; 4]
     ensures { result ≡ four (λ (j : ℕ). fitting (get_or own j 0) (get_or before j 0) (get_or after j 0)) }
 {
-    let a = fits_of(own[0], before[0], after[0]);
-    let b = fits_of(own[1], before[1], after[1]);
-    let c = fits_of(own[2], before[2], after[2]);
-    let d = fits_of(own[3], before[3], after[3]);
-    [a, b, c, d]
+    [
+        fits_of(own[0], before[0], after[0]),
+        fits_of(own[1], before[1], after[1]),
+        fits_of(own[2], before[2], after[2]),
+        fits_of(own[3], before[3], after[3]),
+    ]
 }
 
 // The line's votes are read, and there is room for a reading: the readings are compared.
@@ -77,19 +63,18 @@ fn judge_by(
     pattern: usize,
     buffer: &[u8],
     room: &mut [u8],
-) -> Judged
+) -> Judgement
     requires { Accepting row line.now pattern (length buffer.now) (length room.old)
         × Voted row line.now votes
         × (bad_earlier row earlier ≡ false) }
-    ensures { result ≡ judgement row earlier line.now pattern buffer.now }
+    ensures { accepted result ≡ judgement row earlier line.now pattern buffer.now }
 {
     let own = readings::own_wrong(row, earlier, line, votes, pattern, buffer, room);
     let before = readings::before_wrong(row, earlier, line, votes, pattern, buffer, room);
     let after = readings::after_wrong(row, line, votes, pattern, buffer, room);
     let fits = fits_four(own, before, after);
     let changes = readings::changes_in(row, line, votes);
-    Judged {
-        refusal: 0,
+    Judgement {
         fits,
         own,
         before,
@@ -132,9 +117,9 @@ pub fn empty_room() -> [u8; 23680]
 }
 
 // A line that is not refused: its votes are read, and there is room for a reading.
-fn judge_frames(row: Row, earlier: u64, line: &[u8], pattern: usize, buffer: &[u8]) -> Judged
+fn judge_frames(row: Row, earlier: u64, line: &[u8], pattern: usize, buffer: &[u8]) -> Judgement
     requires { Judgeable row earlier line.now pattern (length buffer.now) }
-    ensures { result ≡ judgement row earlier line.now pattern buffer.now }
+    ensures { accepted result ≡ judgement row earlier line.now pattern buffer.now }
 {
     let votes = read_votes(row, line);
     let size = room_of(row, line.len() / row.bytes);
@@ -153,13 +138,7 @@ fn judge_frames(row: Row, earlier: u64, line: &[u8], pattern: usize, buffer: &[u
 fn bad_pattern(pattern: u64) -> bool
     ensures { result ≡ bad_pattern pattern }
 {
-    if pattern == 0 {
-        return false;
-    }
-    if pattern == 15 {
-        return false;
-    }
-    pattern != 23
+    !matches!(pattern, 0 | 15 | 23)
 }
 
 // Whether what was sent has no room in the buffer's quarters: asked with pattern 0 only.
@@ -167,52 +146,61 @@ fn bad_sent(row: Row, line: usize, pattern: u64, buffer: usize) -> bool
     requires { Shared row × (line / row.bytes ≤ 64) × (buffer < 2 ^ 63) }
     ensures { result ≡ (eqb pattern 0 && bad_buffer row line buffer) }
 {
-    if pattern != 0 {
-        return false;
-    }
-    sizes::bad_buffer(row, line, buffer)
+    pattern == 0 && sizes::bad_buffer(row, line, buffer)
 }
 
-// The first refusal of 13, 2, 4 and 5 that applies, or 0, by the lengths of line and buffer in bytes.
-fn number_of(row: Row, earlier: u64, line: usize, pattern: u64, buffer: usize) -> u64
+// The first refusal of 13, 2, 4 and 5 that applies, by the lengths of line and buffer in bytes.
+fn number_of(
+    row: Row,
+    earlier: u64,
+    line: usize,
+    pattern: u64,
+    buffer: usize,
+) -> Result<(), Refusal>
     requires { Shared row × (buffer < 2 ^ 63) }
-    ensures { result ≡ number_of row earlier line pattern buffer }
+    ensures { refusal_in result ≡ number_of row earlier line pattern buffer }
 {
     if bad_pattern(pattern) {
-        return 13;
+        Err(Refusal::Pattern)
+    } else if sizes::bad_line(row, line) {
+        Err(Refusal::Line)
+    } else if bad_sent(row, line, pattern, buffer) {
+        Err(Refusal::Buffer)
+    } else if faults::bad_earlier(row, earlier) {
+        Err(Refusal::NoteBits)
+    } else {
+        Ok(())
     }
-    if sizes::bad_line(row, line) {
-        return 2;
-    }
-    if bad_sent(row, line, pattern, buffer) {
-        return 4;
-    }
-    if faults::bad_earlier(row, earlier) {
-        return 5;
-    }
-    0
 }
 
 // A level's row is known: the rest is judged.
-fn judge_on(row: Row, earlier: u64, line: &[u8], pattern: u64, buffer: &[u8]) -> Judged
+fn judge_on(
+    row: Row,
+    earlier: u64,
+    line: &[u8],
+    pattern: u64,
+    buffer: &[u8],
+) -> Result<Judgement, Refusal>
     requires { Shared row }
-    ensures { result ≡ judged_on row earlier line.now pattern buffer.now }
+    ensures { numbers_of result ≡ judged_on row earlier line.now pattern buffer.now }
 {
-    let no = number_of(row, earlier, line.len(), pattern, buffer.len());
-    if no != 0 {
-        return refused(no);
-    }
-    judge_frames(row, earlier, line, pattern as usize, buffer)
+    number_of(row, earlier, line.len(), pattern, buffer.len())?;
+    Ok(judge_frames(row, earlier, line, pattern as usize, buffer))
 }
 
 // Judges the tributaries of the line, with the vote before frame 0, against what was sent: pattern 0 is the digits in the buffer's quarters, 15 and 23 are the
 // test patterns, with which the buffer is not looked at. Any level number, any vote, any pattern number, any lengths: see specs/Verdict.antt.
-pub fn judge(level: u64, earlier: u64, line: &[u8], pattern: u64, buffer: &[u8]) -> Judged
-    ensures { JudgeMet level earlier line.now pattern buffer.now result }
+pub fn judge(
+    level: u64,
+    earlier: u64,
+    line: &[u8],
+    pattern: u64,
+    buffer: &[u8],
+) -> Result<Judgement, Refusal>
+    ensures { JudgeMet level earlier line.now pattern buffer.now (numbers_of result) }
 {
-    let found = table::level_of(level);
-    match found {
-        Level::Of(row) => judge_on(row, earlier, line, pattern, buffer),
-        Level::NoSuchLevel => refused(1),
+    match table::level_of(level) {
+        Some(row) => judge_on(row, earlier, line, pattern, buffer),
+        None => Err(Refusal::Level),
     }
 }

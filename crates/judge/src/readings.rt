@@ -16,13 +16,6 @@ use crate::{changes, wrong};
 use levels::order;
 use table::Row;
 
-// A vote as a reading is handed the one before its first.
-fn as_earlier(vote: u8) -> u64
-    ensures { result ≡ vote }
-{
-    vote as u64
-}
-
 // The wrong digits of tributary j (from 0): n digits of its quarter of a reading, against its quarter of the buffer or the pattern.
 fn wrong_of(pattern: usize, buffer: &[u8], read: &[u8], n: usize, j: usize) -> usize
     requires { (j < 4)
@@ -34,11 +27,9 @@ fn wrong_of(pattern: usize, buffer: &[u8], read: &[u8], n: usize, j: usize) -> u
 {
     let q = buffer.len() / 4;
     let a = j * q;
-    let e = a + q;
     let r = read.len() / 4;
     let b = j * r;
-    let f = b + r;
-    wrong::wrong_in(pattern, &buffer[a..e], &read[b..f], n)
+    wrong::wrong_in(pattern, &buffer[a..a + q], &read[b..b + r], n)
 }
 
 // The wrong digits of the four tributaries, read by these notes and the vote before them.
@@ -60,11 +51,12 @@ fn wrong_by(
         (taken_to row earlier notes.now (digits_of line.now) j (2 * length line.now))) }
 {
     let counts = extraction::extract_all(row, earlier, line, notes, room);
-    let a = wrong_of(pattern, buffer, room, counts[0], 0);
-    let b = wrong_of(pattern, buffer, room, counts[1], 1);
-    let c = wrong_of(pattern, buffer, room, counts[2], 2);
-    let d = wrong_of(pattern, buffer, room, counts[3], 3);
-    [a, b, c, d]
+    [
+        wrong_of(pattern, buffer, room, counts[0], 0),
+        wrong_of(pattern, buffer, room, counts[1], 1),
+        wrong_of(pattern, buffer, room, counts[2], 2),
+        wrong_of(pattern, buffer, room, counts[3], 3),
+    ]
 }
 
 // Read by the decision of its own frame.
@@ -90,9 +82,10 @@ fn vote_before(row: Row, earlier: u64, unknown: u8) -> u8
     ensures { result ≡ cond (has_negative row) earlier unknown }
 {
     if order::has_negative(row) {
-        return earlier as u8;
+        earlier as u8
+    } else {
+        unknown
     }
-    unknown
 }
 
 // Read by the decision of the frame before, with this vote for the one that the line does not hold.
@@ -118,7 +111,7 @@ fn before_by(
     moved[0] = vote_before(row, earlier, unknown);
     wrong_by(
         row,
-        unknown as u64,
+        u64::from(unknown),
         line,
         &moved[0..frames],
         pattern,
@@ -144,17 +137,8 @@ fn after_by(
     let mut moved = votes;
     moved[frames + 1] = unknown;
     let end = frames + 2;
-    let first = as_earlier(moved[1]);
+    let first = u64::from(moved[1]);
     wrong_by(row, first, line, &moved[2..end], pattern, buffer, room)
-}
-
-fn fewer(a: usize, b: usize) -> usize
-    ensures { result ≡ min a b }
-{
-    if a < b {
-        return a;
-    }
-    b
 }
 
 // Of two readings the fewer wrong digits, for each tributary.
@@ -162,10 +146,10 @@ fn fewer_four(a: [usize; 4], b: [usize; 4]) -> [usize; 4]
     ensures { result ≡ four (λ (j : ℕ). min (get_or a j 0) (get_or b j 0)) }
 {
     [
-        fewer(a[0], b[0]),
-        fewer(a[1], b[1]),
-        fewer(a[2], b[2]),
-        fewer(a[3], b[3]),
+        a[0].min(b[0]),
+        a[1].min(b[1]),
+        a[2].min(b[2]),
+        a[3].min(b[3]),
     ]
 }
 

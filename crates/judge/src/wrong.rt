@@ -12,17 +12,14 @@ fn others_at(read: &[u8], sent: &[u8], p: usize, n: usize) -> usize
         × (result ≤ n) }
 {
     let differ = words::read_digits(read, p, n) ^ words::read_digits(sent, p, n);
-    u64::count_ones(differ) as usize
+    differ.count_ones() as usize
 }
 
 // The stage that a pattern feeds back with its last one.
 fn stage_of(pattern: usize) -> usize
     ensures { result ≡ stage_of pattern }
 {
-    if pattern == 15 {
-        return 14;
-    }
-    18
+    if pattern == 15 { 14 } else { 18 }
 }
 
 // How many of n digits, at most 32, are not what the recurrence makes, from digit p on behind the pattern's first: such a digit is the sum of the two
@@ -35,7 +32,7 @@ fn unmade_at(read: &[u8], pattern: usize, p: usize, n: usize) -> usize
     let stage = pattern + p - stage_of(pattern);
     let sum = words::read_digits(read, stage, n) ^ words::read_digits(read, p, n);
     let made = words::read_digits(read, pattern + p, n) ^ sum;
-    n - u64::count_ones(made) as usize
+    n - made.count_ones() as usize
 }
 
 // How many of n digits, at most 32, are wrong, from digit p on behind the pattern's first.
@@ -51,9 +48,10 @@ fn wrong_at(pattern: usize, sent: &[u8], read: &[u8], p: usize, n: usize) -> usi
         × (result ≤ n) }
 {
     if pattern == 0 {
-        return others_at(read, sent, p, n);
+        others_at(read, sent, p, n)
+    } else {
+        unmade_at(read, pattern, p, n)
     }
-    unmade_at(read, pattern, p, n)
 }
 
 // Of the n digits behind the pattern's first.
@@ -64,12 +62,9 @@ fn count_wrong(pattern: usize, sent: &[u8], read: &[u8], n: usize) -> usize
         × (n ≤ 65536) }
     ensures { result ≡ wrong_among pattern (digits_of sent.now) (digits_of read.now) n }
 {
-    let mut wrong: usize = 0;
-    let mut p: usize = 0;
-    while p < n {
-        let k = words::at_most(n - p, 32);
-        wrong += wrong_at(pattern, sent, read, p, k);
-        p += k;
+    let mut wrong = 0;
+    for p in (0..n).step_by(32) {
+        wrong += wrong_at(pattern, sent, read, p, (n - p).min(32));
     }
     wrong
 }
@@ -83,7 +78,8 @@ pub fn wrong_in(pattern: usize, sent: &[u8], read: &[u8], n: usize) -> usize
     ensures { result ≡ wrong_in pattern (digits_of sent.now) (take n (digits_of read.now)) }
 {
     if n <= pattern {
-        return 0;
+        0
+    } else {
+        count_wrong(pattern, sent, read, n - pattern)
     }
-    count_wrong(pattern, sent, read, n - pattern)
 }

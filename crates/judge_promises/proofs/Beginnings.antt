@@ -1,5 +1,6 @@
 -- If two readings fit, the digits of one are the beginning of the other's: with digits that are given, since both are the beginning of those; with a pattern, since no reading
 -- differs from another before the first justification place, and a pattern's digits go on from there by the recurrence alone.
+use Rattle.std.specs.Prelude.{Option, Some, None}
 use mathlib.Core.Path.{◌≡◌, refl, sym, ◌∙◌, ap, subst}
 use mathlib.Core.Bool.{Bool, cond, true, false}
 use mathlib.Core.List.{List, map}
@@ -15,8 +16,6 @@ use Rattle.digits.specs.Digits.{digits_of, tab}
 use Rattle.digits.proofs.Laws.{tab-of, map_at}
 use Rattle.digits.proofs.Sums.{sum-zero}
 use Rattle.table.specs.declared.Row.{Row}
-use Rattle.table.specs.declared.Level.{Level}
-use Rattle.table.specs.declared.Level.TheVariants.{Of, NoSuchLevel}
 use Rattle.table.specs.Table.{row2, row3, row4, row12, row14, level_of}
 use Rattle.levels.specs.Table.{Shared}
 use Rattle.levels.specs.Sizes.{quarter_of}
@@ -35,9 +34,9 @@ use Rattle.judge_promises.specs.Verdicts.{Question, JudgeAccepted, ReadsRight, B
 use Rattle.judge_promises.proofs.Fitting.{stage-least, judge-level, known-pattern, judged-places}
 
 -- a level's first set has room for more digits of a tributary than a pattern has stages
-abbrev Roomy : Level → Type 0
-Roomy (Of row) = row.first + 92 ≤ row.set
-Roomy NoSuchLevel = Unit {0}
+abbrev Roomy : Option Row → Type 0
+Roomy (Some row) = row.first + 92 ≤ row.set
+Roomy None = Unit {0}
 
 roomy : (level : ℕ) → Roomy (level_of level)
 unfolding level_of
@@ -131,7 +130,7 @@ module _ (pattern : ℕ) (sent xs ys : List ℕ) (x-due : wrong_in pattern sent 
       ∙ sym (tab-of (take n ys) n (λ (i : ℕ). get_or ys i 0) (length-take n ys ∙ omega arith) (λ i h. get_or-take n ys i 0 h))
 
 -- readings of one line begin alike
-module _ (level : ℕ) (q : Question) (ok : JudgeAccepted level q) (row : Row) (e : level_of level ≡ Of row) (j : ℕ) (hj : j < 4) (v w : List ℕ) where
+module _ (level : ℕ) (q : Question) (ok : JudgeAccepted level q) (row : Row) (e : level_of level ≡ Some row) (j : ℕ) (hj : j < 4) (v w : List ℕ) where
   abbrev F : ℕ
   F = length (majorities row q.line)
 

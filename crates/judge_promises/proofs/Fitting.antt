@@ -1,4 +1,5 @@
 -- What the answer says: a reading whose digits are what was sent has no wrong one and fits; and of which line each number speaks.
+use Rattle.std.specs.Prelude.{Some}
 use mathlib.Core.Path.{◌≡◌, refl, sym, ◌∙◌, ap}
 use mathlib.Core.Logic.{◌≢◌}
 use mathlib.Core.Bool.{Bool, cond, true, false, true≢false, not, ◌||◌}
@@ -17,13 +18,12 @@ use Rattle.digits.proofs.Laws.{tab-length}
 use Rattle.digits.proofs.Lists.{of_four}
 use Rattle.digits.proofs.Sums.{sum-all}
 use Rattle.table.specs.declared.Row.{Row}
-use Rattle.table.specs.declared.Level.TheVariants.{Of}
 use Rattle.table.specs.Table.{level_of}
 use Rattle.levels.specs.Sizes.{frames_of, bad_line, quarter_of}
 use Rattle.levels.proofs.Columns.{columns}
 use Rattle.levels.proofs.Judged.{unrefused, line-frames}
 use Rattle.promises.proofs.Accepted.{some_level, zero-refusal, shared}
-use Rattle.judge.specs.declared.Judged.{Judged}
+use Rattle.judge.specs.Verdict.{Judged}
 use Rattle.judge.specs.Readings.{majorities, read_by}
 use Rattle.judge.specs.Wrong.{stage_of, due_at, wrong_at, wrong_in}
 use Rattle.judge.specs.Verdict.{own_wrong, before_wrong, after_wrong, fitting, four, judgement, bad_pattern, number_of, refused_with, judged_on}
@@ -114,11 +114,11 @@ min-right a b e = omega (arith, e)
 
 -- an accepted question is answered on its level's row
 module _ (level : ℕ) (q : Question) where
-  pub judge-level : JudgeAccepted level q → (row : Row) × (level_of level ≡ Of row)
+  pub judge-level : JudgeAccepted level q → (row : Row) × (level_of level ≡ Some row)
   judge-level ok =
       some_level (λ (r : Judged). r.refusal ≡ 0) (level_of level) (λ (row : Row). judged_on row q.earlier q.line q.pattern q.buffer) (refused_with 1) (λ e. omega arith) ok
 
-  module _ (row : Row) (e : level_of level ≡ Of row) (ok : JudgeAccepted level q) where
+  module _ (row : Row) (e : level_of level ≡ Some row) (ok : JudgeAccepted level q) where
     abbrev number : ℕ
     number = number_of row q.earlier (length q.line) q.pattern (length q.buffer)
 
@@ -156,7 +156,7 @@ wrong_index row q index unknown j =
     wrong_in q.pattern (digits_of (quarter_of q.buffer j)) (read_by row q.line (acts_on row index q.earlier (majorities row q.line) unknown) j)
 
 -- where it has none for one of the votes that are tried, the answer says that it fits
-pub none-fits : (level : ℕ) (row : Row) (e : level_of level ≡ Of row) (q : Question) → JudgeAccepted level q → (index : Index) (t : Bool) (j : ℕ) → j < 4
+pub none-fits : (level : ℕ) (row : Row) (e : level_of level ≡ Some row) (q : Question) → JudgeAccepted level q → (index : Index) (t : Bool) (j : ℕ) → j < 4
     → wrong_index row q index (tried t) j ≡ 0 → Fits index (verdict level q) j
 unfolding judgement own_wrong before_wrong after_wrong
 none-fits level row e q ok index t j hj none = rw (answers level q row e ok) (go index t none)

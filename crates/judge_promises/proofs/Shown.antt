@@ -1,5 +1,6 @@
 -- For each index and each pattern a line is there that the theorems speak of. And the patterns are those of O.150: their first digits after a run of zeros, and no run of zeros
 -- is longer than 15 or 23.
+use Rattle.std.specs.Prelude.{Some}
 use mathlib.Core.Path.{◌≡◌, refl, sym, ◌∙◌, ap, subst}
 use mathlib.Core.Logic.{◌≢◌}
 use mathlib.Core.Bool.{Bool, cond, true, false}
@@ -17,7 +18,6 @@ use Rattle.digits.specs.Digits.{digits_of, tab, Binary}
 use Rattle.digits.proofs.Laws.{tab-length, tab-binary, binary-append, digits-of-bytes, bytes-length}
 use Rattle.digits.proofs.Lists.{differing-self}
 use Rattle.table.specs.declared.Row.{Row}
-use Rattle.table.specs.declared.Level.TheVariants.{Of}
 use Rattle.table.specs.Table.{level_of}
 use Rattle.levels.specs.Table.{Shared}
 use Rattle.levels.specs.Sizes.{frames_of}
@@ -200,7 +200,7 @@ zeros-binary zero i = omega arith
 zeros-binary (suc n) zero = omega arith
 zeros-binary (suc n) (suc i) = zeros-binary n i
 
-module _ (level : ℕ) (row : Row) (e : level_of level ≡ Of row) (index : Index) (pattern : ℕ) (some : pattern ≢ 0) (known : bad_pattern pattern ≡ false) (earlier : ℕ)
+module _ (level : ℕ) (row : Row) (e : level_of level ≡ Some row) (index : Index) (pattern : ℕ) (some : pattern ≢ 0) (known : bad_pattern pattern ≡ false) (earlier : ℕ)
     (fits : bad_earlier row earlier ≡ false) (notes : List ℕ) (few : length notes ≤ 64) (unknown : ℕ) where
   abbrev sh : Shared row
   sh = shared level row e

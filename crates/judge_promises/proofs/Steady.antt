@@ -1,4 +1,5 @@
 -- Where a tributary's decision never changes, the verdict cannot tell: if it fits by its own frame, it fits by the frame before and by the frame after too.
+use Rattle.std.specs.Prelude.{Option, Some}
 use mathlib.Core.Path.{◌≡◌, refl, sym, ◌∙◌, ap}
 use mathlib.Core.Bool.{Bool, cond, true, false}
 use mathlib.Core.List.{List, [], ◌∷◌, ◌++◌}
@@ -13,8 +14,6 @@ use Rattle.digits.specs.Digits.{digits_of}
 use Rattle.digits.proofs.Laws.{tab-length}
 use Rattle.digits.proofs.Sums.{sum-zero}
 use Rattle.table.specs.declared.Row.{Row}
-use Rattle.table.specs.declared.Level.{Level}
-use Rattle.table.specs.declared.Level.TheVariants.{Of}
 use Rattle.table.specs.Table.{level_of}
 use Rattle.levels.specs.Sizes.{on_level, frames_of, quarter_of}
 use Rattle.levels.specs.Order.{stuffed, decisions, has_negative}
@@ -111,13 +110,13 @@ unfolding judgement own_wrong read_by
 cannot-tell level q j ok hj never fits index =
     none-fits level row e q ok index (standing row j q.earlier notes hj same nor) j hj (ap (wrong_in q.pattern (digits_of (quarter_of q.buffer j))) taken ∙ none)
   where
-    on : (row : Row) × (level_of level ≡ Of row)
+    on : (row : Row) × (level_of level ≡ Some row)
     on = judge-level level q ok
 
     row : Row
     row = on.0
 
-    e : level_of level ≡ Of row
+    e : level_of level ≡ Some row
     e = on.1
 
     notes : List ℕ
@@ -129,7 +128,7 @@ cannot-tell level q j ok hj never fits index =
     facts : NeverChanges row q (verdict level q) j
     facts = on_row (level_of level) e never
       where
-        on_row : (l : Level) → l ≡ Of row → on_level l (λ (r : Row). NeverChanges r q (verdict level q) j) ⊥ → NeverChanges row q (verdict level q) j
+        on_row : (l : Option Row) → l ≡ Some row → on_level l (λ (r : Row). NeverChanges r q (verdict level q) j) ⊥ → NeverChanges row q (verdict level q) j
         on_row l h n = rw h at n
 
     same : (f : ℕ) → f < length notes → decisions notes j f ≡ decisions notes j 0

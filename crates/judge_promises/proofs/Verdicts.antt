@@ -1,5 +1,6 @@
 -- A line that a right, a late or an early multiplexer made fits by the reading that goes with it, whatever demand 3 allows was damaged. So where a reading does not fit, no
 -- such multiplexer made the line of these digits.
+use Rattle.std.specs.Prelude.{Option, Some}
 use mathlib.Core.Path.{◌≡◌, refl, sym, ◌∙◌, ap, subst}
 use mathlib.Core.Logic.{◌≢◌}
 use mathlib.Core.Bool.{Bool, cond, true, false}
@@ -12,8 +13,6 @@ use borrow.Author.Tests.{le-ltb}
 use Rattle.digits.specs.Digits.{digits_of, tab}
 use Rattle.digits.proofs.Laws.{digits-length, tab-length, tab-at, tab-of}
 use Rattle.table.specs.declared.Row.{Row}
-use Rattle.table.specs.declared.Level.{Level}
-use Rattle.table.specs.declared.Level.TheVariants.{Of}
 use Rattle.table.specs.Table.{level_of}
 use Rattle.levels.specs.Table.{Shared}
 use Rattle.levels.specs.Sizes.{on_level, frames_of, quarter_of, Accepted}
@@ -37,7 +36,7 @@ use Rattle.judge_promises.proofs.Readings.{Alike, acts-alike, tried, tried-bit, 
 use Rattle.judge_promises.proofs.Fitting.{none_wrong, judge-level, none-fits}
 
 -- on the level's row
-module _ (level : ℕ) (row : Row) (e : level_of level ≡ Of row) (q : Question) (ok : JudgeAccepted level q) (index : Index) (t : ℕ → List ℕ) (made : Made row index q.earlier t q.line) where
+module _ (level : ℕ) (row : Row) (e : level_of level ≡ Some row) (q : Question) (ok : JudgeAccepted level q) (index : Index) (t : ℕ → List ℕ) (made : Made row index q.earlier t q.line) where
   abbrev sh : Shared row
   sh = shared level row e
 
@@ -120,7 +119,7 @@ right-line row earlier notes t =
 abbrev pub asked : ℕ → Lent → List ℕ → Question
 asked earlier send line = record { earlier = earlier; line = line; pattern = 0; buffer = send.buffer }
 
-module _ (level earlier : ℕ) (row : Row) (e : level_of level ≡ Of row) (send : Lent) (ok : SendAccepted level earlier send) (line : List ℕ)
+module _ (level earlier : ℕ) (row : Row) (e : level_of level ≡ Some row) (send : Lent) (ok : SendAccepted level earlier send) (line : List ℕ)
     (damage : Damage row earlier send.notes (length send.notes) (digits_of (sent_line level earlier send)) (digits_of line)) where
   abbrev facts : Shared row
   facts = shared level row e
@@ -155,7 +154,7 @@ module _ (level earlier : ℕ) (row : Row) (e : level_of level ≡ Of row) (send
         damage = subst (λ (sent : List ℕ). Damage row earlier send.notes (length send.notes) sent (digits_of line)) as-made damage;
       }
 
-damage-on : (l : Level) (row : Row) → l ≡ Of row → (earlier : ℕ) (notes sent line : List ℕ)
+damage-on : (l : Option Row) (row : Row) → l ≡ Some row → (earlier : ℕ) (notes sent line : List ℕ)
     → on_level l (λ (r : Row). Damage r earlier notes (length notes) (digits_of sent) (digits_of line)) ⊥ → Damage row earlier notes (length notes) (digits_of sent) (digits_of line)
 damage-on l row e earlier notes sent line damaged = rw e at damaged
 

@@ -11,7 +11,7 @@ use Rattle.levels.specs.Line.{line_digit}
 use Rattle.promises.specs.Damage.{Damage}
 use Rattle.promises.specs.Carried.{Room}
 use Rattle.workbench.specs.Bench.{is_control}
-use Rattle.judge.specs.declared.Judged.{Judged}
+use Rattle.judge.specs.Verdict.{Judged}
 use Rattle.judge.specs.Readings.{majorities, read_by, own_votes, before_votes, after_votes}
 use Rattle.judge.specs.Wrong.{due_at, wrong_in}
 use Rattle.judge.specs.Verdict.{judged}

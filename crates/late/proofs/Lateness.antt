@@ -1,5 +1,6 @@
 -- Laws of the late multiplexer: the late notes are refused as the notes are, what is delayed frame by frame is the late notes, and what the call answers and
 -- leaves, by the level's row.
+use Rattle.std.specs.Prelude.{Option, Some, None}
 use mathlib.Core.Path.{◌≡◌, refl, sym, ap, ◌∙◌}
 use mathlib.Core.Bool.{Bool, true, false, not}
 use mathlib.Core.List.{List, [], ◌∷◌}
@@ -16,8 +17,6 @@ use borrow.Rule.Slice.PartMut.{put_mid, post_of, same_len_mid}
 use Rattle.digits.specs.Digits.{tab}
 use Rattle.digits.proofs.Laws.{tab-of}
 use Rattle.table.specs.declared.Row.{Row}
-use Rattle.table.specs.declared.Level.{Level}
-use Rattle.table.specs.declared.Level.TheVariants.{Of, NoSuchLevel}
 use Rattle.levels.specs.Table.{Shared}
 use Rattle.levels.specs.Places.{noted_of}
 use Rattle.levels.specs.Sizes.{on_level}
@@ -105,28 +104,28 @@ module _ (earlier : ℕ) (line notes buffer : List ℕ) where
   abbrev found : Row → ℕ
   found row = (send_fault_of row earlier (length line) notes (length buffer)).refusal
 
-  abbrev Answers : Level → Type 0
+  abbrev Answers : Option Row → Type 0
   Answers l =
       on_level l (λ (row : Row). answer_by row earlier (late_notes earlier notes) (send_fault_of row earlier (length line) (late_notes earlier notes) (length buffer))) (refused_with (fault 1 0))
       ≡ on_level l (λ (row : Row). answer_by row earlier (late_notes earlier notes) (send_fault_of row earlier (length line) notes (length buffer))) (refused_with (fault 1 0))
 
-  pub answers-same : (l : Level) → Answers l
-  answers-same (Of row) = rw (same-fault row earlier (length line) earlier notes (length buffer)) refl
-  answers-same NoSuchLevel = refl
+  pub answers-same : (l : Option Row) → Answers l
+  answers-same (Some row) = rw (same-fault row earlier (length line) earlier notes (length buffer)) refl
+  answers-same None = refl
 
-  pub left-same : (said : List ℕ) → length said ≡ length line → (l : Level)
+  pub left-same : (said : List ℕ) → length said ≡ length line → (l : Option Row)
       → on_level l
       (λ (row : Row).
       left_by (send_fault_of row earlier (length line) (late_notes earlier notes) (length buffer))
       (mixed_line row (line_on row earlier said notes buffer) (line_on row earlier line (late_notes earlier notes) buffer)) line)
       line
       ≡ on_level l (λ (row : Row). left_by (send_fault_of row earlier (length line) notes (length buffer)) (late_line_of row earlier notes buffer (length line)) line) line
-  left-same said e (Of row) =
+  left-same said e (Some row) =
       elim (ℕ_discrete (found row) 0) [
         | yes z ↦ rw (same-fault row earlier (length line) earlier notes (length buffer), e, eq-eqb (found row) 0 z) refl
         | no n ↦ rw (same-fault row earlier (length line) earlier notes (length buffer), ne_eqb (found row) 0 n) refl
       ]
-  left-same said e NoSuchLevel = refl
+  left-same said e None = refl
 
   -- what is too long for its room is refused: an accepted line has at most 64 frames
   module _ (long : length notes ≤ 64 → 23424 < length line) where
@@ -136,14 +135,14 @@ module _ (earlier : ℕ) (line notes buffer : List ℕ) where
         let most = mul-le-mul {n₁ = _} {m₁ = row.bytes} {n₂ = 64} {m₂ = 366} ok.few (omega (arith, sh.packed, sh.short)) in
         omega (arith, ok.frames, most, long (omega (arith, ok.noted, ok.few)))
 
-    pub long-answers : (l : Level) → ((row : Row) → l ≡ Of row → Shared row)
+    pub long-answers : (l : Option Row) → ((row : Row) → l ≡ Some row → Shared row)
         → on_level l (λ (row : Row). answer_by row earlier notes (send_fault_of row earlier (length line) notes (length buffer))) (refused_with (fault 1 0))
         ≡ on_level l (λ (row : Row). answer_by row earlier (late_notes earlier notes) (send_fault_of row earlier (length line) notes (length buffer))) (refused_with (fault 1 0))
-    long-answers (Of row) known = rw (ne_eqb (found row) 0 (at-fault row (known row refl))) refl
-    long-answers NoSuchLevel known = refl
+    long-answers (Some row) known = rw (ne_eqb (found row) 0 (at-fault row (known row refl))) refl
+    long-answers None known = refl
 
-    pub long-left : (l : Level) → ((row : Row) → l ≡ Of row → Shared row)
+    pub long-left : (l : Option Row) → ((row : Row) → l ≡ Some row → Shared row)
         → on_level l (λ (row : Row). line_on row earlier line notes buffer) line
         ≡ on_level l (λ (row : Row). left_by (send_fault_of row earlier (length line) notes (length buffer)) (late_line_of row earlier notes buffer (length line)) line) line
-    long-left (Of row) known = rw (ne_eqb (found row) 0 (at-fault row (known row refl))) refl
-    long-left NoSuchLevel known = refl
+    long-left (Some row) known = rw (ne_eqb (found row) 0 (at-fault row (known row refl))) refl
+    long-left None known = refl

@@ -6,7 +6,7 @@ use Rattle.digits.specs.Digits.{digits_of}
 use Rattle.table.specs.declared.Row.{Row}
 use Rattle.table.specs.Table.{level_of}
 use Rattle.levels.specs.Sizes.{on_level, quarter_of}
-use Rattle.levels.specs.declared.faults.Counted.{Counted}
+use Rattle.levels.specs.Faults.{Counted}
 use Rattle.levels.specs.Faults.{fault, send_fault_of, answer_by, refused_with, left_by}
 use Rattle.levels.specs.Line.{line_of}
 use Rattle.workbench.specs.Bench.{decided_by, mixed_line}

@@ -3,9 +3,10 @@
 #![tactic(auto)]
 
 ghost use Rattle.std.specs.Prelude.{◌≡◌, ◌≤◌, length};
+ghost use Rattle.levels.specs.Faults.{numbers_of};
 ghost use Rattle.late.specs.Late.{Delayed, LateMet};
 
-use levels::faults::Counted;
+use levels::faults::Refused;
 
 // The most frames of a line, and the most bytes: 64 frames of level 4.
 const FRAMES: usize = 64;
@@ -37,9 +38,15 @@ fn delayed(notes: &[u8], before: u64) -> [u8; 64]
 }
 
 // A line and notes that are short enough for their rooms.
-fn late_in_room(level: u64, earlier: u64, line: &mut [u8], notes: &[u8], buffer: &[u8]) -> Counted
+fn late_in_room(
+    level: u64,
+    earlier: u64,
+    line: &mut [u8],
+    notes: &[u8],
+    buffer: &[u8],
+) -> Result<[usize; 4], Refused>
     requires { (length notes.now ≤ 64) × (length line.old ≤ 23424) }
-    ensures { LateMet level earlier line.old notes.now buffer.now result line.new }
+    ensures { LateMet level earlier line.old notes.now buffer.now (numbers_of result) line.new }
 {
     let late = delayed(notes, earlier);
     let frames = notes.len();
@@ -63,14 +70,12 @@ pub fn late_multiplex(
     line: &mut [u8],
     notes: &[u8],
     buffer: &[u8],
-) -> Counted
-    ensures { LateMet level earlier line.old notes.now buffer.now result line.new }
+) -> Result<[usize; 4], Refused>
+    ensures { LateMet level earlier line.old notes.now buffer.now (numbers_of result) line.new }
 {
-    if FRAMES < notes.len() {
-        return multiplex::multiplex(level, earlier, line, notes, buffer);
+    if FRAMES < notes.len() || BYTES < line.len() {
+        multiplex::multiplex(level, earlier, line, notes, buffer)
+    } else {
+        late_in_room(level, earlier, line, notes, buffer)
     }
-    if BYTES < line.len() {
-        return multiplex::multiplex(level, earlier, line, notes, buffer);
-    }
-    late_in_room(level, earlier, line, notes, buffer)
 }

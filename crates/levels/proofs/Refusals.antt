@@ -7,11 +7,11 @@ use Prim.Native.Nat.{ℕ, zero, suc, ◌+◌, ◌^◌, ◌≤◌, ◌<◌}
 use native.Mathlib.Omega.{arith}
 use native.Mathlib.Decide.{ℕ_discrete}
 use native.Mathlib.Nat.{not-suc-le-zero}
-use lib.Dec.{eqb, ltb, leb}
+use lib.Dec.{eqb, ltb}
 use lib.ListN.{length, get_or}
 use borrow.Author.Tests.{lt-ltb, le-ltb, eq-eqb, ne_eqb, lt-leb, leb-false, ltb-false}
 use Rattle.table.specs.declared.Row.{Row}
-use Rattle.levels.specs.declared.faults.Fault.{Fault}
+use Rattle.levels.specs.Faults.{Fault}
 use Rattle.levels.specs.Sizes.{size_refusal, Accepted}
 use Rattle.levels.specs.Places.{noted_of}
 use Rattle.levels.specs.Order.{counts_of}

@@ -1,10 +1,11 @@
 -- What a call that goes by notes is judged by, and what it answers: multiplexing, and extracting by notes. Document 01, "Refusal numbers" and
 -- "Multiplexing and demultiplexing from a known start"; document 02, requests 7, 10 and 14. A fault is a refusal number and the frame that it names; the
 -- first that applies is answered.
-use Rattle.std.specs.Prelude.{Bool, cond, not, ◌&&◌, List, [], ◌∷◌, ℕ, suc, ◌+◌, ◌-◌, ◌*◌, ◌/◌, ◌%◌, ◌^◌, eqb, ltb, leb, length}
+use Rattle.std.specs.Prelude.{Bool, cond, not, ◌&&◌, List, [], ◌∷◌, ℕ, suc, ◌+◌, ◌-◌, ◌*◌, ◌/◌, ◌%◌, ◌^◌, eqb, ltb, leb, length, Result, Ok, Err}
 use Rattle.table.specs.declared.Row.{Row}
-use Rattle.levels.specs.declared.faults.Fault.{Fault}
-use Rattle.levels.specs.declared.faults.Counted.{Counted}
+use Rattle.refusal.specs.declared.Refusal.{Refusal}
+use Rattle.refusal.specs.Refusal.{number_of}
+use Rattle.levels.specs.declared.faults.Refused.{Refused}
 use Rattle.table.specs.Table.{level_of}
 use Rattle.levels.specs.Sizes.{on_level, size_refusal}
 use Rattle.levels.specs.Places.{noted_of}
@@ -14,6 +15,17 @@ use Rattle.levels.specs.Order.{has_negative, counts_of}
 unfoldable pub first_with : (ℕ → Bool) → List ℕ → ℕ
 first_with test [] = 0
 first_with test (note ∷ notes) = cond (test note) 0 (suc (first_with test notes))
+
+-- why a call is refused, as a number, and the frame that the refusal names; number 0 where nothing is at fault
+pub record Fault : Type 0 where
+  pub refusal : ℕ
+  pub frame : ℕ
+
+-- a call's answer as numbers: the refusal, 0 for none, the frame that it names, and the digits of each tributary
+pub record Counted : Type 0 where
+  pub refusal : ℕ
+  pub frame : ℕ
+  pub counts : List ℕ
 
 -- a number that names a frame; "the named frame is 0 except under 5", and 10
 abbrev pub fault : ℕ → ℕ → Fault
@@ -75,6 +87,22 @@ counted row earlier notes = record { refusal = 0; frame = 0; counts = counts_of 
 -- the answer where a call is at fault so, or not
 abbrev pub answer_by : Row → ℕ → List ℕ → Fault → Counted
 answer_by row earlier notes found = cond (eqb found.refusal 0) (counted row earlier notes) (refused_with found)
+
+-- a refusal that names no frame
+abbrev pub naming_none : Refusal → Refused
+naming_none refusal = record { refusal = refusal; frame = 0 }
+
+-- the fault in what the code answers, and the numbers of such an answer
+abbrev pub fault_by : Refused → Fault
+fault_by refused = fault (number_of refused.refusal) refused.frame
+
+abbrev pub fault_in : {A : Type 0} → Result A Refused → Fault
+fault_in (Ok _) = fault 0 0
+fault_in (Err refused) = fault_by refused
+
+abbrev pub numbers_of : Result (List ℕ) Refused → Counted
+numbers_of (Ok counts) = record { refusal = 0; frame = 0; counts = counts }
+numbers_of (Err refused) = refused_with (fault_by refused)
 
 -- what is left of the bytes lent for writing: new ones, or they as they were
 abbrev pub left_by : Fault → List ℕ → List ℕ → List ℕ

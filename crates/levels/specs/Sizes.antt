@@ -1,15 +1,13 @@
 -- What the lengths of a call are judged by: refusals 1 to 4 of document 01, "Refusal numbers", and F, the number of frames.
 -- The level comes first: a call goes on with the level's row or is refused with 1.
-use Rattle.std.specs.Prelude.{◌≡◌, Bool, cond, ◌||◌, not, List, ℕ, ◌*◌, ◌/◌, ◌%◌, ◌≤◌, eqb, ltb, length, take, drop}
+use Rattle.std.specs.Prelude.{◌≡◌, Bool, cond, ◌||◌, not, List, ℕ, ◌*◌, ◌/◌, ◌%◌, ◌≤◌, eqb, ltb, length, take, drop, Option, Some, None}
 use Rattle.table.specs.declared.Row.{Row}
-use Rattle.table.specs.declared.Level.{Level}
-use Rattle.table.specs.declared.Level.TheVariants.{Of, NoSuchLevel}
 use Rattle.levels.specs.Table.{Shared}
 
 -- go on with a level's row, or answer that there is no such level
-abbrev pub on_level {ℓ} : {A : Type ℓ} → Level → (Row → A) → A → A
-on_level (Of row) go none = go row
-on_level NoSuchLevel go none = none
+abbrev pub on_level {ℓ} : {A : Type ℓ} → Option Row → (Row → A) → A → A
+on_level (Some row) go none = go row
+on_level None go none = none
 
 -- F is the line's length divided by the frame bytes
 abbrev pub frames_of : Row → ℕ → ℕ

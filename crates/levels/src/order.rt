@@ -28,9 +28,10 @@ pub fn preceding_of(earlier: u64, notes: &[u8], f: usize) -> u64
     ensures { result ≡ get_or (earlier ∷ notes.now) f 0 }
 {
     if f == 0 {
-        return earlier;
+        earlier
+    } else {
+        u64::from(notes[f - 1])
     }
-    notes[f - 1] as u64
 }
 
 // Whether a note says that tributary j (from 0) is stuffed.
@@ -53,25 +54,21 @@ fn by_own(own: bool) -> Action
     ensures { result ≡ by_own own }
 {
     if own {
-        return Action::Stuffed;
+        Action::Stuffed
+    } else {
+        Action::PositiveCarries
     }
-    Action::PositiveCarries
 }
 
 // By the preceding frame's vote and its own.
 fn by_both(preceding: bool, own: bool) -> Action
     ensures { result ≡ by_both preceding own }
 {
-    if own {
-        if preceding {
-            return Action::Stuffed;
-        }
-        return Action::PositiveCarries;
+    match (preceding, own) {
+        (true, true) => Action::Stuffed,
+        (false, false) => Action::BothCarry,
+        _ => Action::PositiveCarries,
     }
-    if preceding {
-        return Action::PositiveCarries;
-    }
-    Action::BothCarry
 }
 
 // What a frame with this note, after one with the preceding note, does for tributary j (from 0).
@@ -81,30 +78,23 @@ pub fn action_of(row: Row, preceding: u64, note: u8, j: usize) -> Action
 {
     let own = is_stuffed(note, j);
     if has_negative(row) {
-        return by_both((preceding >> j) % 2 == 1, own);
+        by_both((preceding >> j) % 2 == 1, own)
+    } else {
+        by_own(own)
     }
-    by_own(own)
 }
 
 // Whether the negative place carries, and whether the positive place does, in a frame that acts so.
 fn negative_carries(act: Action) -> bool
     ensures { result ≡ both_carry act }
 {
-    match act {
-        Action::Stuffed => false,
-        Action::PositiveCarries => false,
-        Action::BothCarry => true,
-    }
+    matches!(act, Action::BothCarry)
 }
 
 fn positive_carries(act: Action) -> bool
     ensures { result ≡ not (is_stuffed act) }
 {
-    match act {
-        Action::Stuffed => false,
-        Action::PositiveCarries => true,
-        Action::BothCarry => true,
-    }
+    !matches!(act, Action::Stuffed)
 }
 
 // Whether a justification place carries a digit, in a frame that acts so.
@@ -124,9 +114,7 @@ pub fn carries_digit(row: Row, kind: Kind, preceding: u64, note: u8, j: usize) -
     ensures { result ≡ carried kind (acts_by row preceding note j) }
 {
     match kind {
-        Kind::Word => false,
-        Kind::Service(_) => false,
-        Kind::Control => false,
+        Kind::Word | Kind::Service(_) | Kind::Control => false,
         Kind::Justification(sign) => justification_carries(
             sign,
             action_of(row, preceding, note, j),

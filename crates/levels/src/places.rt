@@ -66,7 +66,7 @@ fn service_digit(row: Row, k: usize) -> ServiceDigit
     }
 }
 
-// Place r of a first set whose word has eight digits.
+// Place r of a first set whose word has eight digits. The ranges of a `match` are constants, so each length of a word has a function of its own.
 fn head_of_eight(row: Row, r: usize) -> Kind
     requires { Shared row × (row.len ≡ 8) × (row.first ≡ 8) }
     ensures { result ≡ first_set row r }
@@ -107,12 +107,12 @@ fn first_set(row: Row, r: usize) -> Kind
     ensures { result ≡ first_set row r }
 {
     if row.len == TEN_END + 1 {
-        return head_of_ten(row, r);
+        head_of_ten(row, r)
+    } else if row.len == TWELVE_END + 1 {
+        head_of_twelve(row, r)
+    } else {
+        head_of_eight(row, r)
     }
-    if row.len == TWELVE_END + 1 {
-        return head_of_twelve(row, r);
-    }
-    head_of_eight(row, r)
 }
 
 // Place r of a set between the first and the last.
@@ -163,14 +163,13 @@ pub fn kind_of(row: Row, at: At) -> Kind
     requires { Shared row }
     ensures { result ≡ kind_of row at.set at.place }
 {
-    let r = at.place;
     if at.set == 0 {
-        return first_set(row, r);
+        first_set(row, at.place)
+    } else if at.set == row.sets - 1 {
+        last_set(row, at.place)
+    } else {
+        middle_set(row, at.place)
     }
-    if at.set == row.sets - 1 {
-        return last_set(row, r);
-    }
-    middle_set(row, r)
 }
 
 // Where the head of a set ends: its first tributary place. From there to the set's end is a run of tributary digits.
@@ -179,12 +178,12 @@ pub fn head_end(row: Row, set: usize) -> usize
     ensures { result ≡ head_end row set }
 {
     if set == 0 {
-        return row.first;
+        row.first
+    } else if set == row.sets - 1 {
+        row.last
+    } else {
+        row.middle
     }
-    if set == row.sets - 1 {
-        return row.last;
-    }
-    row.middle
 }
 
 // Where a place of a frame stands, in a line of this one frame.
@@ -192,11 +191,10 @@ pub fn at_place(row: Row, p: FramePlace) -> At
     requires { Shared row × (p.0 < row.digits) }
     ensures { result ≡ pos_of row p.0 }
 {
-    let k = p.0;
     At {
         frame: 0,
-        set: k / row.set,
-        place: k % row.set,
+        set: p.0 / row.set,
+        place: p.0 % row.set,
     }
 }
 
@@ -212,21 +210,14 @@ pub fn kind_at(row: Row, p: FramePlace) -> Kind
 pub fn is_own(kind: Kind) -> bool
     ensures { result ≡ is_own kind }
 {
-    match kind {
-        Kind::Word => false,
-        Kind::Service(_) => false,
-        Kind::Control => true,
-        Kind::Justification(_) => true,
-        Kind::Tributary => true,
-    }
+    !matches!(kind, Kind::Word | Kind::Service(_))
 }
 
 // Whose a place of a frame is: the tributary, from 0, is the remainder by four.
 pub fn tributary_at(p: FramePlace) -> usize
     ensures { result ≡ p.0 % 4 }
 {
-    let k = p.0;
-    k % 4
+    p.0 % 4
 }
 
 // The next column: four places on. A call's line has at most 64 frames.
@@ -235,24 +226,20 @@ pub fn next_column(row: Row, at: At) -> At
     ensures { (p : ℕ) → at ≡ pos_of row p → result ≡ pos_of row (p + 4) }
 {
     let place = at.place + 4;
-    if place < row.set {
-        return At {
-            frame: at.frame,
-            set: at.set,
-            place,
-        };
-    }
     let set = at.set + 1;
-    if set < row.sets {
-        return At {
-            frame: at.frame,
+    if place < row.set {
+        At { place, ..at }
+    } else if set < row.sets {
+        At {
             set,
             place: place - row.set,
-        };
-    }
-    At {
-        frame: at.frame + 1,
-        set: 0,
-        place: place - row.set,
+            ..at
+        }
+    } else {
+        At {
+            frame: at.frame + 1,
+            set: 0,
+            place: place - row.set,
+        }
     }
 }

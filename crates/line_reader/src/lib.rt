@@ -62,8 +62,5 @@ pub fn line_digit(line: &[u8], place: usize) -> u64
     ensures { DigitMet line.now place result }
 {
     let s = step_at(line, place);
-    if s.ended {
-        return 2;
-    }
-    s.digit as u64
+    if s.ended { 2 } else { s.digit as u64 }
 }

@@ -12,10 +12,7 @@ ghost use Rattle.masks.specs.Masks.{differing, EVERY, nibbles, Even, all_from, c
 pub fn at_most(n: usize, most: usize) -> usize
     ensures { result ≡ min n most }
 {
-    if n < most {
-        return n;
-    }
-    most
+    n.min(most)
 }
 
 // A one in each of fourteen groups of four digits.
@@ -91,8 +88,9 @@ fn by_fourteen(one: &[u8], other: &[u8], p: usize, k: usize) -> Lanes
         fourth: 0,
         columns: 0,
     };
-    while l.columns + 16 <= k {
-        let x = many(one, other, p + 4 * l.columns);
+    // eight bytes are read for fourteen columns, so that a turn needs sixteen
+    for turn in 0..k.saturating_sub(2) / 14 {
+        let x = many(one, other, p + 56 * turn);
         l = more(l, x, 14);
     }
     l
@@ -188,10 +186,10 @@ pub fn count_few(one: &[u8], other: &[u8], p: usize, k: usize, base: usize, sums
     ensures { sums.new ≡ added_four sums.old base (λ (j : ℕ). columns_of one.now other.now p j k) }
 {
     if k == 1 {
-        count_column(one, other, p, base, sums);
-        return;
+        count_column(one, other, p, base, sums)
+    } else {
+        count_columns(one, other, p, k, base, sums)
     }
-    count_columns(one, other, p, k, base, sums);
 }
 
 // n places of one sum from place p on, at most 32.

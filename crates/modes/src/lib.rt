@@ -19,12 +19,7 @@ pub enum Mode {
 pub fn is_hunting(mode: Mode) -> bool
     ensures { result ≡ hunting mode }
 {
-    match mode {
-        Mode::Hunting => true,
-        Mode::OneFound => false,
-        Mode::TwoFound => false,
-        Mode::Aligned(_) => false,
-    }
+    matches!(mode, Mode::Hunting)
 }
 
 // A state without its level and its frame: what goes round in the loop.
@@ -41,9 +36,7 @@ pub fn missed_of(mode: Mode) -> u8
     ensures { result ≡ missed mode }
 {
     match mode {
-        Mode::Hunting => 0,
-        Mode::OneFound => 0,
-        Mode::TwoFound => 0,
+        Mode::Hunting | Mode::OneFound | Mode::TwoFound => 0,
         Mode::Aligned(m) => m,
     }
 }
@@ -68,10 +61,7 @@ fn window_of(row: Row, mask: usize, window: usize, d: u8) -> usize
 fn seen_of(row: Row, seen: usize) -> usize
     ensures { result ≡ seen_of row seen }
 {
-    if seen < row.len {
-        return seen + 1;
-    }
-    seen
+    if seen < row.len { seen + 1 } else { seen }
 }
 
 // Whether the last L digits are the word.
@@ -87,9 +77,10 @@ fn asks_word(row: Row, seen: usize, mode: Mode, place: usize) -> bool
     ensures { result ≡ asks row seen mode place }
 {
     if is_hunting(mode) {
-        return row.len <= seen;
+        row.len <= seen
+    } else {
+        place + 1 == row.digits
     }
-    place + 1 == row.digits
 }
 
 // The mode once the word was asked for.
@@ -97,25 +88,12 @@ fn judge(mode: Mode, found: bool) -> Mode
     requires { missed mode ≤ 3 }
     ensures { result ≡ judged mode found }
 {
-    if found {
-        return match mode {
-            Mode::Hunting => Mode::OneFound,
-            Mode::OneFound => Mode::TwoFound,
-            Mode::TwoFound => Mode::Aligned(0),
-            Mode::Aligned(_) => Mode::Aligned(0),
-        };
-    }
-    match mode {
-        Mode::Hunting => Mode::Hunting,
-        Mode::OneFound => Mode::Hunting,
-        Mode::TwoFound => Mode::Hunting,
-        Mode::Aligned(m) => {
-            if m + 1 == 4 {
-                Mode::Hunting
-            } else {
-                Mode::Aligned(m + 1)
-            }
-        }
+    match (mode, found) {
+        (Mode::Hunting, true) => Mode::OneFound,
+        (Mode::OneFound, true) => Mode::TwoFound,
+        (Mode::TwoFound | Mode::Aligned(_), true) => Mode::Aligned(0),
+        (Mode::Aligned(m), false) if m + 1 != 4 => Mode::Aligned(m + 1),
+        (_, false) => Mode::Hunting,
     }
 }
 
@@ -124,10 +102,7 @@ fn place_after(mode: Mode, place: usize) -> usize
     requires { place < 2928 }
     ensures { result ≡ place_after mode place }
 {
-    if is_hunting(mode) {
-        return 0;
-    }
-    place + 1
+    if is_hunting(mode) { 0 } else { place + 1 }
 }
 
 // What one digit makes of a core, and how many words it tests: one or none.
@@ -147,7 +122,7 @@ pub fn step(row: Row, mask: usize, c: Core, d: u8) -> Stepped
     let seen = seen_of(row, c.seen);
     if asks_word(row, seen, mode, c.place) {
         let judged = judge(mode, is_good(row, window));
-        return Stepped {
+        Stepped {
             core: Core {
                 window,
                 seen,
@@ -155,16 +130,17 @@ pub fn step(row: Row, mask: usize, c: Core, d: u8) -> Stepped
                 place: 0,
             },
             words: 1,
-        };
-    }
-    let place = place_after(mode, c.place);
-    Stepped {
-        core: Core {
-            window,
-            seen,
-            mode,
-            place,
-        },
-        words: 0,
+        }
+    } else {
+        let place = place_after(mode, c.place);
+        Stepped {
+            core: Core {
+                window,
+                seen,
+                mode,
+                place,
+            },
+            words: 0,
+        }
     }
 }

@@ -16,10 +16,10 @@ use borrow.Fn.World.{ArgsD, ResD}
 use borrow.Author.Tests.{eq-eqb}
 use Rattle.digits.specs.Digits.{digits_of, Bytes}
 use Rattle.digits.proofs.Laws.{digits-inj, digits-length, part-digit, bytes-by-place}
-use Rattle.multiframe.specs.declared.Built.{Built}
 use Rattle.multiframe.specs.declared.Kind.TheVariants.{Channel}
 use Rattle.multiframe.specs.Multiframe.{channel_from, digit_for, multiframe_of}
-use Rattle.multiframe.specs.Calls.{lengths_right, first_silent, built_of, BuildMet, Taken, ApartMet}
+use Rattle.refusal.specs.Refusal.{refusal_in}
+use Rattle.multiframe.specs.Calls.{Built, numbers_of, lengths_right, first_silent, built_of, BuildMet, Taken, ApartMet}
 use Rattle.multiframe.specs.Trips.{FixedRight, channel_bytes, SameAt}
 use Rattle.multiframe.proofs.Lengths.{right-lengths}
 use Rattle.multiframe.proofs.Told.{Told, fixed, spare, signalled, channelled, told, signalling-there}
@@ -212,11 +212,11 @@ apart-one-answer multiframe channels signalling spares r r' c s x c' s' x' one o
 -- ---- what the calls ensure is their statements
 
 pub build-met : (κs : Lfts 4) (a : ArgsD build.signature κs) (r : ResD build.signature κs) (e : AtExit build.ended κs) → build-reads.Learnt κs a r e
-    → BuildMet a.0.now a.1.0.now a.1.1.0.now a.1.1.1.0.now r e.0.now
+    → BuildMet a.0.now a.1.0.now a.1.1.0.now a.1.1.1.0.now (numbers_of r) e.0.now
 build-met κs a r e met = met
 
 pub apart-met : (κs : Lfts 4) (a : ArgsD apart.signature κs) (r : ResD apart.signature κs) (e : AtExit apart.ended κs) → apart-reads.Learnt κs a r e
-    → ApartMet a.0.now a.1.0.now a.1.1.0.now a.1.1.1.0.now r e.1.0.now e.1.1.0.now e.1.1.1.0.now
+    → ApartMet a.0.now a.1.0.now a.1.1.0.now a.1.1.1.0.now (refusal_in r) e.1.0.now e.1.1.0.now e.1.1.1.0.now
 apart-met κs a r e met = met
 
 -- ---- and they ask nothing of their callers

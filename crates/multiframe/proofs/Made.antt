@@ -12,7 +12,7 @@ use lib.Dec.{eqb, ltb, lit<}
 use lib.ListN.{length, get_or, set, get_or-append}
 use lib.Seq.{get_or-set_same, get_or-set_other, get_or-take, get_or-append-add}
 use borrow.Author.Tests.{eq-eqb, ne_eqb, eqb-true, ltb-true}
-use Rattle.digits.specs.Digits.{digits_of, byte_of, tab, Bytes, Binary}
+use Rattle.digits.specs.Digits.{digits_of, byte_of, Bytes, Binary}
 use Rattle.digits.proofs.Bits.{eight-at, eight-byte}
 use Rattle.digits.proofs.Lists.{each-binary}
 use Rattle.digits.proofs.Laws.{digit_at, digits-binary, bytes-by-place, bytes-length, bytes-are-bytes, digits-of-bytes, tab-at, binary-append, map-binary, map_at, zeros-at}

@@ -1,13 +1,18 @@
 -- A channel from 1 to 15 is silent exactly where its byte of the signalling is under 16.
-use mathlib.Core.Path.{◌≡◌, refl, sym, ◌∙◌}
+use mathlib.Core.Path.{◌≡◌, refl, sym, ap, ◌∙◌}
+use mathlib.Core.Bool.{Bool}
 use mathlib.Core.Logic.{◌≢◌}
 use mathlib.Core.List.{List}
-use Prim.Native.Nat.{ℕ, suc, ◌+◌, ◌-◌, ◌*◌, ◌/◌, ◌%◌, ◌^◌, ◌≤◌, ◌<◌}
+use Prim.Native.Nat.{ℕ, zero, suc, ◌+◌, ◌-◌, ◌*◌, ◌/◌, ◌%◌, ◌^◌, ◌≤◌, ◌<◌}
 use native.Mathlib.Numerals.{add-one}
 use native.Mathlib.Omega.{arith}
-use lib.Dec.{eqb}
-use lib.ListN.{get_or}
-use borrow.Author.Tests.{eq-eqb, ne_eqb, le-leb}
+use native.Mathlib.Decide.{dec_lt}
+use lib.Dec.{ltb}
+use lib.ListN.{length, get_or}
+use borrow.Author.Tests.{eq-eqb, ne_eqb, le-leb, lt-ltb, le-ltb, ltb-true, ltb-false}
+use Rattle.std.specs.Prelude.{Some, None}
+use Rattle.std.specs.List.{position, position_or_len}
+use Rattle.std.proofs.lemmas.List.Sums.{fails_before_first, passes_at_first}
 use Rattle.digits.specs.Digits.{digits_of}
 use Rattle.digits.proofs.Laws.{digit_at}
 use Rattle.multiframe.specs.Calls.{ones_of, silent_from}
@@ -74,3 +79,66 @@ module _ (signalling : List ℕ) (c : ℕ) (lo : 1 ≤ c) (hi : c < 16) (byte : 
   pub goes_on : (n : ℕ) → 16 ≤ b → silent_from signalling c (suc n) ≡ silent_from signalling (c + 1) n
   unfolding silent_from
   goes_on n h = rw (ne_eqb (ones_of signalling c) 0 (not-silent h), add-one c)
+
+-- ---- the first silent channel, by where std's search stops
+
+module _ (signalling : List ℕ) (byte : (i : ℕ) → get_or signalling i 0 < 256) where
+  -- channels 1 to i are not silent: the search goes on from channel i + 1
+  passed : (i : ℕ) → i ≤ 15 → ((k : ℕ) → k < i → 16 ≤ get_or signalling k 0) → silent_from signalling 1 15 ≡ silent_from signalling (i + 1) (15 - i)
+  passed zero h over = refl
+  passed (suc i) h over =
+      let e : i + 1 - 1 ≡ i = omega arith in
+      let n : 15 - i ≡ suc (15 - suc i) = omega arith in
+      let m : i + 1 + 1 ≡ suc i + 1 = omega arith in
+      let on = goes_on signalling (i + 1) (omega arith) (omega arith) (byte (i + 1 - 1)) (15 - suc i) (rw e (over i (omega arith))) in
+      passed i (omega arith) (λ k l. over k (omega arith))
+      ∙ ap (λ (k : ℕ). silent_from signalling (i + 1) k) n
+      ∙ on
+      ∙ ap (λ (k : ℕ). silent_from signalling k (15 - suc i)) m
+
+  abbrev under : ℕ → Bool
+  under byte = ltb byte 16
+
+  abbrev first : ℕ
+  first = position_or_len under signalling
+
+  before : (k : ℕ) → k < first → 16 ≤ get_or signalling k 0
+  before k h = ltb-false (get_or signalling k 0) 16 (fails_before_first under signalling k 0 h)
+
+  at_first : length signalling ≡ 15 → first < 15 → silent_from signalling 1 15 ≡ first + 1
+  at_first l h =
+      let e : first + 1 - 1 ≡ first = omega arith in
+      let n : 15 - first ≡ suc (14 - first) = omega arith in
+      let low : get_or signalling first 0 < 16 = ltb-true (get_or signalling first 0) 16 (passes_at_first under signalling 0 (omega arith)) in
+      passed first (omega arith) before
+      ∙ ap (λ (k : ℕ). silent_from signalling (first + 1) k) n
+      ∙ stops signalling (first + 1) (omega arith) (omega arith) (byte (first + 1 - 1)) (14 - first) (rw e low)
+
+  nowhere : 15 ≤ first → silent_from signalling 1 15 ≡ 0
+  unfolding silent_from
+  nowhere h = passed 15 (omega arith) (λ k l. before k (omega arith))
+
+  pub named : (i : ℕ) → length signalling ≡ 15 → Some i ≡ position under signalling → silent_from signalling 1 15 ≡ i + 1
+  named i l e =
+      elim (dec_lt first 15) [
+        | yes h ↦
+            let is : i ≡ first = some (rw (l, lt-ltb first 15 h) at e) in
+            at_first l h ∙ ap (λ (k : ℕ). k + 1) (sym is)
+        | no h ↦ absurd (none-some (rw (l, le-ltb first 15 (omega arith)) at e))
+      ]
+    where
+      some : {x : ℕ} → Some i ≡ Some x → i ≡ x
+      some e = cc
+
+      none-some : Some i ≡ None → ⊥
+      none-some e = cc
+
+  pub unnamed : length signalling ≡ 15 → None ≡ position under signalling → silent_from signalling 1 15 ≡ 0
+  unnamed l e =
+      elim (dec_lt first 15) [
+        | yes h ↦ absurd (some-none (rw (l, lt-ltb first 15 h) at e))
+        | no h ↦ nowhere (omega arith)
+      ]
+    where
+      some-none : {x : ℕ} → None ≡ Some x → ⊥
+      some-none e = cc

@@ -1,7 +1,9 @@
 -- What `build` and `apart` answer and leave, refused or not, for any input. Request 3 of document 02.
-use Rattle.std.specs.Prelude.{◌≡◌, Bool, cond, false, ◌&&◌, List, ℕ, zero, suc, ◌+◌, ◌<◌, ◌≤◌, eqb, length, get_or}
+use Rattle.std.specs.Prelude.{◌≡◌, Bool, cond, false, ◌&&◌, List, ℕ, zero, suc, ◌+◌, ◌<◌, ◌≤◌, eqb, length, get_or, Result, Ok, Err}
 use Rattle.digits.specs.Digits.{digits_of, Bytes}
-use Rattle.multiframe.specs.declared.Built.{Built}
+use Rattle.refusal.specs.declared.Refusal.{Refusal}
+use Rattle.refusal.specs.Refusal.{number_of}
+use Rattle.multiframe.specs.declared.Refused.{Refused}
 use Rattle.multiframe.specs.Multiframe.{kind_at, is_fixed, signalling_from, digit_for, multiframe_of}
 
 -- "a multiframe a call; other lengths are refused with 2": 512 bytes, and 480, 15 and 9 for channels, signalling and spare digits
@@ -27,6 +29,20 @@ silent_from signalling c (suc n) = cond (eqb (ones_of signalling c) 0) c (silent
 -- "signalling 0000 for channels 1 to 15", "naming the first"
 abbrev pub first_silent : List ℕ → ℕ
 first_silent signalling = silent_from signalling 1 15
+
+-- `build`'s answer as numbers: the refusal, 0 for none, and the channel that refusal 11 names
+pub record Built : Type 0 where
+  pub refusal : ℕ
+  pub channel : ℕ
+
+-- a refusal that names no channel
+abbrev pub naming_none : Refusal → Refused
+naming_none refusal = record { refusal = refusal; channel = 0 }
+
+-- the numbers of what the code answers
+abbrev pub numbers_of : {A : Type 0} → Result A Refused → Built
+numbers_of (Ok _) = record { refusal = 0; channel = 0 }
+numbers_of (Err refused) = record { refusal = number_of refused.refusal; channel = refused.channel }
 
 -- the answer: 2, then 11 with the channel named, or neither
 abbrev pub built_of : ℕ → ℕ → List ℕ → ℕ → Built

@@ -56,10 +56,7 @@ fn channel_of(b: usize) -> usize
     requires { 0 < b }
     ensures { result ≡ channel_of b }
 {
-    if b < 16 {
-        return b;
-    }
-    b - 1
+    if b < 16 { b } else { b - 1 }
 }
 
 // Digit i of byte 0 of a frame: even frames have the word.
@@ -68,9 +65,10 @@ fn first_byte(frame: usize, i: usize) -> Kind
     ensures { result ≡ get_or (cond (eqb (frame % 2) 0) with_word without_word) i (Fixed 0) }
 {
     if frame % 2 == 0 {
-        return WITH_WORD[i];
+        WITH_WORD[i]
+    } else {
+        WITHOUT_WORD[i]
     }
-    WITHOUT_WORD[i]
 }
 
 // Digit i of byte 16 of a frame.
@@ -79,10 +77,10 @@ fn sixteenth_byte(frame: usize, i: usize) -> Kind
     ensures { result ≡ get_or (cond (eqb frame 0) multiframe_byte (signalling_byte frame)) i (Fixed 0) }
 {
     if frame == 0 {
-        return MULTIFRAME_BYTE[i];
+        MULTIFRAME_BYTE[i]
+    } else {
+        signalling_byte(frame)[i]
     }
-    let signalling = signalling_byte(frame);
-    signalling[i]
 }
 
 // Place p of the multiframe.
@@ -90,12 +88,9 @@ pub fn kind_at(p: usize) -> Kind
     requires { p < 4096 }
     ensures { result ≡ kind_at p }
 {
-    let byte = p / 8 % 32;
-    if byte == 0 {
-        return first_byte(p / 256, p % 8);
+    match p / 8 % 32 {
+        0 => first_byte(p / 256, p % 8),
+        16 => sixteenth_byte(p / 256, p % 8),
+        byte => Kind::Channel(channel_of(byte)),
     }
-    if byte == 16 {
-        return sixteenth_byte(p / 256, p % 8);
-    }
-    Kind::Channel(channel_of(byte))
 }

@@ -5,13 +5,16 @@
 
 pub mod kinds;
 
-ghost use Rattle.std.specs.Prelude.{◌≡◌, cond, ◌+◌, ◌*◌, ◌%◌, ◌<◌, ◌≤◌, [], ◌∷◌, map, length};
+ghost use Rattle.std.specs.Prelude.{◌≡◌, cond, ◌+◌, ◌*◌, ◌%◌, ◌<◌, ◌≤◌, All, map, ltb, length, position};
 ghost use Rattle.digits.specs.Digits.{digits_of, byte_of};
 ghost use Rattle.multiframe.specs.Steps.{ColumnPut, ColumnTaken, column_of, Channelled, Laid};
 ghost use Rattle.multiframe.specs.Steps.{word_byte, other_byte, first_bytes, sixteenth_byte, at, spare_bytes};
-ghost use Rattle.multiframe.specs.Calls.{lengths_right, first_silent, BuildMet, ApartMet, Taken};
+ghost use Rattle.multiframe.specs.Calls.{lengths_right, BuildMet, ApartMet, Taken};
+ghost use Rattle.multiframe.specs.Calls.{naming_none, numbers_of};
+ghost use Rattle.refusal.specs.Refusal.{refusal_in};
 
 use digits::digit_at;
+use refusal::Refusal;
 
 // The spare digits by their names: reserved for international use (M), alarm (A), for use at home, and in byte 16 of frame 0 X and Y.
 #[derive(Clone, Copy)]
@@ -32,11 +35,23 @@ pub enum Kind {
     Channel(usize),
 }
 
-// The answer of `build`: the refusal, and the channel that refusal 11 names.
-#[derive(Clone, Copy)]
-pub struct Built {
-    pub refusal: u64,
+// Why `build` is refused, and the channel that the refusal names: 0 where it names none.
+#[derive(Clone, Copy, Debug, PartialEq, Eq, Hash)]
+pub struct Refused {
+    pub refusal: Refusal,
     pub channel: usize,
+}
+
+impl From<Refusal> for Refused {
+    ghost from_gives = { λ refusal refused. refused ≡ naming_none refusal };
+
+    // A refusal that names no channel.
+    fn from(refusal: Refusal) -> Refused {
+        Refused {
+            refusal,
+            channel: 0,
+        }
+    }
 }
 
 // The last four digits of the ninth byte of the spare digits, when they are taken.
@@ -45,31 +60,15 @@ const UNUSED: u8 = 0;
 fn lengths_right(multiframe: usize, channels: usize, signalling: usize, spare: usize) -> bool
     ensures { result ≡ lengths_right multiframe channels signalling spare }
 {
-    if multiframe != 512 {
-        return false;
-    }
-    if channels != 480 {
-        return false;
-    }
-    if signalling != 15 {
-        return false;
-    }
-    spare == 9
+    multiframe == 512 && channels == 480 && signalling == 15 && spare == 9
 }
 
-// The first of channels 1 to 15 whose signalling is 0000, or 0: they have the first four digits of each byte.
-fn first_silent(signalling: &[u8]) -> usize
+// The first byte of the signalling whose channel, one of 1 to 15, has 0000: these have the first four digits of each byte.
+fn first_silent(signalling: &[u8]) -> Option<usize>
     requires { length signalling.now ≡ 15 }
-    ensures { result ≡ first_silent signalling.now }
+    ensures { result ≡ position (λ byte. ltb byte 16) signalling.now }
 {
-    let mut c: usize = 1;
-    while c < 16 {
-        if signalling[c - 1] < 16 {
-            return c;
-        }
-        c += 1;
-    }
-    0
+    signalling.iter().position(|byte| *byte < 16)
 }
 
 // Puts the bytes of a column into every 32nd byte of the multiframe, from `first` on.
@@ -77,10 +76,8 @@ fn put_column(multiframe: &mut [u8], first: usize, column: &[u8])
     requires { (length multiframe.old ≡ 512) × (length column.now ≤ 16) × (first + 32 * length column.now < 544) }
     ensures { ColumnPut multiframe.old first column.now (length column.now) multiframe.new }
 {
-    let mut f: usize = 0;
-    while f < column.len() {
-        multiframe[first + 32 * f] = column[f];
-        f += 1;
+    for (f, byte) in column.iter().enumerate() {
+        multiframe[first + 32 * f] = *byte;
     }
 }
 
@@ -89,10 +86,8 @@ fn take_column(multiframe: &[u8], first: usize, column: &mut [u8])
     requires { (length multiframe.now ≡ 512) × (length column.old ≤ 16) × (first + 32 * length column.old < 544) }
     ensures { ColumnTaken multiframe.now first (length column.old) column.new }
 {
-    let mut f: usize = 0;
-    while f < column.len() {
-        column[f] = multiframe[first + 32 * f];
-        f += 1;
+    for (f, byte) in column.iter_mut().enumerate() {
+        *byte = multiframe[first + 32 * f];
     }
 }
 
@@ -101,22 +96,17 @@ fn column_of(c: usize) -> usize
     requires { c < 30 }
     ensures { result ≡ column_of c }
 {
-    if c < 15 {
-        return c + 1;
-    }
-    c + 2
+    if c < 15 { c + 1 } else { c + 2 }
 }
 
 fn put_channels(multiframe: &mut [u8], channels: &[u8])
     requires { (length multiframe.old ≡ 512) × (length channels.now ≡ 480) }
     ensures { Channelled channels.now multiframe.new }
 {
-    let mut c: usize = 0;
-    while c < 30 {
+    for c in 0..30 {
         let start = 16 * c;
         let end = start + 16;
         put_column(multiframe, column_of(c), &channels[start..end]);
-        c += 1;
     }
 }
 
@@ -124,21 +114,26 @@ fn take_channels(multiframe: &[u8], channels: &mut [u8])
     requires { (length multiframe.now ≡ 512) × (length channels.old ≡ 480) }
     ensures { Channelled channels.new multiframe.now }
 {
-    let mut c: usize = 0;
-    while c < 30 {
+    for c in 0..30 {
         let start = 16 * c;
         let end = start + 16;
         take_column(multiframe, column_of(c), &mut channels[start..end]);
-        c += 1;
     }
 }
 
 // The byte whose eight digits these are.
-fn byte_of(a: u8, b: u8, c: u8, d: u8, e: u8, f: u8, g: u8, h: u8) -> u8
-    requires { (a < 2) × (b < 2) × (c < 2) × (d < 2) × (e < 2) × (f < 2) × (g < 2) × (h < 2) }
-    ensures { result ≡ byte_of (a ∷ b ∷ c ∷ d ∷ e ∷ f ∷ g ∷ h ∷ []) }
+fn byte_of(digits: [u8; 8]) -> u8
+    requires { All (λ d. d < 2) digits }
+    ensures { result ≡ byte_of digits }
 {
-    128 * a + 64 * b + 32 * c + 16 * d + 8 * e + 4 * f + 2 * g + h
+    128 * digits[0]
+        + 64 * digits[1]
+        + 32 * digits[2]
+        + 16 * digits[3]
+        + 8 * digits[4]
+        + 4 * digits[5]
+        + 2 * digits[6]
+        + digits[7]
 }
 
 // Byte 0 of a frame with the word, and of one without: its spare digits are those from digit i on.
@@ -146,14 +141,14 @@ fn with_word(spare: &[u8], i: usize) -> u8
     requires { (length spare.now ≡ 9) × (i < 72) }
     ensures { result ≡ word_byte (digits_of spare.now) i }
 {
-    byte_of(digit_at(spare, i), 0, 0, 1, 1, 0, 1, 1)
+    byte_of([digit_at(spare, i), 0, 0, 1, 1, 0, 1, 1])
 }
 
 fn without_word(spare: &[u8], i: usize) -> u8
     requires { (length spare.now ≡ 9) × (i < 66) }
     ensures { result ≡ other_byte (digits_of spare.now) i }
 {
-    byte_of(
+    byte_of([
         digit_at(spare, i),
         1,
         digit_at(spare, i + 1),
@@ -162,7 +157,7 @@ fn without_word(spare: &[u8], i: usize) -> u8
         digit_at(spare, i + 4),
         digit_at(spare, i + 5),
         digit_at(spare, i + 6),
-    )
+    ])
 }
 
 // Byte 0 of each frame.
@@ -195,7 +190,7 @@ fn multiframe_byte(spare: &[u8]) -> u8
     requires { length spare.now ≡ 9 }
     ensures { result ≡ sixteenth_byte (digits_of spare.now) }
 {
-    byte_of(
+    byte_of([
         0,
         0,
         0,
@@ -204,7 +199,7 @@ fn multiframe_byte(spare: &[u8]) -> u8
         digit_at(spare, 2),
         digit_at(spare, 3),
         digit_at(spare, 4),
-    )
+    ])
 }
 
 // Every byte of the multiframe.
@@ -220,30 +215,20 @@ fn lay(multiframe: &mut [u8], channels: &[u8], signalling: &[u8], spare: &[u8])
 }
 
 // The byte whose digits stand at these places.
-fn digits_at(
-    multiframe: &[u8],
-    a: usize,
-    b: usize,
-    c: usize,
-    d: usize,
-    e: usize,
-    f: usize,
-    g: usize,
-    h: usize,
-) -> u8
-    requires { (length multiframe.now ≡ 512) × (a < 4096) × (b < 4096) × (c < 4096) × (d < 4096) × (e < 4096) × (f < 4096) × (g < 4096) × (h < 4096) }
-    ensures { result ≡ byte_of (map (at (digits_of multiframe.now)) (a ∷ b ∷ c ∷ d ∷ e ∷ f ∷ g ∷ h ∷ [])) }
+fn digits_at(multiframe: &[u8], places: [usize; 8]) -> u8
+    requires { (length multiframe.now ≡ 512) × All (λ p. p < 4096) places }
+    ensures { result ≡ byte_of (map (at (digits_of multiframe.now)) places) }
 {
-    byte_of(
-        digit_at(multiframe, a),
-        digit_at(multiframe, b),
-        digit_at(multiframe, c),
-        digit_at(multiframe, d),
-        digit_at(multiframe, e),
-        digit_at(multiframe, f),
-        digit_at(multiframe, g),
-        digit_at(multiframe, h),
-    )
+    byte_of([
+        digit_at(multiframe, places[0]),
+        digit_at(multiframe, places[1]),
+        digit_at(multiframe, places[2]),
+        digit_at(multiframe, places[3]),
+        digit_at(multiframe, places[4]),
+        digit_at(multiframe, places[5]),
+        digit_at(multiframe, places[6]),
+        digit_at(multiframe, places[7]),
+    ])
 }
 
 // The spare digits, packed: the places of the 68 in order, eight to a byte, and four zeros.
@@ -252,15 +237,15 @@ fn spare_bytes(multiframe: &[u8]) -> [u8; 9]
     ensures { result ≡ spare_bytes (digits_of multiframe.now) }
 {
     [
-        digits_at(multiframe, 0, 132, 133, 134, 135, 256, 258, 259),
-        digits_at(multiframe, 260, 261, 262, 263, 512, 768, 770, 771),
-        digits_at(multiframe, 772, 773, 774, 775, 1024, 1280, 1282, 1283),
-        digits_at(multiframe, 1284, 1285, 1286, 1287, 1536, 1792, 1794, 1795),
-        digits_at(multiframe, 1796, 1797, 1798, 1799, 2048, 2304, 2306, 2307),
-        digits_at(multiframe, 2308, 2309, 2310, 2311, 2560, 2816, 2818, 2819),
-        digits_at(multiframe, 2820, 2821, 2822, 2823, 3072, 3328, 3330, 3331),
-        digits_at(multiframe, 3332, 3333, 3334, 3335, 3584, 3840, 3842, 3843),
-        byte_of(
+        digits_at(multiframe, [0, 132, 133, 134, 135, 256, 258, 259]),
+        digits_at(multiframe, [260, 261, 262, 263, 512, 768, 770, 771]),
+        digits_at(multiframe, [772, 773, 774, 775, 1024, 1280, 1282, 1283]),
+        digits_at(multiframe, [1284, 1285, 1286, 1287, 1536, 1792, 1794, 1795]),
+        digits_at(multiframe, [1796, 1797, 1798, 1799, 2048, 2304, 2306, 2307]),
+        digits_at(multiframe, [2308, 2309, 2310, 2311, 2560, 2816, 2818, 2819]),
+        digits_at(multiframe, [2820, 2821, 2822, 2823, 3072, 3328, 3330, 3331]),
+        digits_at(multiframe, [3332, 3333, 3334, 3335, 3584, 3840, 3842, 3843]),
+        byte_of([
             digit_at(multiframe, 3844),
             digit_at(multiframe, 3845),
             digit_at(multiframe, 3846),
@@ -269,7 +254,7 @@ fn spare_bytes(multiframe: &[u8]) -> [u8; 9]
             UNUSED,
             UNUSED,
             UNUSED,
-        ),
+        ]),
     ]
 }
 
@@ -277,17 +262,17 @@ fn take_spare(multiframe: &[u8], spare: &mut [u8])
     requires { (length multiframe.now ≡ 512) × (length spare.old ≡ 9) }
     ensures { spare.new ≡ spare_bytes (digits_of multiframe.now) }
 {
-    let bytes = spare_bytes(multiframe);
-    let mut i: usize = 0;
-    while i < 9 {
-        spare[i] = bytes[i];
-        i += 1;
-    }
+    spare.copy_from_slice(&spare_bytes(multiframe));
 }
 
 // Builds a multiframe. Any lengths: those of another multiframe are refused with 2, and then signalling 0000 for channels 1 to 15 with 11.
-pub fn build(multiframe: &mut [u8], channels: &[u8], signalling: &[u8], spare: &[u8]) -> Built
-    ensures { BuildMet multiframe.old channels.now signalling.now spare.now result multiframe.new }
+pub fn build(
+    multiframe: &mut [u8],
+    channels: &[u8],
+    signalling: &[u8],
+    spare: &[u8],
+) -> Result<(), Refused>
+    ensures { BuildMet multiframe.old channels.now signalling.now spare.now (numbers_of result) multiframe.new }
 {
     if !lengths_right(
         multiframe.len(),
@@ -295,28 +280,26 @@ pub fn build(multiframe: &mut [u8], channels: &[u8], signalling: &[u8], spare: &
         signalling.len(),
         spare.len(),
     ) {
-        return Built {
-            refusal: 2,
-            channel: 0,
-        };
+        return Err(Refused::from(Refusal::Line));
     }
-    let silent = first_silent(signalling);
-    if silent != 0 {
-        return Built {
-            refusal: 11,
-            channel: silent,
-        };
+    if let Some(i) = first_silent(signalling) {
+        return Err(Refused {
+            refusal: Refusal::Signalling,
+            channel: i + 1,
+        });
     }
     lay(multiframe, channels, signalling, spare);
-    Built {
-        refusal: 0,
-        channel: 0,
-    }
+    Ok(())
 }
 
-// Takes a multiframe apart, whatever its fixed digits are, and answers the refusal.
-pub fn apart(multiframe: &[u8], channels: &mut [u8], signalling: &mut [u8], spare: &mut [u8]) -> u64
-    ensures { ApartMet multiframe.now channels.old signalling.old spare.old result channels.new
+// Takes a multiframe apart, whatever its fixed digits are.
+pub fn apart(
+    multiframe: &[u8],
+    channels: &mut [u8],
+    signalling: &mut [u8],
+    spare: &mut [u8],
+) -> Result<(), Refusal>
+    ensures { ApartMet multiframe.now channels.old signalling.old spare.old (refusal_in result) channels.new
         signalling.new spare.new }
 {
     if !lengths_right(
@@ -325,10 +308,10 @@ pub fn apart(multiframe: &[u8], channels: &mut [u8], signalling: &mut [u8], spar
         signalling.len(),
         spare.len(),
     ) {
-        return 2;
+        return Err(Refusal::Line);
     }
     take_channels(multiframe, channels);
     take_column(multiframe, 48, signalling);
     take_spare(multiframe, spare);
-    0
+    Ok(())
 }

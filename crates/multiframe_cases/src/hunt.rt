@@ -1,9 +1,9 @@
 // Pieces fed to the finder of 2048 kbit/s frames: each refusal at its border, and frames that are found, lost and found again, whole and in
 // pieces of 1, 7 and 1,000 digits.
-ghost use Rattle.std.specs.Prelude.{◌≡◌, length};
+ghost use Rattle.std.specs.Prelude.{◌≤◌};
 
-use std::io;
-use telling::{inputs, say};
+use std::{fmt, io};
+use telling::say::Spaced;
 
 // A state, and a piece of a slice of zeros.
 #[derive(Clone, Copy)]
@@ -15,6 +15,8 @@ struct Hunting {
     slice: usize,
     first: u64,
     count: u64,
+    // a byte more than a piece may have
+    ghost lent: { slice ≤ 65537 },
 }
 
 const HUNTINGS: [Hunting; 18] = [
@@ -182,116 +184,88 @@ const HUNTINGS: [Hunting; 18] = [
     },
 ];
 
+impl fmt::Display for Hunting {
+    fn fmt<W: fmt::Write>(&self, f: &mut fmt::Formatter<W>) -> fmt::Result {
+        write!(
+            f,
+            "window {} seen {} mode {} place {} slice {} first {} count {}",
+            self.window, self.seen, self.mode, self.place, self.slice, self.first, self.count
+        )
+    }
+}
+
 pub fn hunt_all(rt: &impl Print) -> io::Result<()> {
-    let mut k: usize = 0;
-    while k < 18 {
-        hunt_one(rt, HUNTINGS[k])?;
-        k += 1;
+    for case in &HUNTINGS {
+        hunt(rt, case)?;
     }
     Ok(())
 }
 
-// A byte more than a piece may have.
-fn zeros() -> [u8; 65537]
-    ensures { 65537 ≡ length result }
-{
-    [0; 65537]
-}
-
-fn hunt_one(rt: &impl Print, c: Hunting) -> io::Result<()> {
-    let n = c.slice;
-    if 65537 < n {
-        return Ok(());
-    }
-    let slice = zeros();
-    hunt_on(rt, c, &slice[..n])
-}
-
-fn hunt_on(rt: &impl Print, c: Hunting, slice: &[u8]) -> io::Result<()> {
-    let mut state = [c.window, c.seen, c.mode, c.place];
+fn hunt(rt: &impl Print, case: &Hunting) -> io::Result<()> {
+    let zeros = [0u8; 65537];
+    let mut state = [case.window, case.seen, case.mode, case.place];
     let mut answer = [0u64; 2];
-    let no = spritbobbin::finder_face::spritbobbin_finder_feed(
+    let refusal = spritbobbin::finder_face::spritbobbin_finder_feed(
         &mut state,
-        slice,
-        c.first,
-        c.count,
+        &zeros[..case.slice],
+        case.first,
+        case.count,
         &mut answer,
     );
-    say::counted(rt, b"hunt window ", c.window)?;
-    say::counted(rt, b" seen ", c.seen)?;
-    say::counted(rt, b" mode ", c.mode)?;
-    say::counted(rt, b" place ", c.place)?;
-    say::labelled(rt, b" slice ", c.slice)?;
-    say::counted(rt, b" first ", c.first)?;
-    say::counted(rt, b" count ", c.count)?;
-    hunted(rt, no, state, answer)
+    print!(rt; "hunt {case}")?;
+    hunted(rt, refusal, state, answer)
 }
 
-fn hunted(rt: &impl Print, no: u64, state: [u64; 4], answer: [u64; 2]) -> io::Result<()> {
-    say::counted(rt, b": refusal ", no)?;
-    say::counted(rt, b" taken ", answer[0])?;
-    say::counted(rt, b" aligned ", answer[1])?;
-    say::counted(rt, b" state ", state[0])?;
-    say::counted(rt, b" ", state[1])?;
-    say::counted(rt, b" ", state[2])?;
-    say::counted(rt, b" ", state[3])?;
-    say::text(rt, b"\n")
+fn hunted(rt: &impl Print, refusal: u64, state: [u64; 4], answer: [u64; 2]) -> io::Result<()> {
+    let [taken, aligned] = answer;
+    println!(rt;
+        ": refusal {refusal} taken {taken} aligned {aligned} state{}",
+        Spaced(&state)
+    )
 }
 
-// Twenty frames of ones in pairs; those of pairs 3, 4 and 5 have no word.
-pub fn frames(rt: &impl Print, size: u64) -> io::Result<()> {
+// Twenty frames, whole and in pieces of 1, 7 and 1,000 digits.
+pub fn frames(rt: &impl Print) -> io::Result<()> {
+    let line = twenty_frames();
+    for size in [5120, 1, 7, 1000] {
+        follow(rt, &line, size)?;
+    }
+    Ok(())
+}
+
+// Frames of ones in pairs; those of pairs 3, 4 and 5 have no word.
+fn twenty_frames() -> [u8; 640] {
     let mut line = [255u8; 640];
-    line[0] = 155;
-    line[64] = 155;
-    line[128] = 155;
-    line[384] = 155;
-    line[448] = 155;
-    line[512] = 155;
-    line[576] = 155;
-    follow(rt, &line, size)
+    for word in [0, 64, 128, 384, 448, 512, 576] {
+        line[word] = 155;
+    }
+    line
 }
 
-// At most a call for each digit of the line; a line to each change of alignment.
+// In pieces of at most so many digits: at most a call for each digit of the line; a line to each change of alignment.
 fn follow(rt: &impl Print, line: &[u8; 640], size: u64) -> io::Result<()> {
     let mut state = [0u64; 4];
     let mut answer = [0u64; 2];
     spritbobbin::finder_face::spritbobbin_finder_fresh(&mut state);
     let mut first: u64 = 0;
-    let mut turns: u64 = 0;
     let mut aligned: u64 = 0;
-    while turns < 5120 {
+    for _turn in 0..5120 {
         if 5120 <= first {
             return Ok(());
         }
-        let count = inputs::least(size, 5120 - first);
-        let no = spritbobbin::finder_face::spritbobbin_finder_feed(
+        let refusal = spritbobbin::finder_face::spritbobbin_finder_feed(
             &mut state,
             line,
             first,
-            count,
+            size.min(5120 - first),
             &mut answer,
         );
         first = first.wrapping_add(answer[0]);
-        turned(rt, size, first, no, state, answer, aligned)?;
+        if answer[1] != aligned {
+            print!(rt; "frames pieces {size} digits {first}")?;
+            hunted(rt, refusal, state, answer)?;
+        }
         aligned = answer[1];
-        turns += 1;
     }
     Ok(())
-}
-
-fn turned(
-    rt: &impl Print,
-    size: u64,
-    digits: u64,
-    no: u64,
-    state: [u64; 4],
-    answer: [u64; 2],
-    before: u64,
-) -> io::Result<()> {
-    if answer[1] == before {
-        return Ok(());
-    }
-    say::counted(rt, b"frames pieces ", size)?;
-    say::counted(rt, b" digits ", digits)?;
-    hunted(rt, no, state, answer)
 }

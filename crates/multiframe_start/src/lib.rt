@@ -2,54 +2,39 @@
 // it is known.
 #![tactic(auto)]
 
-ghost use Rattle.std.specs.Prelude.{◌≡◌, ◌<◌, length};
-ghost use Rattle.multiframe_start.specs.Start.{is_start, start_among, StartMet};
+ghost use Rattle.std.specs.Prelude.{◌≡◌, ◌<◌, length, unwrap_or, IfOk, IfSome};
+ghost use Rattle.multiframe_start.specs.Start.{is_start, start_among, numbers_of, StartMet};
 
-// The refusal, and the frame, from 0, or 16 where none begins the multiframe.
-#[derive(Clone, Copy)]
-pub struct Started {
-    pub refusal: u64,
-    pub frame: usize,
-}
+use refusal::Refusal;
 
 // Whether frame f begins the multiframe: its byte 0 ends in the word, and the first half of its byte 16 is 0000.
+#[tactic(auto, unfolding(crate::specs::Start::is_start))]
 fn is_start(frames: &[u8], f: usize) -> bool
     requires { (length frames.now ≡ 512) × (f < 16) }
     ensures { result ≡ is_start frames.now f }
 {
-    if frames[32 * f] % 128 != 27 {
-        return false;
-    }
-    frames[32 * f + 16] / 16 == 0
+    frames[32 * f] % 128 == 27 && frames[32 * f + 16] / 16 == 0
 }
 
-// The first frame that does, or 16.
-fn first_start(frames: &[u8]) -> usize
+// The first frame that does.
+fn first_start(frames: &[u8]) -> Option<usize>
     requires { length frames.now ≡ 512 }
-    ensures { result ≡ start_among frames.now 16 }
+    ensures { (unwrap_or result 16 ≡ start_among frames.now 16) × IfSome result (λ frame. frame < 16) }
 {
-    let mut f: usize = 0;
-    while f < 16 {
+    for f in 0..16 {
         if is_start(frames, f) {
-            return f;
+            return Some(f);
         }
-        f += 1;
     }
-    16
+    None
 }
 
-// Sixteen frames, whole and in a row, from any frame of a multiframe on.
-pub fn multiframe_start(frames: &[u8]) -> Started
-    ensures { StartMet frames.now result }
+// Sixteen frames, whole and in a row, from any frame of a multiframe on: the one that begins the multiframe, from 0, or none.
+pub fn multiframe_start(frames: &[u8]) -> Result<Option<usize>, Refusal>
+    ensures { StartMet frames.now (numbers_of result) × IfOk result (λ start. IfSome start (λ frame. frame < 16)) }
 {
     if frames.len() != 512 {
-        return Started {
-            refusal: 2,
-            frame: 0,
-        };
+        return Err(Refusal::Line);
     }
-    Started {
-        refusal: 0,
-        frame: first_start(frames),
-    }
+    Ok(first_start(frames))
 }

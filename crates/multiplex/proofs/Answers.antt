@@ -5,7 +5,7 @@ use Prim.Native.Nat.{ℕ}
 use contract.Lifetimes.{Lfts}
 use denote.Triple.Clauses.{AtExit}
 use borrow.Fn.World.{ArgsD, ResD}
-use Rattle.levels.specs.declared.faults.Counted.{Counted}
+use Rattle.levels.specs.Faults.{Counted, numbers_of}
 use Rattle.multiplex.specs.Multiplex.{Met}
 use Rattle.multiplex.specs.contracts.multiplex.{signature, ended}
 use Rattle.multiplex.proofs.multiplex.Reads.{Asked, Learnt}
@@ -17,7 +17,7 @@ no-second-answer level earlier line notes buffer a b l m x y = (x.0 ∙ sym y.0,
 
 -- and what the call ensures is that statement
 pub call_met : (κs : Lfts 3) (a : ArgsD signature κs) (r : ResD signature κs) (e : AtExit ended κs) → Learnt κs a r e
-    → Met a.0 a.1.0 a.1.1.0.now a.1.1.1.0.now a.1.1.1.1.0.now r e.1.1.0.now
+    → Met a.0 a.1.0 a.1.1.0.now a.1.1.1.0.now a.1.1.1.1.0.now (numbers_of r) e.1.1.0.now
 call_met κs a r e met = met
 
 -- and it asks nothing of its caller

@@ -154,9 +154,6 @@ module _ (row : Row) (earlier : ℕ) (notes buffer : List ℕ) (f s : ℕ) (hf :
 -- ---- frames
 
 module _ (row : Row) (earlier : ℕ) (notes buffer : List ℕ) (f : ℕ) (l : List ℕ) (w : Writer) (next : List ℕ) where
-  pub set_first : Sending row earlier notes buffer (f * row.digits) l w next → Sending row earlier notes buffer (f * row.digits + 0 * row.set) l w next
-  set_first s = let e : f * row.digits + 0 * row.set ≡ f * row.digits = omega (arith, zero-mul row.set) in rw e s
-
   pub frame-last : Sending row earlier notes buffer (f * row.digits + row.sets * row.set) l w next → Sending row earlier notes buffer ((f + 1) * row.digits) l w next
   frame-last s =
       let e : (f + 1) * row.digits ≡ f * row.digits + row.sets * row.set = omega (arith, add-mul f 1 row.digits, s.fits.shared.whole) in

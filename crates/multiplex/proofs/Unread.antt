@@ -1,7 +1,8 @@
 -- "Further input digits are not looked at": two buffers of any lengths whose quarters agree on the digits that the frames take, and of which
 -- both have room or neither has, give the same line and the same answer.
+use Rattle.std.specs.Prelude.{Option, Some, None}
 use mathlib.Core.Path.{◌≡◌, refl, sym, ◌∙◌, ap}
-use mathlib.Core.Bool.{Bool, cond, true, false, not, true≢false}
+use mathlib.Core.Bool.{Bool, cond, true, false, true≢false}
 use mathlib.Core.List.{List}
 use Prim.Native.Nat.{ℕ, suc, ◌+◌, ◌*◌, ◌/◌, ◌%◌, ◌<◌}
 use native.Mathlib.Omega.{arith}
@@ -15,8 +16,6 @@ use Rattle.table.specs.declared.Row.{Row}
 use Rattle.levels.specs.declared.order.Action.{Action}
 use Rattle.levels.specs.declared.places.Kind.{Kind}
 use Rattle.levels.specs.declared.places.Kind.TheVariants.{Word, Service, Control, Justification, Tributary}
-use Rattle.table.specs.declared.Level.{Level}
-use Rattle.table.specs.declared.Level.TheVariants.{Of, NoSuchLevel}
 use Rattle.table.specs.Table.{level_of}
 use Rattle.levels.specs.Table.{Shared}
 use Rattle.levels.specs.Places.{kind_at, pos_of}
@@ -76,13 +75,13 @@ same-fault row earlier line notes b b' e = rw e
 
 -- the same of the call
 pub not-looked-at : (level earlier : ℕ) (line notes b b' : List ℕ)
-    → ((row : Row) → level_of level ≡ Of row → bad_buffer row (length line) (length b) ≡ bad_buffer row (length line) (length b'))
-    → ((row : Row) → level_of level ≡ Of row → Agree row earlier notes (λ (j : ℕ). digits_of (quarter_of b j)) (λ (j : ℕ). digits_of (quarter_of b' j)))
+    → ((row : Row) → level_of level ≡ Some row → bad_buffer row (length line) (length b) ≡ bad_buffer row (length line) (length b'))
+    → ((row : Row) → level_of level ≡ Some row → Agree row earlier notes (λ (j : ℕ). digits_of (quarter_of b j)) (λ (j : ℕ). digits_of (quarter_of b' j)))
     → (send_answered level earlier (length line) notes (length b) ≡ send_answered level earlier (length line) notes (length b'))
     × (line_after level earlier line notes b ≡ line_after level earlier line notes b')
 not-looked-at level earlier line notes b b' room same = go (level_of level) refl
   where
-    on_row : (row : Row) → level_of level ≡ Of row → (r : Bool) → eqb (send_fault_of row earlier (length line) notes (length b')).refusal 0 ≡ r
+    on_row : (row : Row) → level_of level ≡ Some row → (r : Bool) → eqb (send_fault_of row earlier (length line) notes (length b')).refusal 0 ≡ r
         → line_on row earlier line notes b ≡ line_on row earlier line notes b'
     on_row row e true er =
         let er' : eqb (send_fault_of row earlier (length line) notes (length b)).refusal 0 ≡ true = rw (same-fault row earlier (length line) notes (length b) (length b') (room row e)) er in
@@ -94,10 +93,10 @@ not-looked-at level earlier line notes b b' room same = go (level_of level) refl
         let er' : eqb (send_fault_of row earlier (length line) notes (length b)).refusal 0 ≡ false = rw (same-fault row earlier (length line) notes (length b) (length b') (room row e)) er in
         rw (er', er)
 
-    go : (l : Level) → level_of level ≡ l
+    go : (l : Option Row) → level_of level ≡ l
         → (on_level l (λ (row : Row). send_answer_on row earlier (length line) notes (length b)) (refused_with (fault 1 0))
         ≡ on_level l (λ (row : Row). send_answer_on row earlier (length line) notes (length b')) (refused_with (fault 1 0)))
         × (on_level l (λ (row : Row). line_on row earlier line notes b) line ≡ on_level l (λ (row : Row). line_on row earlier line notes b') line)
-    go (Of row) e =
+    go (Some row) e =
         (rw (same-fault row earlier (length line) notes (length b) (length b') (room row e)), on_row row e (eqb (send_fault_of row earlier (length line) notes (length b')).refusal 0) refl)
-    go NoSuchLevel e = (refl, refl)
+    go None e = (refl, refl)

@@ -10,12 +10,13 @@ ghost use Rattle.levels.specs.Table.{Shared};
 ghost use Rattle.levels.specs.Sizes.{quarter_of, Accepted};
 ghost use Rattle.heads.specs.Sending.{Sending};
 ghost use Rattle.multiplex.specs.Running.{next_of, Ran, AllSent};
-ghost use Rattle.levels.specs.Faults.{send_answer_on};
+ghost use Rattle.levels.specs.Faults.{send_answer_on, numbers_of};
 ghost use Rattle.multiplex.specs.Multiplex.{line_on, Met};
 
-use levels::faults::{Counted, Fault};
+use levels::faults::Refused;
 use levels::{faults, places};
-use table::{Level, Row};
+use refusal::Refusal;
+use table::Row;
 use weave::Next;
 use weave::table::spread_table;
 use words::Writer;
@@ -104,10 +105,8 @@ fn send_frame(
     ensures { Sending row earlier notes.now buffer.now ((f + 1) * row.digits) line.new result next.new }
 {
     let mut w = w0;
-    let mut set: usize = 0;
-    while set < row.sets {
+    for set in 0..row.sets {
         w = send_set(table, row, earlier, line, notes, buffer, next, w, f, set);
-        set += 1;
     }
     w
 }
@@ -124,43 +123,44 @@ fn send_frames(row: Row, earlier: u64, line: &mut [u8], notes: &[u8], buffer: &[
         held: 0,
         fill: 0,
     };
-    let mut f: usize = 0;
-    while f < notes.len() {
+    for f in 0..notes.len() {
         w = send_frame(&table, row, earlier, line, notes, buffer, &mut next, w, f);
-        f += 1;
     }
     words::finish(line, w);
     next
 }
 
 // A level's row is known: the lengths and the notes are judged, and the line is written.
-fn multiplex_on(row: Row, earlier: u64, line: &mut [u8], notes: &[u8], buffer: &[u8]) -> Counted
+fn multiplex_on(
+    row: Row,
+    earlier: u64,
+    line: &mut [u8],
+    notes: &[u8],
+    buffer: &[u8],
+) -> Result<[usize; 4], Refused>
     requires { Shared row }
-    ensures { (result ≡ send_answer_on row earlier (length line.old) notes.now (length buffer.now))
+    ensures { (numbers_of result ≡ send_answer_on row earlier (length line.old) notes.now (length buffer.now))
         × (line.new ≡ line_on row earlier line.old notes.now buffer.now) }
 {
-    let found = faults::send_fault_of(row, earlier, line.len(), notes, buffer.len());
-    if found.refusal != 0 {
-        return faults::refused(found);
-    }
+    faults::send_fault_of(row, earlier, line.len(), notes, buffer.len())?;
     let counts = send_frames(row, earlier, line, notes, buffer);
-    Counted {
-        refusal: 0,
-        frame: 0,
-        counts,
-    }
+    Ok(counts)
 }
 
-// Multiplexes the notes and the quarters of the buffer into the line. Any level number, any lengths: see specs/Multiplex.antt.
-pub fn multiplex(level: u64, earlier: u64, line: &mut [u8], notes: &[u8], buffer: &[u8]) -> Counted
-    ensures { Met level earlier line.old notes.now buffer.now result line.new }
+// Multiplexes the notes and the quarters of the buffer into the line, and answers how many digits of each tributary they took. Any level number,
+// any lengths: see specs/Multiplex.antt.
+pub fn multiplex(
+    level: u64,
+    earlier: u64,
+    line: &mut [u8],
+    notes: &[u8],
+    buffer: &[u8],
+) -> Result<[usize; 4], Refused>
+    ensures { Met level earlier line.old notes.now buffer.now (numbers_of result) line.new }
 {
     let found = table::level_of(level);
     match found {
-        Level::Of(row) => multiplex_on(row, earlier, line, notes, buffer),
-        Level::NoSuchLevel => faults::refused(Fault {
-            refusal: 1,
-            frame: 0,
-        }),
+        Some(row) => multiplex_on(row, earlier, line, notes, buffer),
+        None => Err(Refused::from(Refusal::Level)),
     }
 }

@@ -6,28 +6,18 @@ pub mod multiframes;
 
 ghost use Rattle.std.specs.Prelude.{◌≡◌, ◌<◌};
 ghost use Rattle.levels.specs.Table.{Shared};
-ghost use Rattle.naming.specs.Frames.{refused_with, service_number, sign_number, kind_number, owner_of, place_in, PlaceMet};
+ghost use Rattle.naming.specs.Frames.{service_number, sign_number, kind_number, owner_of, place_in, numbers_of, PlaceMet};
 
 use levels::places;
 use levels::places::{FramePlace, Kind, ServiceDigit, Sign};
-use table::{Level, Row};
+use refusal::Refusal;
+use table::Row;
 
-// The refusal, the number of the place's kind, and the tributary, 1 to 4, that owns the place, or 0.
-#[derive(Clone, Copy)]
-pub struct Placed {
-    pub refusal: u64,
+// The number of a place's kind, and the tributary, 1 to 4, that owns the place, or 0.
+#[derive(Clone, Copy, Debug, PartialEq, Eq, Hash)]
+pub struct PlaceName {
     pub kind: u64,
     pub tributary: u64,
-}
-
-fn refused(refusal: u64) -> Placed
-    ensures { result ≡ refused_with refusal }
-{
-    Placed {
-        refusal,
-        kind: 0,
-        tributary: 0,
-    }
 }
 
 fn service_number(s: ServiceDigit) -> u64
@@ -35,10 +25,7 @@ fn service_number(s: ServiceDigit) -> u64
 {
     match s {
         ServiceDigit::RemoteAlarm => 1,
-        ServiceDigit::FirstNational => 2,
-        ServiceDigit::SecondNational => 2,
-        ServiceDigit::ThirdNational => 2,
-        ServiceDigit::Fixed => 2,
+        _ => 2,
     }
 }
 
@@ -68,34 +55,33 @@ fn owner_of(kind: Kind, p: usize) -> u64
     ensures { result ≡ owner_of kind p }
 {
     if places::is_own(kind) {
-        return (p % 4 + 1) as u64;
+        (p % 4 + 1) as u64
+    } else {
+        0
     }
-    0
 }
 
 // Place p of a frame.
-fn place_in(row: Row, p: usize) -> Placed
+fn place_in(row: Row, p: usize) -> Result<PlaceName, Refusal>
     requires { Shared row }
-    ensures { result ≡ place_in row p }
+    ensures { numbers_of result ≡ place_in row p }
 {
     if row.digits <= p {
-        return refused(7);
+        return Err(Refusal::Digits);
     }
     let kind = places::kind_at(row, FramePlace(p));
-    Placed {
-        refusal: 0,
+    Ok(PlaceName {
         kind: kind_number(kind),
         tributary: owner_of(kind, p),
-    }
+    })
 }
 
 // Place p of a frame of the level of this number.
-pub fn place(level: u64, p: usize) -> Placed
-    ensures { PlaceMet level p result }
+pub fn place(level: u64, p: usize) -> Result<PlaceName, Refusal>
+    ensures { PlaceMet level p (numbers_of result) }
 {
-    let found = table::level_of(level);
-    match found {
-        Level::Of(row) => place_in(row, p),
-        Level::NoSuchLevel => refused(1),
+    match table::level_of(level) {
+        Some(row) => place_in(row, p),
+        None => Err(Refusal::Level),
     }
 }

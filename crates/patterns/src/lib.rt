@@ -12,10 +12,7 @@ use judge::wrong;
 fn one_if_same(a: u64, b: u64) -> u64
     ensures { (result ≡ cond (eqb a b) 1 0) × (result ≤ 1) }
 {
-    if a == b {
-        return 1;
-    }
-    0
+    u64::from(a == b)
 }
 
 // The digit that comes next.
@@ -24,9 +21,10 @@ pub fn made_of(pattern: u64, window: u64) -> u64
     ensures { (result ≡ made_of pattern window) × (result ≤ 1) }
 {
     if pattern == 15 {
-        return one_if_same((window >> 13) % 2, (window >> 14) % 2);
+        one_if_same((window >> 13) % 2, (window >> 14) % 2)
+    } else {
+        one_if_same((window >> 17) % 2, (window >> 22) % 2)
     }
-    one_if_same((window >> 17) % 2, (window >> 22) % 2)
 }
 
 // The window after one digit more.
@@ -43,9 +41,10 @@ fn eight_of(pattern: u64, window: u64) -> u64
     ensures { (result ≡ 255 - bit_xor (window / 2 ^ (stage_of pattern - 8)) (window / 2 ^ (pattern - 8)) % 256) × (result ≤ 255) }
 {
     if pattern == 15 {
-        return 255 - ((window >> 6) ^ (window >> 7)) % 256;
+        255 - ((window >> 6) ^ (window >> 7)) % 256
+    } else {
+        255 - ((window >> 10) ^ (window >> 15)) % 256
     }
-    255 - ((window >> 10) ^ (window >> 15)) % 256
 }
 
 // The window moved on by eight digits of the pattern.
@@ -62,10 +61,8 @@ fn push_eights(pattern: u64, window: u64, n: u64) -> u64
     ensures { (result ≡ window_after pattern window (n * 8)) × (result < 2 ^ 23) }
 {
     let mut w = window;
-    let mut i: u64 = 0;
-    while i < n {
+    for _ in 0..n {
         w = push_eight(pattern, w);
-        i += 1;
     }
     w
 }
@@ -76,10 +73,8 @@ pub fn window_after(pattern: u64, window: u64, n: u64) -> u64
     ensures { (result ≡ window_after pattern window n) × (result < 2 ^ 23) }
 {
     let mut w = push_eights(pattern, window, n / 8);
-    let mut i: u64 = n / 8 * 8;
-    while i < n {
+    for _ in 0..n % 8 {
         w = push(w, made_of(pattern, w));
-        i += 1;
     }
     w
 }
@@ -90,13 +85,9 @@ pub fn is_made(pattern: u64, window: u64, read: &[u8], n: usize) -> bool
     ensures { result ≡ true
         → (23 ≤ n) × ((j : ℕ) → j < n → get_or (digits_of read.now) j 0 ≡ window_after pattern window j / 2 ^ 22 % 2) }
 {
-    if n < 23 {
-        return false;
-    }
-    if words::read_digits(read, 0, 23) != window {
-        return false;
-    }
-    wrong::wrong_in(pattern as usize, read, read, n) == 0
+    23 <= n
+        && words::read_digits(read, 0, 23) == window
+        && wrong::wrong_in(pattern as usize, read, read, n) == 0
 }
 
 // The window n digits on, where the n digits of a reading are the pattern's from the window's ninth digit on: their last 23, moved on by the other fifteen.
@@ -117,10 +108,8 @@ pub fn write_pattern(dst: &mut [u8], pattern: u64, window: u64)
     ensures { digits_of dst.new ≡ pattern_digits pattern window }
 {
     let mut w = window;
-    let mut i: usize = 0;
-    while i < 128 {
-        dst[i] = (w >> 15) as u8;
+    for byte in dst.iter_mut() {
+        *byte = (w >> 15) as u8;
         w = push_eight(pattern, w);
-        i += 1;
     }
 }

@@ -18,14 +18,12 @@ pub fn gone_on(row: Row, mask: usize, c: Core, piece: &[u8], first: usize, at: u
     requires { Shared row × (mask ≡ 2 ^ row.len - 1) × Valid row c × (length piece.now ≤ 65536) × (first ≤ at) × (at ≤ 8 * length piece.now) }
     ensures { (result.core ≡ gone_on row piece.now first c (at - first)) × (result.at ≡ at) }
 {
-    let mode = c.mode;
     let window = strides::window_over(row.len, mask, c.window, piece, first, at);
     Carry {
         core: Core {
             window,
-            seen: c.seen,
-            mode,
             place: c.place + (at - first),
+            ..c
         },
         at,
     }

@@ -41,15 +41,12 @@ pub fn keep(row: Row, shift: usize, c: Core, d: u8, f: &mut [u8; 366])
     requires { Shared row × (shift + row.len ≡ 16) × Valid row c × (d < 2) }
     ensures { f.new ≡ keep_of row c d f.old }
 {
-    let mode = c.mode;
-    if modes::is_hunting(mode) {
+    if modes::is_hunting(c.mode) {
         return;
     }
     if c.place == 0 {
         begin(row, shift, c.window, f);
-        return;
-    }
-    if c.place <= row.digits - row.len {
+    } else if c.place <= row.digits - row.len {
         put_at(f, row.len - 1 + c.place, d);
     }
 }
@@ -59,9 +56,5 @@ pub fn is_ready(row: Row, c: Core) -> bool
     requires { Shared row }
     ensures { result ≡ ready_of row c }
 {
-    let mode = c.mode;
-    if crate::is_aligned(mode) {
-        return c.place == row.digits - row.len;
-    }
-    false
+    crate::is_aligned(c.mode) && c.place == row.digits - row.len
 }

@@ -6,23 +6,13 @@ ghost use Rattle.pieces.specs.Hunt.{still_hunting, tested_in};
 use modes::{Core, Mode};
 use table::Row;
 
-// How many of so many digits came after so many others.
-fn after(others: usize, came: usize) -> usize
-    ensures { result ≡ came - others }
-{
-    if came < others {
-        return 0;
-    }
-    came - others
-}
-
 // How many words the hunt tests while the digits that came grow so: those of its digits that come after the first L - 1.
 fn tested_in(row: Row, seen: usize, came: usize) -> usize
     requires { Shared row × (seen ≤ came) }
     ensures { result ≡ tested_in row seen came }
 {
     let others = row.len - 1;
-    after(others, came) - after(others, seen)
+    came.saturating_sub(others) - seen.saturating_sub(others)
 }
 
 // Where a stretch of the hunt ended: the core, the place of the next digit in the piece, and how many words were tested.
@@ -37,17 +27,9 @@ pub struct Hunt {
 fn still_hunting(row: Row, window: usize, came: usize) -> Core
     ensures { result ≡ still_hunting row window came }
 {
-    if row.len < came {
-        return Core {
-            window,
-            seen: row.len,
-            mode: Mode::Hunting,
-            place: 0,
-        };
-    }
     Core {
         window,
-        seen: came,
+        seen: came.min(row.len),
         mode: Mode::Hunting,
         place: 0,
     }

@@ -15,10 +15,5 @@ use modes::Mode;
 pub fn is_aligned(mode: Mode) -> bool
     ensures { result ≡ aligned mode }
 {
-    match mode {
-        Mode::Hunting => false,
-        Mode::OneFound => false,
-        Mode::TwoFound => false, // only the third good word aligns
-        Mode::Aligned(_) => true,
-    }
+    matches!(mode, Mode::Aligned(_)) // only the third good word aligns
 }

@@ -6,7 +6,7 @@ ghost use Rattle.engine.specs.Walk.{Regular, Fits};
 ghost use Rattle.plain.specs.Walk.{Within, is_control, Voted, decisions_of, minorities_of, services_in, four_sums};
 
 use engine::frame::Place;
-use engine::{frame, packed};
+use engine::{Errors, frame, packed};
 use table::Row;
 
 // What a frame says: its note, the wrong digits of its alignment signal, the dissenting digits of each tributary.
@@ -17,47 +17,21 @@ pub struct Said {
     pub dissent: [usize; 4],
 }
 
-// What is counted while the notes are read.
-#[derive(Clone, Copy)]
-pub struct Errors {
-    pub alignment: usize,
-    pub dissent: [usize; 4],
-}
-
 // 1 where digit d at place q of a frame is a wrong digit of the frame alignment signal.
 fn wrong_by(row: Row, q: usize, d: u8) -> usize
     requires { Regular row × (q < row.digits) }
     ensures { (result ≡ wrong_by row q d (place_in row q)) × (result ≤ 1) }
 {
-    let place = frame::place_in(row, q);
-    match place {
-        Place::Alignment => {
-            if d == frame::word_digit(row, q) {
-                return 0;
-            }
-            1
-        }
-        Place::Service => 0,
-        Place::Fixed => 0,
-        Place::Control => 0,
-        Place::Negative => 0,
-        Place::Positive => 0,
-        Place::Tributary => 0,
+    match frame::place_in(row, q) {
+        Place::Alignment => usize::from(d != frame::word_digit(row, q)),
+        _ => 0,
     }
 }
 
 fn is_control(place: Place) -> bool
     ensures { result ≡ is_control place }
 {
-    match place {
-        Place::Alignment => false,
-        Place::Service => false,
-        Place::Fixed => false,
-        Place::Control => true,
-        Place::Negative => false,
-        Place::Positive => false,
-        Place::Tributary => false,
-    }
+    matches!(place, Place::Control)
 }
 
 // Digit d at place q of a frame is counted, where it is a control digit: at 4 * d + j, where j is its tributary.
@@ -93,10 +67,8 @@ fn hear_frame(row: Row, line: &[u8], f: usize, votes: &mut [usize; 8]) -> usize
         × Voted row line.now f row.digits votes.new }
 {
     let mut wrong: usize = 0;
-    let mut q: usize = 0;
-    while q < row.digits {
+    for q in 0..row.digits {
         wrong += hear_place(row, line, f, q, votes);
-        q += 1;
     }
     wrong
 }
@@ -106,10 +78,7 @@ fn decision(votes: &[usize; 8], j: usize) -> u8
     requires { j < 4 }
     ensures { (result ≡ cond (ltb (get_or votes.now j 0) (get_or votes.now (4 + j) 0)) 1 0) × (result < 2) }
 {
-    if votes[j] < votes[4 + j] {
-        return 1;
-    }
-    0
+    u8::from(votes[j] < votes[4 + j])
 }
 
 // The digits of the minority.
@@ -117,19 +86,18 @@ fn minority(votes: &[usize; 8], j: usize) -> usize
     requires { j < 4 }
     ensures { result ≡ min (get_or votes.now j 0) (get_or votes.now (4 + j) 0) }
 {
-    if votes[4 + j] < votes[j] {
-        return votes[4 + j];
-    }
-    votes[j]
+    votes[j].min(votes[4 + j])
 }
 
 // The four decisions as bits 0 to 3.
+#[tactic(auto, unfolding(crate::specs::Walk::decisions_of))]
 fn decisions(votes: &[usize; 8]) -> u8
     ensures { (result ≡ decisions_of votes.now) × (result < 16) }
 {
     decision(votes, 0) + 2 * decision(votes, 1) + 4 * decision(votes, 2) + 8 * decision(votes, 3)
 }
 
+#[tactic(auto, unfolding(crate::specs::Walk::minorities_of))]
 fn minorities(votes: &[usize; 8]) -> [usize; 4]
     ensures { result ≡ minorities_of votes.now }
 {
@@ -147,9 +115,10 @@ fn alarm_in(row: Row, line: &[u8], f: usize) -> u8
     ensures { (result ≡ alarm_in row line.now f) × (result < 2) }
 {
     if 0 < row.alarms {
-        return packed::digit_from(line, 0, f * row.digits + row.alarm);
+        packed::digit_from(line, 0, f * row.digits + row.alarm)
+    } else {
+        0
     }
-    0
 }
 
 // The k-th digit for national use of frame f, or 0.
@@ -158,12 +127,14 @@ fn national_in(row: Row, line: &[u8], f: usize, k: usize) -> u8
     ensures { (result ≡ national_in row line.now f k) × (result < 2) }
 {
     if k < row.nationals {
-        return packed::digit_from(line, 0, f * row.digits + (row.national + k));
+        packed::digit_from(line, 0, f * row.digits + (row.national + k))
+    } else {
+        0
     }
-    0
 }
 
 // The service digits of frame f as bits 4 to 7.
+#[tactic(auto, unfolding(crate::specs::Walk::services_in))]
 fn services(row: Row, line: &[u8], f: usize) -> u8
     requires { Regular row × Within row (length line.now) f }
     ensures { (result ≡ services_in row line.now f) × (result ≤ 240) }
@@ -213,15 +184,13 @@ pub fn read(row: Row, line: &[u8], notes: &mut [u8]) -> Errors
 {
     let mut alignment: usize = 0;
     let mut dissent = [0usize; 4];
-    let mut f: usize = 0;
-    while f < notes.len() {
+    for (f, note) in notes.iter_mut().enumerate() {
         let said = said_by(row, line, f);
-        notes[f] = said.note;
-        let here = said.dissent;
-        let sums = four_sums(dissent, here);
+        *note = said.note;
+        // The borrow checker covers no call that lays its result in an array already there, so the sums have a name of their own.
+        let sums = four_sums(dissent, said.dissent);
         dissent = sums;
         alignment += said.wrong;
-        f += 1;
     }
     Errors { alignment, dissent }
 }

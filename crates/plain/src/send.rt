@@ -13,9 +13,10 @@ fn justified(row: Row, earlier: u64, notes: &[u8], p: usize, next: u8, unused: u
     ensures { (result ≡ cond (carries_at row earlier notes.now p) next unused) × (result < 2) }
 {
     if frame::carries_at(row, earlier, notes, p) {
-        return next;
+        next
+    } else {
+        unused
     }
-    unused
 }
 
 // The digit that is sent at place p of the line.
@@ -29,8 +30,7 @@ fn sent_at(row: Row, earlier: u64, notes: &[u8], buffer: &[u8], next: &[usize; 4
     let note = notes[f];
     let vote = frame::note_bit(note, j);
     let digit = packed::quarter_digit(buffer, j, next[j]);
-    let place = frame::place_in(row, q);
-    match place {
+    match frame::place_in(row, q) {
         Place::Alignment => frame::word_digit(row, q),
         Place::Service => frame::note_bit(note, 4 + (q - row.len)),
         Place::Fixed => 1,
@@ -49,12 +49,10 @@ pub fn send(row: Row, earlier: u64, line: &mut [u8], notes: &[u8], buffer: &[u8]
 {
     let mut next = [0usize; 4];
     let end = 8 * line.len();
-    let mut p: usize = 0;
-    while p < end {
+    for p in 0..end {
         let d = sent_at(row, earlier, notes, buffer, &next, p);
         packed::put_from(line, 0, p, d);
         frame::count_place(row, earlier, notes, &mut next, p);
-        p += 1;
     }
     next
 }

@@ -1,22 +1,11 @@
 // What is extracted: the digits of the tributaries, each into its quarter, by the notes. No control digit is looked at.
-ghost use Rattle.std.specs.Prelude.{◌≡◌, ◌+◌, ◌*◌, ◌/◌, ◌<◌, length, replicate};
+ghost use Rattle.std.specs.Prelude.{◌≡◌, ◌+◌, ◌*◌, ◌/◌, ◌<◌, length};
 ghost use Rattle.engine.specs.Engine.{packed, counts_to, handed_at};
 ghost use Rattle.engine.specs.Walk.{Regular, Fits, Counted};
 ghost use Rattle.plain.specs.Walk.{Taken};
 
 use engine::{frame, packed};
 use table::Row;
-
-// Every byte zero.
-fn clear(bytes: &mut [u8])
-    ensures { bytes.new ≡ replicate (length bytes.old) 0 }
-{
-    let mut i: usize = 0;
-    while i < bytes.len() {
-        bytes[i] = 0;
-        i += 1;
-    }
-}
 
 // Place p of the line: where it carries a digit, that is its tributary's next.
 fn take_place(
@@ -53,14 +42,12 @@ pub fn take(row: Row, earlier: u64, line: &[u8], notes: &[u8], buffer: &mut [u8]
         × (buffer.new
         ≡ packed (length buffer.old) (handed_at row earlier notes.now line.now (8 * (length buffer.old / 4)))) }
 {
-    clear(buffer);
+    buffer.fill(0);
     let mut next = [0usize; 4];
     let end = 8 * line.len();
-    let mut p: usize = 0;
-    while p < end {
+    for p in 0..end {
         take_place(row, earlier, line, notes, buffer, &next, p);
         frame::count_place(row, earlier, notes, &mut next, p);
-        p += 1;
     }
     next
 }

@@ -10,13 +10,13 @@ use lib.Dec.{eqb, ltb}
 use lib.ListN.{length}
 use borrow.Author.Tests.{eqb-true, eq-eqb, ne_eqb, lt-ltb, le-ltb}
 use Rattle.table.specs.declared.Row.{Row}
-use Rattle.levels.specs.declared.faults.Fault.{Fault}
+use Rattle.levels.specs.Faults.{Fault}
 use Rattle.levels.specs.Table.{Shared}
 use Rattle.levels.specs.Places.{noted_of}
 use Rattle.levels.specs.Sizes.{bad_line, bad_notes, bad_buffer, frames_refusal, size_refusal}
 use Rattle.levels.specs.Faults as quick
 use Rattle.levels.proofs.Judged.{accepted}
-use Rattle.engine.specs.declared.refusals.Refusal.{Refusal}
+use Rattle.engine.specs.Engine.{Refusal}
 use Rattle.engine.specs.Engine as plain
 use Rattle.plain_promises.specs.Same.{SameCounted}
 use Rattle.plain_promises.proofs.Order.{counts_same}

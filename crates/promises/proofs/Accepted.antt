@@ -1,4 +1,5 @@
 -- What an accepted call is over its level's row: the line, the counts, the notes and the quarters as the theorems speak of them.
+use Rattle.std.specs.Prelude.{Option, Some, None}
 use mathlib.Core.Path.{◌≡◌, refl, sym, ◌∙◌, ap}
 use mathlib.Core.Bool.{Bool, cond, true, false}
 use mathlib.Core.List.{List}
@@ -14,8 +15,6 @@ use Rattle.digits.proofs.Laws.{digits-length, digits-binary, digits-of-bytes, ta
 use Rattle.digits.proofs.Lists.{of_four}
 use Rattle.levels.proofs.Buffers.{quarter-length}
 use Rattle.table.specs.declared.Row.{Row}
-use Rattle.table.specs.declared.Level.{Level}
-use Rattle.table.specs.declared.Level.TheVariants.{Of, NoSuchLevel}
 use Rattle.table.specs.Table.{level_of}
 use Rattle.levels.specs.Table.{Shared}
 use Rattle.levels.specs.Sizes.{on_level, frames_of, size_refusal, quarter_of, Accepted}
@@ -25,8 +24,8 @@ use Rattle.levels.proofs.Counts.{line-count}
 use Rattle.levels.proofs.Columns.{columns, frame-start}
 use Rattle.levels.proofs.Inverse.{places-length}
 use Rattle.levels.proofs.Judged.{accepted, fits-quarter, no-size-refused}
-use Rattle.levels.specs.declared.faults.Counted.{Counted}
-use Rattle.levels.specs.declared.faults.Fault.{Fault}
+use Rattle.levels.specs.Faults.{Counted}
+use Rattle.levels.specs.Faults.{Fault}
 use Rattle.levels.specs.Faults.{fault, bad_earlier, fault_of, send_fault_of, refused_with, counted, answer_on, answered, send_answer_on, send_answered}
 use Rattle.levels.proofs.Refusals.{EarlierFits, NotesFit, NationalsSet, faultless, fit-faultless, send-faultless, set-faultless}
 use Rattle.levels.specs.Line.{line_digit, line_of}
@@ -42,19 +41,19 @@ use Rattle.promises.proofs.Together.{split}
 use Rattle.promises.proofs.RoundTrip.{line-binary}
 
 -- an answer that the call on no level does not give was given on a level's row
-pub some_level : {A : Type 0} (P : A → Type 0) (level : Level) (go : Row → A) (none : A) → (P none → ⊥) → P (on_level level go none) → (row : Row) × (level ≡ Of row)
-some_level P (Of row) go none n h = (row, refl)
-some_level P NoSuchLevel go none n h = absurd (n h)
+pub some_level : {A : Type 0} (P : A → Type 0) (level : Option Row) (go : Row → A) (none : A) → (P none → ⊥) → P (on_level level go none) → (row : Row) × (level ≡ Some row)
+some_level P (Some row) go none n h = (row, refl)
+some_level P None go none n h = absurd (n h)
 
 -- and so was every answer of a call that did not refuse
-on-level : (level : ℕ) (go : Row → Counted) → (on_level (level_of level) go (refused_with (fault 1 0))).refusal ≡ 0 → (row : Row) × (level_of level ≡ Of row)
+on-level : (level : ℕ) (go : Row → Counted) → (on_level (level_of level) go (refused_with (fault 1 0))).refusal ≡ 0 → (row : Row) × (level_of level ≡ Some row)
 on-level level go ok = some_level (λ (r : Counted). r.refusal ≡ 0) (level_of level) go (refused_with (fault 1 0)) (λ e. omega arith) ok
 
-pub call-level : (level earlier : ℕ) (c : Lent) → ExtractAccepted level earlier c → (row : Row) × (level_of level ≡ Of row)
+pub call-level : (level earlier : ℕ) (c : Lent) → ExtractAccepted level earlier c → (row : Row) × (level_of level ≡ Some row)
 call-level level earlier c ok =
     on-level level (λ (row : Row). answer_on row earlier (length c.line) c.notes (length c.buffer)) ok
 
-pub send-level : (level earlier : ℕ) (c : Lent) → SendAccepted level earlier c → (row : Row) × (level_of level ≡ Of row)
+pub send-level : (level earlier : ℕ) (c : Lent) → SendAccepted level earlier c → (row : Row) × (level_of level ≡ Some row)
 send-level level earlier c ok =
     on-level level (λ (row : Row). send_answer_on row earlier (length c.line) c.notes (length c.buffer)) ok
 
@@ -75,7 +74,7 @@ as-together level earlier c ok =
 accepted-together : (level earlier : ℕ) (c : Lent) → ReadAccepted level earlier c → (together level earlier c.line c.notes c.buffer).refusal ≡ 0
 accepted-together level earlier c ok = sym (ap (λ (o : Outcome). o.refusal) (as-together level earlier c ok)) ∙ ok
 
-pub read-level : (level earlier : ℕ) (c : Lent) → ReadAccepted level earlier c → (row : Row) × (level_of level ≡ Of row)
+pub read-level : (level earlier : ℕ) (c : Lent) → ReadAccepted level earlier c → (row : Row) × (level_of level ≡ Some row)
 read-level level earlier c ok =
     some_level (λ (o : Outcome). o.refusal ≡ 0) (level_of level) (λ (row : Row). together_on row earlier c.line c.notes c.buffer) (refused_whole 1 c.notes c.buffer) (λ e. omega arith)
     (accepted-together level earlier c ok)
@@ -137,7 +136,7 @@ line-digits row earlier notes tributary bin bytes F places =
     (digits-of-bytes bytes (line_digits row earlier notes tributary F) (line-binary row earlier notes tributary bin F)
     (tab-length (F * row.digits) 0 (line_digit row earlier notes tributary) ∙ sym places))
 
-module _ (level : ℕ) (row : Row) (e : level_of level ≡ Of row) where
+module _ (level : ℕ) (row : Row) (e : level_of level ≡ Some row) where
   pub shared : Shared row
   shared = shared-row level row e
 
@@ -152,7 +151,7 @@ module _ (level : ℕ) (row : Row) (e : level_of level ≡ Of row) where
         room = rw F lent.room;
       }
 
-module _ (level earlier : ℕ) (row : Row) (e : level_of level ≡ Of row) where
+module _ (level earlier : ℕ) (row : Row) (e : level_of level ≡ Some row) where
   abbrev sh : Shared row
   sh = shared level row e
 

@@ -1,6 +1,7 @@
 -- Demand 3 and the round trip as theorems on the two calls. What is assumed of a send is that it was accepted, and nothing else: level,
 -- lengths, room and notes follow from that, and of two sends whose damaged lines are equal, that they have one frame count. A reading that is
 -- lent enough for the send's frames is accepted.
+use Rattle.std.specs.Prelude.{Option, Some, None}
 use mathlib.Core.Path.{◌≡◌, refl, sym, ◌∙◌, ap}
 use mathlib.Core.Logic.{◌≢◌}
 use mathlib.Core.List.{List}
@@ -13,8 +14,6 @@ use borrow.Author.Tests.{ne_eqb}
 use Rattle.digits.specs.Digits.{digits_of}
 use Rattle.digits.proofs.Laws.{digits-length, digits-binary, tab-length}
 use Rattle.table.specs.declared.Row.{Row}
-use Rattle.table.specs.declared.Level.{Level}
-use Rattle.table.specs.declared.Level.TheVariants.{Of, NoSuchLevel}
 use Rattle.table.specs.Table.{level_of}
 use Rattle.levels.specs.Table.{Shared}
 use Rattle.levels.specs.Sizes.{on_level}
@@ -43,7 +42,7 @@ counts_same row earlier a b F h = rw (h 0 (lit< tt), h 1 (lit< tt), h 2 (lit< tt
 same-frames : (row : Row) → Shared row → (F G : ℕ) → F * row.digits ≡ G * row.digits → F ≡ G
 same-frames row sh = eq_of_mul-eq-mul_right row.digits (omega (arith, in_frame row sh 0 0 (omega (arith, sh.later_set)) (omega (arith, sh.room))))
 
-module _ (level earlier : ℕ) (row : Row) (e : level_of level ≡ Of row) where
+module _ (level earlier : ℕ) (row : Row) (e : level_of level ≡ Some row) where
   abbrev sh : Shared row
   sh = shared level row e
 
@@ -221,9 +220,9 @@ others-outside level earlier j k a b ok lent = let on = read-level level earlier
 pub own-outside : (level j : ℕ) (line other : List ℕ) → SameButAt level j line other → SameOutside j line other
 own-outside level j line other same = go (level_of level) same
   where
-    go : (l : Level) → on_level l (λ (row : Row). SameBut row j (digits_of line) (digits_of other)) ⊥ → SameOutside j line other
-    go (Of row) same p h n = same p h (rw (ne_eqb (p % 4) j n))
-    go NoSuchLevel same p h n = absurd same
+    go : (l : Option Row) → on_level l (λ (row : Row). SameBut row j (digits_of line) (digits_of other)) ⊥ → SameOutside j line other
+    go (Some row) same p h n = same p h (rw (ne_eqb (p % 4) j n))
+    go None same p h n = absurd same
 
 -- so, whatever is changed in tributary j's own places
 pub others-come-out : (level earlier j k : ℕ) (a b : Lent) → ReadAccepted level earlier a → LentAt level a b → length a.line ≡ length b.line

@@ -1,5 +1,6 @@
 -- Levels 2 to 4 do not look at the vote before frame 0: their frames act on their own votes alone, and 5 is not given for it. So each call answers and leaves
 -- the same whatever it is, and demand 3 holds with a vote of its own for each call.
+use Rattle.std.specs.Prelude.{Option, Some, None}
 use mathlib.Core.Path.{◌≡◌, refl, sym, ◌∙◌, ap, fun_ext}
 use mathlib.Core.Bool.{cond, true, false}
 use mathlib.Core.List.{List, []}
@@ -11,10 +12,8 @@ use borrow.Author.Tests.{eqb-true}
 use Rattle.digits.specs.Digits.{digits_of}
 use Rattle.digits.proofs.Tests.{cond-told}
 use Rattle.table.specs.declared.Row.{Row}
-use Rattle.table.specs.declared.Level.{Level}
-use Rattle.table.specs.declared.Level.TheVariants.{Of, NoSuchLevel}
 use Rattle.table.specs.Table.{level_of}
-use Rattle.levels.specs.declared.faults.Counted.{Counted}
+use Rattle.levels.specs.Faults.{Counted}
 use Rattle.levels.specs.Sizes.{on_level, quarter_of}
 use Rattle.levels.specs.Places.{pos_of}
 use Rattle.levels.specs.Order.{has_negative, action_of, actions, counts_of}
@@ -31,7 +30,7 @@ use Rattle.promises.specs.Earlier.{NotLookedAt, AnyVotes}
 use Rattle.promises.proofs.Levels.{numbers2, numbers3, numbers4, level-2, level-3, level-4}
 
 -- levels 2, 3 and 4 have no negative places
-abbrev pub Without : Level → Type 0
+abbrev pub Without : Option Row → Type 0
 Without l = on_level l (λ (row : Row). has_negative row ≡ false) (Unit {0})
 
 pub without : (level : ℕ) → level < 5 → Without (level_of level)
@@ -87,25 +86,25 @@ module _ (row : Row) (none : has_negative row ≡ false) (x y : ℕ) where
 -- ---- of the calls, whatever the level's row
 
 module _ (x y : ℕ) where
-  on-send : (l : Level) → Without l → (line : ℕ) (notes : List ℕ) (buffer : ℕ)
+  on-send : (l : Option Row) → Without l → (line : ℕ) (notes : List ℕ) (buffer : ℕ)
       → on_level l (λ (row : Row). send_answer_on row x line notes buffer) (refused_with (fault 1 0)) ≡ on_level l (λ (row : Row). send_answer_on row y line notes buffer) (refused_with (fault 1 0))
-  on-send (Of row) none line notes buffer = rw (send-fault-alike row none x y line notes buffer, counts-alike row none x y notes (length notes))
-  on-send NoSuchLevel none line notes buffer = refl
+  on-send (Some row) none line notes buffer = rw (send-fault-alike row none x y line notes buffer, counts-alike row none x y notes (length notes))
+  on-send None none line notes buffer = refl
 
-  on-extract : (l : Level) → Without l → (line : ℕ) (notes : List ℕ) (buffer : ℕ)
+  on-extract : (l : Option Row) → Without l → (line : ℕ) (notes : List ℕ) (buffer : ℕ)
       → on_level l (λ (row : Row). answer_on row x line notes buffer) (refused_with (fault 1 0)) ≡ on_level l (λ (row : Row). answer_on row y line notes buffer) (refused_with (fault 1 0))
-  on-extract (Of row) none line notes buffer = rw (fault-alike row none x y line notes buffer, counts-alike row none x y notes (length notes))
-  on-extract NoSuchLevel none line notes buffer = refl
+  on-extract (Some row) none line notes buffer = rw (fault-alike row none x y line notes buffer, counts-alike row none x y notes (length notes))
+  on-extract None none line notes buffer = refl
 
-  on_line : (l : Level) → Without l → (line notes buffer : List ℕ)
+  on_line : (l : Option Row) → Without l → (line notes buffer : List ℕ)
       → on_level l (λ (row : Row). multiplex.line_on row x line notes buffer) line ≡ on_level l (λ (row : Row). multiplex.line_on row y line notes buffer) line
-  on_line (Of row) none line notes buffer = line-alike row none x y line notes buffer
-  on_line NoSuchLevel none line notes buffer = refl
+  on_line (Some row) none line notes buffer = line-alike row none x y line notes buffer
+  on_line None none line notes buffer = refl
 
-  on-buffer : (l : Level) → Without l → (line notes buffer : List ℕ)
+  on-buffer : (l : Option Row) → Without l → (line notes buffer : List ℕ)
       → on_level l (λ (row : Row). buffer_on row x line notes buffer) buffer ≡ on_level l (λ (row : Row). buffer_on row y line notes buffer) buffer
-  on-buffer (Of row) none line notes buffer = rw (fault-alike row none x y (length line) notes (length buffer), quarters-alike row none x y notes line (length buffer / 4))
-  on-buffer NoSuchLevel none line notes buffer = refl
+  on-buffer (Some row) none line notes buffer = rw (fault-alike row none x y (length line) notes (length buffer), quarters-alike row none x y notes line (length buffer / 4))
+  on-buffer None none line notes buffer = refl
 
 -- at levels 2 to 4 the vote is not looked at
 pub not-looked-at : (level x y : ℕ) (c : Lent) → level < 5 → NotLookedAt level x y c

@@ -1,6 +1,7 @@
 -- The statements on the calls say no less than they may. Sends that carried the same leave lines of which the one comes from the other by
 -- damage: what they carried is all that a line tells. And what demultiplexing is said to return is what it leaves in notes and buffer:
 -- multiplexed again, where the national digits came as 1, it is accepted and carries the same, and an undamaged line comes again byte for byte.
+use Rattle.std.specs.Prelude.{Some}
 use mathlib.Core.Path.{◌≡◌, refl, sym, ◌∙◌, ap}
 use mathlib.Core.Bool.{cond, true}
 use mathlib.Core.List.{List}
@@ -13,7 +14,6 @@ use Rattle.digits.specs.Digits.{digits_of, Binary}
 use Rattle.digits.proofs.Laws.{digits-binary, bytes-length, tab-length}
 use Rattle.digits.proofs.Lists.{differing-self}
 use Rattle.table.specs.declared.Row.{Row}
-use Rattle.table.specs.declared.Level.TheVariants.{Of}
 use Rattle.table.specs.Table.{level_of}
 use Rattle.levels.specs.declared.order.Action.{Action}
 use Rattle.levels.specs.Table.{Shared}
@@ -74,7 +74,7 @@ module _ (row : Row) (sh : Shared row) (F earlier : ℕ) (a b : List ℕ) (tribu
       }
 
 -- two accepted sends that carried the same: the line of the second is made of its notes and of the first one's tributaries
-module _ (level earlier : ℕ) (row : Row) (e : level_of level ≡ Of row) (a b : Lent) (ok-a : SendAccepted level earlier a)
+module _ (level earlier : ℕ) (row : Row) (e : level_of level ≡ Some row) (a b : Lent) (ok-a : SendAccepted level earlier a)
     (ok-b : SendAccepted level earlier b) (same : SendsSame level earlier a b) where
   abbrev first : ℕ → List ℕ
   first = tributary level earlier row e a ok-a
@@ -110,7 +110,7 @@ pub same-meet : (level earlier : ℕ) (a b : Lent) → SendAccepted level earlie
 same-meet level earlier a b ok-a = let on = send-level level earlier a ok-a in meet-on level earlier on.0 on.1 a b ok-a
 
 -- what a reading leaves, sent on
-module _ (level earlier : ℕ) (row : Row) (e : level_of level ≡ Of row) (c : Lent) (ok : ReadAccepted level earlier c) where
+module _ (level earlier : ℕ) (row : Row) (e : level_of level ≡ Some row) (c : Lent) (ok : ReadAccepted level earlier c) where
   buffer-on : length (sent_on level earlier c).buffer ≡ length c.buffer
   buffer-on =
       rw (read-buffer level earlier row e c ok)
@@ -200,7 +200,7 @@ line-again level earlier send read ok lent same = let on = send-level level earl
     back : SendBack level earlier send read
     back = send-back level earlier send read ok lent same
 
-    go : (row : Row) → level_of level ≡ Of row → sent_line level earlier (sent_on level earlier read) ≡ sent_line level earlier send
+    go : (row : Row) → level_of level ≡ Some row → sent_line level earlier (sent_on level earlier read) ≡ sent_line level earlier send
     go row e =
         let size : length read.line ≡ length send.line = ap length (same ∙ send-bytes level earlier row e send ok) ∙ bytes-length (length send.line) _ in
         let set : NationalsSet row (read_notes level earlier read) = rw back.noted (send-sound level earlier row e send ok).nationals_set in

@@ -1,6 +1,7 @@
 -- Extraction alone: a tributary's digits and count depend on the digits at its justification and tributary places and on its own bit of each note;
 -- by the notes that were read of a multiplexed line what was sent is returned; by notes shifted by a frame a tributary whose decisions do not change
 -- comes out the same.
+use Rattle.std.specs.Prelude.{Option, Some, None}
 use mathlib.Core.Path.{◌≡◌, refl, sym, ◌∙◌, ap}
 use mathlib.Core.Bool.{Bool, true, false, false≢true, ◌&&◌}
 use mathlib.Core.List.{List, [], ◌∷◌, ◌++◌}
@@ -15,8 +16,6 @@ use Rattle.digits.specs.Digits.{digits_of}
 use Rattle.digits.proofs.Tests.{and_both}
 use Rattle.digits.proofs.Laws.{digits-length, tab-length}
 use Rattle.table.specs.declared.Row.{Row}
-use Rattle.table.specs.declared.Level.{Level}
-use Rattle.table.specs.declared.Level.TheVariants.{Of, NoSuchLevel}
 use Rattle.levels.specs.declared.order.Action.{Action}
 use Rattle.levels.specs.declared.places.Kind.{Kind}
 use Rattle.levels.specs.declared.places.Kind.TheVariants.{Word, Service, Control, Justification, Tributary}
@@ -58,7 +57,7 @@ bears-own Control b = refl
 bears-own (Justification sign) b = refl
 bears-own Tributary b = refl
 
-module _ (level earlier : ℕ) (row : Row) (e : level_of level ≡ Of row) where
+module _ (level earlier : ℕ) (row : Row) (e : level_of level ≡ Some row) where
   abbrev sh : Shared row
   sh = shared level row e
 
@@ -115,7 +114,7 @@ module _ (level earlier : ℕ) (row : Row) (e : level_of level ≡ Of row) where
           (rw sent (send-sound level earlier row e send ok).notes_fit)
 
 -- tributary k by its own digits and its own bits, of the notes and of the vote before them
-module _ (level x y : ℕ) (row : Row) (e : level_of level ≡ Of row) where
+module _ (level x y : ℕ) (row : Row) (e : level_of level ≡ Some row) where
   abbrev shared-facts : Shared row
   shared-facts = shared level row e
 
@@ -170,10 +169,10 @@ own-only level x y k a b ok-a ok-b hk same = bearing-only level x y k a b ok-a o
     both true kind h = bears-own kind h
     both false kind h = h
 
-    own : (l : Level) → on_level l (λ (row : Row). SameOwn row k (digits_of a.line) (digits_of b.line)) ⊥
+    own : (l : Option Row) → on_level l (λ (row : Row). SameOwn row k (digits_of a.line) (digits_of b.line)) ⊥
         → on_level l (λ (row : Row). SameBearing row k (digits_of a.line) (digits_of b.line)) ⊥
-    own (Of row) same = λ p h c. same p h (both (eqb (p % 4) k) (kind_at row p) c)
-    own NoSuchLevel same = same
+    own (Some row) same = λ p h c. same p h (both (eqb (p % 4) k) (kind_at row p) c)
+    own None same = same
 
 -- "looks at no control digit": lines that differ in control digits alone come out the same by the same notes, all four tributaries
 bears-no-control : (k : Kind) → bears k ≡ true → is_control k ≡ false
@@ -189,10 +188,10 @@ no-control-digit level earlier a b ok-a ok-b notes same k hk =
     bearing-only level earlier earlier k a b ok-a ok-b hk (bearing (level_of level) same)
     (record { before = refl; frames = ap (λ (ns : List ℕ). length ns) notes; bit = λ f h. ap (λ (ns : List ℕ). decisions ns k f) notes })
   where
-    bearing : (l : Level) → on_level l (λ (row : Row). SameButControls row (digits_of a.line) (digits_of b.line)) ⊥
+    bearing : (l : Option Row) → on_level l (λ (row : Row). SameButControls row (digits_of a.line) (digits_of b.line)) ⊥
         → on_level l (λ (row : Row). SameBearing row k (digits_of a.line) (digits_of b.line)) ⊥
-    bearing (Of row) same = λ p h c. same p h (bears-no-control (kind_at row p) (and_both (eqb (p % 4) k) (bears (kind_at row p)) c).1)
-    bearing NoSuchLevel same = same
+    bearing (Some row) same = λ p h c. same p h (bears-no-control (kind_at row p) (and_both (eqb (p % 4) k) (bears (kind_at row p)) c).1)
+    bearing None same = same
 
 -- extraction of a line that was multiplexed, by the notes that were read of it, returns what was sent
 pub extract-back : (level earlier : ℕ) (send c : Lent) (old : List ℕ) → SendAccepted level earlier send → LentAt level send c → c.line ≡ sent_line level earlier send

@@ -1,6 +1,7 @@
 -- Demand 3 at 8448, 34368 and 139264 kbit/s, with positive justification and with positive/zero/negative, with the level's numbers in the
 -- statement. Proved once over the row: what the plain words allow is damage as the row defines it, and the places that they give to a
 -- tributary are its own. A place is kept exactly if it lies past its set's head, where what the frame does says how far that of the last set goes.
+use Rattle.std.specs.Prelude.{Some}
 use mathlib.Core.Path.{◌≡◌, refl, sym, ◌∙◌, ap}
 use mathlib.Core.Logic.{◌≢◌}
 use mathlib.Core.Bool.{Bool, cond, true, false, true≢false, false≢true, ◌&&◌, not}
@@ -18,7 +19,6 @@ use Rattle.digits.proofs.Laws.{digits-binary, map-append, tab-at, tab-length}
 use Rattle.digits.proofs.Lists.{tab-more}
 use Rattle.digits.proofs.Sums.{sum_same}
 use Rattle.table.specs.declared.Row.{Row}
-use Rattle.table.specs.declared.Level.TheVariants.{Of}
 use Rattle.levels.specs.declared.order.Action.{Action}
 use Rattle.levels.specs.declared.order.Action.TheVariants.{Stuffed, PositiveCarries, BothCarry}
 use Rattle.table.specs.Table.{level_of, row2, row3, row4, row12, row14}
@@ -434,7 +434,7 @@ module _ (row : Row) (sh : Shared row) where
     service-places later other lo hi = by_kind false (rw (kind-fixed row sh s later other t lo hi))
 
 -- demand 3 at a level, by the numbers of its row
-module _ (level : ℕ) (row : Row) (e : level_of level ≡ Of row) where
+module _ (level : ℕ) (row : Row) (e : level_of level ≡ Some row) where
   abbrev sh : Shared row
   sh = shared level row e
 

@@ -1,4 +1,5 @@
 -- No frames at all: accepted at every level, with any buffer of four equal quarters and any earlier vote that the level accepts.
+use Rattle.std.specs.Prelude.{Some}
 use mathlib.Core.Path.{◌≡◌, sym}
 use mathlib.Core.Bool.{false}
 use mathlib.Core.List.{List, [], ◌++◌}
@@ -11,7 +12,6 @@ use Rattle.digits.specs.Digits.{bytes_of, tab}
 use Rattle.digits.specs.Sums.{sum_to}
 use Rattle.digits.proofs.Laws.{digits-zeros, bytes-of-digits, zeros-at}
 use Rattle.table.specs.declared.Row.{Row}
-use Rattle.table.specs.declared.Level.TheVariants.{Of}
 use Rattle.table.specs.Table.{level_of}
 use Rattle.levels.specs.Table.{Shared}
 use Rattle.levels.specs.Sizes.{Framed, Accepted}
@@ -33,7 +33,7 @@ bytes-zeros q =
 zeros-joined : (m n : ℕ) → replicate {A = ℕ} m 0 ++ replicate n 0 ≡ replicate (m + n) 0
 zeros-joined m n = replicate-append-replicate m n 0
 
-module _ (level : ℕ) (row : Row) (e : level_of level ≡ Of row) (earlier : ℕ) (good : bad_earlier row earlier ≡ false) (buffer : List ℕ) (q : ℕ) (four : length buffer ≡ 4 * q) where
+module _ (level : ℕ) (row : Row) (e : level_of level ≡ Some row) (earlier : ℕ) (good : bad_earlier row earlier ≡ false) (buffer : List ℕ) (q : ℕ) (four : length buffer ≡ 4 * q) where
   abbrev sh : Shared row
   sh = shared-row level row e
 

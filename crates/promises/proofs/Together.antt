@@ -1,5 +1,6 @@
 -- Demultiplexing split in two: the two calls in turn answer and leave what the one call did, on every input; but where it found only too little
 -- room in the buffer (4) or a bad earlier vote (5), the notes are by then written.
+use Rattle.std.specs.Prelude.{Option, Some, None}
 use mathlib.Core.Path.{◌≡◌, refl, sym, ◌∙◌, ap}
 use mathlib.Core.Logic.{◌≢◌}
 use mathlib.Core.Bool.{Bool, cond, true, false}
@@ -13,8 +14,6 @@ use borrow.Author.Tests.{eq-eqb, ne_eqb, eqb-false}
 use Rattle.digits.specs.Digits.{digits_of}
 use Rattle.digits.proofs.Laws.{digits-binary, tab-length}
 use Rattle.table.specs.declared.Row.{Row}
-use Rattle.table.specs.declared.Level.{Level}
-use Rattle.table.specs.declared.Level.TheVariants.{Of, NoSuchLevel}
 use Rattle.table.specs.Table.{level_of}
 use Rattle.levels.specs.Sizes.{on_level, bad_line, bad_notes, bad_buffer, frames_refusal, size_refusal, Accepted}
 use Rattle.levels.specs.Faults.{fault, bad_earlier, fault_of}
@@ -23,7 +22,7 @@ use Rattle.levels.proofs.Rows.{shared-row}
 use Rattle.levels.proofs.Judged.{accepted}
 use Rattle.levels.proofs.Refusals.{NotesFit, fault-of-size, fault-of-earlier, fit-faultless}
 use Rattle.reading.specs.Notes.{note_of, notes_of}
-use Rattle.reading.specs.declared.Noted.{Noted}
+use Rattle.reading.specs.Reading.{Noted}
 use Rattle.reading.specs.Reading.{refused_with, noted_from, noted, notes_after}
 use Rattle.promises.specs.Together.{Outcome, together, Split, ByThenWritten}
 use Rattle.promises.proofs.Reading.{note-fits}
@@ -35,7 +34,7 @@ frames_small row line notes =
     let small : ℕ → Type 0 = λ (n : ℕ). n ≤ 3 in
     cond-by small (bad_line row line) (lit≤ tt) (cond-by small (bad_notes row line notes) (lit≤ tt) (lit≤ tt))
 
-module _ (level earlier : ℕ) (line notes buffer : List ℕ) (row : Row) (e : level_of level ≡ Of row) where
+module _ (level earlier : ℕ) (line notes buffer : List ℕ) (row : Row) (e : level_of level ≡ Some row) where
   abbrev F : ℕ
   F = length notes
 
@@ -136,9 +135,9 @@ module _ (level earlier : ℕ) (line notes buffer : List ℕ) (row : Row) (e : l
 pub split : (level earlier : ℕ) (line notes buffer : List ℕ) → Split level earlier line notes buffer
 split level earlier line notes buffer = go (level_of level) refl
   where
-    go : (l : Level) → level_of level ≡ l → Split level earlier line notes buffer
-    go (Of row) e = on_row level earlier line notes buffer row e
-    go NoSuchLevel e =
+    go : (l : Option Row) → level_of level ≡ l → Split level earlier line notes buffer
+    go (Some row) e = on_row level earlier line notes buffer row e
+    go None e =
         let told : (together level earlier line notes buffer).refusal ≡ 1 = rw e in
         record {
           same = λ _. rw e;
@@ -165,7 +164,7 @@ by-then-written level earlier line notes buffer late =
         go true w e = refl
         go false w e = absurd (eqb-false n 0 w (sym y ∙ e))
 
-    left : (l : Level) → level_of level ≡ l → (noted level line (length notes)).refusal ≡ 0
+    left : (l : Option Row) → level_of level ≡ l → (noted level line (length notes)).refusal ≡ 0
         → notes_after level line notes ≡ on_level (level_of level) (λ (row : Row). notes_of row (digits_of line) (length notes)) notes
-    left (Of row) e ok = rw (e, number (frames_refusal row (length line) (length notes)) (noted_from row (digits_of line) (length notes)) (refused_with (frames_refusal row (length line) (length notes))) refl refl (rw e at ok))
-    left NoSuchLevel e ok = rw e
+    left (Some row) e ok = rw (e, number (frames_refusal row (length line) (length notes)) (noted_from row (digits_of line) (length notes)) (refused_with (frames_refusal row (length line) (length notes))) refl refl (rw e at ok))
+    left None e ok = rw e

@@ -1,6 +1,6 @@
 -- "F = 0 is accepted: all counts are 0, multiplexing writes nothing, demultiplexing clears the quarters." (document 01)
 use Rattle.std.specs.Prelude.{◌≡◌, List, [], ℕ, length, replicate}
-use Rattle.levels.specs.declared.faults.Counted.{Counted}
+use Rattle.levels.specs.Faults.{Counted}
 use Rattle.levels.specs.Faults.{answered, send_answered}
 use Rattle.reading.specs.Reading.{noted}
 use Rattle.multiplex.specs.Multiplex.{line_after}

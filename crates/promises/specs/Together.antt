@@ -3,12 +3,12 @@
 use Rattle.std.specs.Prelude.{◌≡◌, cond, List, [], ◌∷◌, ℕ, ◌/◌, ◌≤◌, ◌<◌, eqb, length}
 use Rattle.digits.specs.Digits.{digits_of}
 use Rattle.table.specs.declared.Row.{Row}
-use Rattle.levels.specs.declared.faults.Counted.{Counted}
+use Rattle.levels.specs.Faults.{Counted}
 use Rattle.table.specs.Table.{level_of}
 use Rattle.levels.specs.Sizes.{on_level, size_refusal}
 use Rattle.levels.specs.Order.{counts_of}
 use Rattle.levels.specs.Faults.{bad_earlier, answered}
-use Rattle.reading.specs.declared.Noted.{Noted}
+use Rattle.reading.specs.Reading.{Noted}
 use Rattle.reading.specs.Notes.{notes_of, alignment_to, dissents_of}
 use Rattle.reading.specs.Reading.{noted, notes_after}
 use Rattle.extraction.specs.Quarters.{quarters_from}

@@ -5,8 +5,8 @@ use mathlib.Core.Bool.{Bool, cond, true, false, true≢false}
 use mathlib.Core.List.{List, [], ◌∷◌}
 use Prim.Native.Nat.{ℕ, zero, suc, ◌+◌, ◌<◌, ◌≤◌}
 use lib.Dec.{eqb, leb, ltb}
-use lib.ListN.{length, get_or, set}
-use lib.Seq.{set-get_or}
+use lib.ListN.{length, get_or, set, take}
+use lib.Seq.{set-get_or, length-take-le}
 use native.Mathlib.Omega.{arith}
 use native.Mathlib.Numerals.{add-one}
 use borrow.Author.Tests.{leb-false, ltb-false}
@@ -124,6 +124,10 @@ module _ (ys : List Record) (line : ℕ) (piece : List ℕ) (first count : ℕ) 
 pub counted-in : (n : ℕ) → (counted_to n ≤ n) × (counted_to n ≤ 64)
 unfolding counted_to
 counted-in n = cond-told (λ (m : ℕ). (m ≤ n) × (m ≤ 64)) (ltb 64 n) (λ _. (omega arith, omega arith)) (λ e. (omega arith, ltb-false 64 n e))
+
+-- so many records are looked at
+pub looked-at : (ys : List Record) (m : ℕ) → m ≡ counted_to (length ys) → length (take m ys) ≡ m
+looked-at ys m e = length-take-le m ys (omega (arith, counted-in (length ys), e))
 
 bit-most : (t : Bool) → cond t 1 0 ≤ 1
 bit-most true = omega arith

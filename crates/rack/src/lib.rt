@@ -52,10 +52,8 @@ pub fn aligned(records: &[Record], answer: &mut [u64; 1]) -> u64
 {
     let number = rule::counted(records.len());
     let mut n: u64 = 0;
-    let mut i: usize = 0;
-    while i < number {
-        n = rule::count_on(n, records[i].mode);
-        i += 1;
+    for record in &records[..number] {
+        n = rule::count_on(n, record.mode);
     }
     rule::tell(records.len(), n, answer)
 }

@@ -1,4 +1,5 @@
 -- "Feeding or resetting line k changes no other record, and in any order of calls each line answers as if alone."
+use Rattle.std.specs.Prelude.{Option, Some, None}
 use mathlib.Core.Path.{◌≡◌, refl, sym, ap, ◌∙◌}
 use mathlib.Core.Bool.{Bool, cond, true, false}
 use mathlib.Core.List.{List, [], ◌∷◌}
@@ -10,8 +11,6 @@ use lib.Seq.{get_or-set_same, get_or-set_other}
 use borrow.Author.Tests.{ne_eqb, lt-leb, le-leb, le-ltb, eqb-true, eqb-false}
 use Rattle.digits.proofs.Tests.{cond-told}
 use Rattle.table.specs.declared.Row.{Row}
-use Rattle.table.specs.declared.Level.{Level}
-use Rattle.table.specs.declared.Level.TheVariants.{Of, NoSuchLevel}
 use Rattle.table.specs.Table.{level_of}
 use Rattle.levels.proofs.Rows.{shared-row}
 use Rattle.modes.specs.declared.Mode.{Mode}
@@ -132,7 +131,7 @@ fed-as s few piece first count =
     rw (no_more s.stretch.few, no_more s.stretch.alarm, mode-back s.mode few, yes-back s.stretch.few, yes-back s.stretch.alarm)
 
 -- refused, a state comes back equal
-refused-equal : (s : State) (row : Row) → level_of s.level ≡ Of row → (piece : List ℕ) (first count : ℕ)
+refused-equal : (s : State) (row : Row) → level_of s.level ≡ Some row → (piece : List ℕ) (first count : ℕ)
     → cond (eqb (feed_of s piece first count).refusal 0) (record_of (feed_of s piece first count).state) (record_of s) ≡ record_of (feed_of s piece first count).state
 unfolding feed_row
 refused-equal s row known piece first count =
@@ -159,9 +158,9 @@ module _ (s : State) (sound : Sound s) where
       record { row = sound.row; known = ap level_of v.1 ∙ sound.known; valid = v.0 }
   stays-sound (Reset level) = fresh-sound (level_of level) refl
     where
-      fresh-sound : (l : Level) → level_of level ≡ l → Sound (cond (eqb (fresh_at l level).refusal 0) (fresh_at l level).state s)
-      fresh-sound (Of row) known = record { row = row; known = known; valid = fresh-state row (shared-row level row known) level }
-      fresh-sound NoSuchLevel known = sound
+      fresh-sound : (l : Option Row) → level_of level ≡ l → Sound (cond (eqb (fresh_at l level).refusal 0) (fresh_at l level).state s)
+      fresh-sound (Some row) known = record { row = row; known = known; valid = fresh-state row (shared-row level row known) level }
+      fresh-sound None known = sound
 
 one-alone : (calls : List Call) (s : State) → Sound s → (of_one calls (record_of s) ≡ alone calls s) × (one_left calls (record_of s) ≡ record_of (alone_left calls s))
 unfolding of_one one_left alone alone_left
@@ -181,5 +180,5 @@ as-alone calls records k in_List few s keeps sound =
     (one.0 ∙ ap (of_one (own k calls)) keeps ∙ all.0, one.1 ∙ ap (one_left (own k calls)) keeps ∙ all.1)
 
 -- a reset that is not refused gives a record to begin with
-pub reset-sound : (level : ℕ) (row : Row) → level_of level ≡ Of row → (r : Record) → (left_one (Reset level) r ≡ record_of (fresh_state level)) × Sound (fresh_state level)
+pub reset-sound : (level : ℕ) (row : Row) → level_of level ≡ Some row → (r : Record) → (left_one (Reset level) r ≡ record_of (fresh_state level)) × Sound (fresh_state level)
 reset-sound level row known r = (rw known, record { row = row; known = known; valid = fresh-state row (shared-row level row known) level })

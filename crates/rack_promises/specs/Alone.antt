@@ -1,8 +1,7 @@
 -- Any list of calls on a rack, and each line alone. Document 02, request 11: "Feeding or resetting line k changes no other record, and in any order
 -- of calls each line answers as if alone." proofs/Alone.antt has the theorems.
-use Rattle.std.specs.Prelude.{◌≡◌, cond, List, [], ◌∷◌, ℕ, ◌+◌, eqb, length}
+use Rattle.std.specs.Prelude.{◌≡◌, cond, List, [], ◌∷◌, ℕ, ◌+◌, eqb, length, Some}
 use Rattle.table.specs.declared.Row.{Row}
-use Rattle.table.specs.declared.Level.TheVariants.{Of}
 use Rattle.table.specs.Table.{level_of}
 use Rattle.receiver.specs.declared.State.{State}
 use Rattle.receiver.specs.Feed.{fresh_of, feed_of, ValidState}
@@ -91,7 +90,7 @@ own k (x ∷ xs) = cond (eqb x.0 k) (x.1 ∷ own k xs) (own k xs)
 -- a state that is not refused with 6
 pub record Sound (s : State) : Type 0 where
   pub row : Row
-  pub known : level_of s.level ≡ Of row
+  pub known : level_of s.level ≡ Some row
   pub valid : ValidState row s
 
 -- ---- the count: how many records of a list are in mode aligned

@@ -5,8 +5,7 @@ use Prim.Native.Nat.{ℕ}
 use contract.Lifetimes.{Lfts}
 use denote.Triple.Clauses.{AtExit}
 use borrow.Fn.World.{ArgsD, ResD}
-use Rattle.reading.specs.declared.Noted.{Noted}
-use Rattle.reading.specs.Reading.{ReadNotesMet}
+use Rattle.reading.specs.Reading.{Noted, numbers_of, ReadNotesMet}
 use Rattle.reading.specs.contracts.read_notes.{signature, ended}
 use Rattle.reading.proofs.read_notes.Reads.{Asked, Learnt}
 
@@ -16,7 +15,7 @@ no-second-answer level line notes r s n m p q = (cc, cc)
 
 -- and what the call ensures is that statement
 pub read-notes-met : (κs : Lfts 2) (a : ArgsD signature κs) (r : ResD signature κs) (e : AtExit ended κs) → Learnt κs a r e
-    → ReadNotesMet a.0 a.1.0.now a.1.1.0.now r e.1.1.0.now
+    → ReadNotesMet a.0 a.1.0.now a.1.1.0.now (numbers_of r) e.1.1.0.now
 read-notes-met κs a r e met = met
 
 -- and it asks nothing of its caller

@@ -77,9 +77,6 @@ module _ {row : Row} {line : List ℕ} {F f : ℕ} {notes : List ℕ} {alignment
     short : length line ≤ 65536
     short = short-line row so_far.shared F (length line) so_far.few so_far.whole
 
-    pub note-asks : Shared row × (length line ≤ 65536) × ((f + 1) * row.bytes ≤ length line)
-    note-asks = (so_far.shared, short, frame-in)
-
     pub word-asks : Shared row × (f * row.digits + row.len ≤ 8 * length line) × (length line ≤ 65536)
     word-asks = (so_far.shared, word-inside row so_far.shared f (length line) frame-in, short)
 

@@ -1,16 +1,34 @@
 -- What the call that reads notes answers and what it leaves in the notes, refused or not, for any input. Document 01, "Multiplexing and
 -- demultiplexing from a known start" and "Refusal numbers"; document 02, request 7. It has no buffer, so that of the lengths only 2 and 3 apply.
-use Rattle.std.specs.Prelude.{◌≡◌, cond, List, [], ◌∷◌, ℕ, eqb, length}
+use Rattle.std.specs.Prelude.{◌≡◌, cond, List, [], ◌∷◌, ℕ, eqb, length, Result, Ok, Err}
 use Rattle.digits.specs.Digits.{digits_of}
 use Rattle.table.specs.declared.Row.{Row}
 use Rattle.table.specs.Table.{level_of}
 use Rattle.levels.specs.Sizes.{on_level, frames_refusal}
-use Rattle.reading.specs.declared.Noted.{Noted}
+use Rattle.refusal.specs.declared.Refusal.{Refusal}
+use Rattle.refusal.specs.Refusal.{number_of}
+use Rattle.reading.specs.declared.Errors.{Errors}
 use Rattle.reading.specs.Notes.{notes_of, alignment_to, dissents_of}
+
+-- the call's answer as numbers: the refusal, 0 for none, and the counts of errors
+pub record Noted : Type 0 where
+  pub refusal : ℕ
+  -- alignment digits that differ from the word, over all frames
+  pub alignment : ℕ
+  -- digits of each tributary's control groups that differ from their majority, over all frames
+  pub dissent : List ℕ
 
 -- "all counts are 0", dissent too
 abbrev pub refused_with : ℕ → Noted
 refused_with refusal = record { refusal = refusal; alignment = 0; dissent = 0 ∷ 0 ∷ 0 ∷ 0 ∷ [] }
+
+-- the numbers of what the code answers
+abbrev pub noted_by : Errors → Noted
+noted_by errors = record { refusal = 0; alignment = errors.alignment; dissent = errors.dissent }
+
+abbrev pub numbers_of : Result Errors Refusal → Noted
+numbers_of (Ok errors) = noted_by errors
+numbers_of (Err refusal) = refused_with (number_of refusal)
 
 -- accepted: the counts of errors of F frames
 abbrev pub noted_from : Row → List ℕ → ℕ → Noted

@@ -8,15 +8,16 @@ ghost use Rattle.levels.specs.Table.{Shared};
 ghost use Rattle.levels.specs.Word.{wrong_digits};
 ghost use Rattle.reading.specs.Notes.{service_at, note_of, notes_of, dissents_in, four_sums};
 ghost use Rattle.reading.specs.Lanes.{apart_of, group_ones, services_of, said_by};
-ghost use Rattle.reading.specs.Reading.{refused_with, noted_from, answer_on, notes_on, ReadNotesMet};
+ghost use Rattle.reading.specs.Reading.{noted_by, numbers_of, noted_from, answer_on, notes_on, ReadNotesMet};
 
 use levels::places::FramePlace;
 use levels::{lent, sizes, vote};
-use table::{Level, Row};
+use refusal::Refusal;
+use table::Row;
 
-#[derive(Clone, Copy)]
-pub struct Noted {
-    pub refusal: u64,
+// The errors that a reading counts.
+#[derive(Clone, Copy, Debug, PartialEq, Eq, Hash)]
+pub struct Errors {
     // alignment digits that differ from the word, over all frames
     pub alignment: usize,
     // digits of each tributary's control groups that differ from their majority, over all frames
@@ -30,16 +31,6 @@ pub struct FrameRead {
     pub dissent: [usize; 4],
 }
 
-fn refused(refusal: u64) -> Noted
-    ensures { result ≡ refused_with refusal }
-{
-    Noted {
-        refusal,
-        alignment: 0,
-        dissent: [0; 4],
-    }
-}
-
 // The four digits of the column at place p, which four divides, as a number: the first four of a byte, or its last four.
 fn column_at(line: &[u8], p: FramePlace) -> u64
     requires { (p.0 % 4 ≡ 0) × (p.0 < 8 * length line.now) }
@@ -47,10 +38,7 @@ fn column_at(line: &[u8], p: FramePlace) -> u64
 {
     let at = p.0 / 8;
     let byte = line[at] as u64;
-    if p.0 % 8 == 0 {
-        return byte / 16;
-    }
-    byte % 16
+    if p.0 % 8 == 0 { byte / 16 } else { byte % 16 }
 }
 
 // The digits of a column, eight bits to each: the column is copied to four places seven bits apart, and of each copy one digit stays.
@@ -67,11 +55,9 @@ fn group_ones(row: Row, line: &[u8], f: usize) -> u64
     ensures { result ≡ group_ones row (digits_of line.now) f row.control }
 {
     let mut ones: u64 = 0;
-    let mut k: usize = 0;
-    while k < row.control {
+    for k in 0..row.control {
         let p = FramePlace(f * row.digits + (row.set + k * row.set));
         ones += apart(column_at(line, p));
-        k += 1;
     }
     ones
 }
@@ -83,9 +69,10 @@ fn service_at(row: Row, line: &[u8], f: usize, k: usize) -> u8
 {
     if k < row.alarms + row.nationals {
         let p = FramePlace(f * row.digits + (row.alarm + k));
-        return lent::line_digit(line, p);
+        lent::line_digit(line, p)
+    } else {
+        0
     }
-    0
 }
 
 // The service digits of frame f, the first worth 1.
@@ -151,53 +138,45 @@ fn four_sums(a: [usize; 4], b: [usize; 4]) -> [usize; 4]
 
 // Reads the notes of a line, and counts the wrong alignment digits and the dissenting digits of each tributary. What `read_note` does stands
 // here once more: so small are its parts that the compiler takes each into the loop, and the row is not copied for a call.
-pub fn read_frames(row: Row, line: &[u8], notes: &mut [u8]) -> Noted
+pub fn read_frames(row: Row, line: &[u8], notes: &mut [u8]) -> Errors
     requires { Shared row × (length line.now ≡ length notes.old * row.bytes) × (length notes.old ≤ 64) }
-    ensures { (result ≡ noted_from row (digits_of line.now) (length notes.old))
+    ensures { (noted_by result ≡ noted_from row (digits_of line.now) (length notes.old))
         × (notes.new ≡ notes_of row (digits_of line.now) (length notes.old)) }
 {
     let mut alignment: usize = 0;
     let mut dissent = [0usize; 4];
-    let mut f: usize = 0;
-    while f < notes.len() {
+    for (f, note) in notes.iter_mut().enumerate() {
         let ones = group_ones(row, line, f);
         let services = services_at(row, line, f);
         let read = said_by(row.control, ones, services);
-        notes[f] = read.note;
-        let here = read.dissent;
-        let sums = four_sums(dissent, here);
+        *note = read.note;
+        // The borrow checker covers no call that lays its result in an array already there, so the sums have a name of their own.
+        let sums = four_sums(dissent, read.dissent);
         dissent = sums;
         let start = FramePlace(f * row.digits);
         alignment += word_errors(row, line, start) as usize;
-        f += 1;
     }
-    Noted {
-        refusal: 0,
-        alignment,
-        dissent,
-    }
+    Errors { alignment, dissent }
 }
 
 // A level's row is known: the lengths are judged, and the notes are read.
-fn read_notes_on(row: Row, line: &[u8], notes: &mut [u8]) -> Noted
+fn read_notes_on(row: Row, line: &[u8], notes: &mut [u8]) -> Result<Errors, Refusal>
     requires { Shared row }
-    ensures { (result ≡ answer_on row line.now (length notes.old))
+    ensures { (numbers_of result ≡ answer_on row line.now (length notes.old))
         × (notes.new ≡ notes_on row line.now notes.old) }
 {
-    let no = sizes::frames_refusal(row, line.len(), notes.len());
-    if no != 0 {
-        return refused(no);
-    }
-    read_frames(row, line, notes)
+    sizes::frames_refusal(row, line.len(), notes.len())?;
+    let errors = read_frames(row, line, notes);
+    Ok(errors)
 }
 
-// Reads the notes of the line into the notes. Any level number, any lengths: see specs/Reading.antt.
-pub fn read_notes(level: u64, line: &[u8], notes: &mut [u8]) -> Noted
-    ensures { ReadNotesMet level line.now notes.old result notes.new }
+// Reads the notes of the line into the notes, and answers the errors that it counts. Any level number, any lengths: see specs/Reading.antt.
+pub fn read_notes(level: u64, line: &[u8], notes: &mut [u8]) -> Result<Errors, Refusal>
+    ensures { ReadNotesMet level line.now notes.old (numbers_of result) notes.new }
 {
     let found = table::level_of(level);
     match found {
-        Level::Of(row) => read_notes_on(row, line, notes),
-        Level::NoSuchLevel => refused(1),
+        Some(row) => read_notes_on(row, line, notes),
+        None => Err(Refusal::Level),
     }
 }

@@ -1,4 +1,5 @@
 -- A refused call reports nothing and leaves the state (specs/Nothing.antt).
+use Rattle.std.specs.Prelude.{Option, Some, None}
 use mathlib.Core.Path.{◌≡◌, refl}
 use mathlib.Core.List.{List, [], ◌∷◌}
 use Prim.Native.Nat.{ℕ, suc, ◌+◌}
@@ -6,8 +7,6 @@ use lib.Dec.{eqb}
 use lib.ListN.{length}
 use Rattle.digits.proofs.Tests.{cond-told}
 use Rattle.table.specs.declared.Row.{Row}
-use Rattle.table.specs.declared.Level.{Level}
-use Rattle.table.specs.declared.Level.TheVariants.{Of, NoSuchLevel}
 use Rattle.table.specs.Table.{level_of}
 use Rattle.receiver.specs.declared.State.{State}
 use Rattle.receiver.specs.declared.Fed.{Fed}
@@ -28,9 +27,9 @@ pub refused-nothing : (s : State) (slice : List ℕ) (first count : ℕ) → ((f
 unfolding feed_row
 refused-nothing s slice first count = at_level (level_of s.level)
   where
-    at_level : (level : Level) → ((feed_at level s slice first count).refusal ≡ 0 → ⊥) → Nothing s (feed_at level s slice first count)
-    at_level NoSuchLevel = λ h. record { taken = refl; ready = refl; alarm = refl; words = refl; state = refl }
-    at_level (Of row) =
+    at_level : (level : Option Row) → ((feed_at level s slice first count).refusal ≡ 0 → ⊥) → Nothing s (feed_at level s slice first count)
+    at_level None = λ h. record { taken = refl; ready = refl; alarm = refl; words = refl; state = refl }
+    at_level (Some row) =
         cond-told (λ (f : Fed). (f.refusal ≡ 0 → ⊥) → Nothing s f) (eqb (refusal_of row (core_of s) s.stretch (length slice) first count) 0)
         (λ _ h. absurd (h (run-accepted row (piece_of slice first count) 0 0 s)))
         (λ _ h. record { taken = refl; ready = refl; alarm = refl; words = refl; state = refl })

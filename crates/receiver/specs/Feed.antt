@@ -1,10 +1,8 @@
 -- The two calls: a fresh state, and a piece fed to a state. Document 01, "Finding frames in a stream" and "Refusal numbers", and
 -- document 02, requests 4 and 8.
-use Rattle.std.specs.Prelude.{◌≡◌, Bool, cond, true, false, not, ◌&&◌, ◌||◌, List, [], ◌∷◌, ℕ, suc, ◌+◌, ◌*◌, ◌^◌, eqb, ltb, leb, length, replicate}
+use Rattle.std.specs.Prelude.{◌≡◌, Bool, cond, true, false, not, ◌&&◌, ◌||◌, List, [], ◌∷◌, ℕ, suc, ◌+◌, ◌*◌, ◌^◌, eqb, ltb, leb, length, replicate, Option, Some, None}
 use Rattle.digits.specs.Runs.{piece_of}
 use Rattle.table.specs.declared.Row.{Row}
-use Rattle.table.specs.declared.Level.{Level}
-use Rattle.table.specs.declared.Level.TheVariants.{Of, NoSuchLevel}
 use Rattle.table.specs.Table.{level_of}
 use Rattle.modes.specs.declared.Mode.TheVariants.{Hunting}
 use Rattle.modes.specs.declared.Core.{Core}
@@ -31,9 +29,9 @@ abbrev pub fresh_state : ℕ → State
 fresh_state level = state_of level (record { window = 0; seen = 0; mode = Hunting; place = 0 }) (replicate 366 0) fresh_stretch
 
 -- "one refused with 1 has level 0 too"
-abbrev pub fresh_at : Level → ℕ → Made
-fresh_at (Of row) level = record { refusal = 0; state = fresh_state level }
-fresh_at NoSuchLevel level = record { refusal = 1; state = fresh_state 0 }
+abbrev pub fresh_at : Option Row → ℕ → Made
+fresh_at (Some row) level = record { refusal = 0; state = fresh_state level }
+fresh_at None level = record { refusal = 1; state = fresh_state 0 }
 
 abbrev pub fresh_of : ℕ → Made
 fresh_of level = fresh_at (level_of level) level
@@ -92,9 +90,9 @@ feed_row row s slice first count =
     (refused (refusal_of row (core_of s) s.stretch (length slice) first count) s)
 
 -- "level wrong" is the first item of 6
-abbrev pub feed_at : Level → State → List ℕ → ℕ → ℕ → Fed
-feed_at (Of row) s slice first count = feed_row row s slice first count
-feed_at NoSuchLevel s slice first count = refused 6 s
+abbrev pub feed_at : Option Row → State → List ℕ → ℕ → ℕ → Fed
+feed_at (Some row) s slice first count = feed_row row s slice first count
+feed_at None s slice first count = refused 6 s
 
 abbrev pub feed_of : State → List ℕ → ℕ → ℕ → Fed
 feed_of s slice first count = feed_at (level_of s.level) s slice first count

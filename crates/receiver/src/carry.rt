@@ -24,16 +24,16 @@ pub fn carry_on(
     requires { Shared row × (mask ≡ 2 ^ row.len - 1) × Valid row c × (length piece.now ≤ 65536) × (first < end) × (end ≤ 8 * length piece.now) }
     ensures { Carried row piece.now end first c f.old result.at result.core f.new }
 {
-    let mode = c.mode;
-    if modes::is_hunting(mode) {
+    if modes::is_hunting(c.mode) {
         return Carry { core: c, at: first };
     }
     let last = row.digits - row.len;
     if c.place < last {
-        let at = first + strides::lesser(last - 1 - c.place, end - 1 - first);
+        let at = first + (last - 1 - c.place).min(end - 1 - first);
         frame::copy(f, row.len + c.place, piece, first, at);
-        return carry::gone_on(row, mask, c, piece, first, at);
+        carry::gone_on(row, mask, c, piece, first, at)
+    } else {
+        let at = first + (row.digits - 1 - c.place).min(end - 1 - first);
+        carry::gone_on(row, mask, c, piece, first, at)
     }
-    let at = first + strides::lesser(row.digits - 1 - c.place, end - 1 - first);
-    carry::gone_on(row, mask, c, piece, first, at)
 }

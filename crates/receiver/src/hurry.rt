@@ -15,8 +15,7 @@ pub fn hunt_on(row: Row, mask: usize, c: Core, piece: &[u8], first: usize, end: 
     requires { Shared row × (mask ≡ 2 ^ row.len - 1) × Valid row c × (length piece.now ≤ 65536) × (first < end) × (end ≤ 8 * length piece.now) }
     ensures { Hunted row piece.now end first c result.at result.words result.core }
 {
-    let mode = c.mode;
-    if !modes::is_hunting(mode) {
+    if !modes::is_hunting(c.mode) {
         return Hunt {
             core: c,
             at: first,

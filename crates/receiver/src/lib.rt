@@ -18,7 +18,7 @@ ghost use Rattle.receiver.specs.Feed.{accepted, run_of, feed_row, fresh_state, F
 use modes::{Core, Mode};
 use pieces::alarm::Stretch;
 use pieces::{alarm, frame};
-use table::{Level, Row};
+use table::Row;
 
 // The level, the last L digits (the newest worth 1), how many digits came since reset (stopping at L), the mode, the
 // place, the frame in hand, and the stretch that is being cut.
@@ -76,11 +76,11 @@ pub fn fresh(level: u64) -> Made
     ensures { FreshMet level result }
 {
     match table::level_of(level) {
-        Level::Of(_) => Made {
+        Some(_) => Made {
             refusal: 0,
             state: fresh_state(level),
         },
-        Level::NoSuchLevel => Made {
+        None => Made {
             refusal: 1,
             state: fresh_state(0),
         },
@@ -90,11 +90,10 @@ pub fn fresh(level: u64) -> Made
 fn core_of(s: State) -> Core
     ensures { result ≡ core_of s }
 {
-    let mode = s.mode;
     Core {
         window: s.window,
         seen: s.seen,
-        mode,
+        mode: s.mode,
         place: s.place,
     }
 }
@@ -104,23 +103,17 @@ fn is_invalid(row: Row, c: Core) -> bool
     requires { Shared row }
     ensures { result ≡ invalid row c }
 {
-    let mode = c.mode;
-    if modes::mask_of(row) < c.window {
-        return true;
+    if modes::mask_of(row) < c.window
+        || row.len < c.seen
+        || 3 < modes::missed_of(c.mode)
+        || row.digits <= c.place
+    {
+        true
+    } else if modes::is_hunting(c.mode) {
+        c.place != 0
+    } else {
+        c.seen < row.len
     }
-    if row.len < c.seen {
-        return true;
-    }
-    if 3 < modes::missed_of(mode) {
-        return true;
-    }
-    if row.digits <= c.place {
-        return true;
-    }
-    if modes::is_hunting(mode) {
-        return c.place != 0;
-    }
-    c.seen < row.len
 }
 
 // The refusal of a piece, given the row of the state's level. The sum of first and count may be too large for a number.
@@ -128,22 +121,15 @@ fn refusal_of(row: Row, c: Core, st: Stretch, bytes: usize, first: usize, count:
     requires { Shared row }
     ensures { result ≡ refusal_of row c st bytes first count }
 {
-    if is_invalid(row, c) {
-        return 6;
+    if is_invalid(row, c) || alarm::is_uncounted(row, st) {
+        6
+    } else if 65536 < bytes {
+        2
+    } else if 8 * bytes < first || 8 * bytes - first < count {
+        7
+    } else {
+        0
     }
-    if alarm::is_uncounted(row, st) {
-        return 6;
-    }
-    if 65536 < bytes {
-        return 2;
-    }
-    if 8 * bytes < first {
-        return 7;
-    }
-    if 8 * bytes - first < count {
-        return 7;
-    }
-    0
 }
 
 // What a refused piece gives.
@@ -171,19 +157,17 @@ fn accept(
 ) -> Fed
     ensures { result ≡ accepted (state_of level c f st) taken words ready }
 {
-    let mode = c.mode;
-    let alarm = st.alarm;
     Fed {
         refusal: 0,
         taken,
         ready,
-        alarm,
+        alarm: st.alarm,
         words,
         state: State {
             level,
             window: c.window,
             seen: c.seen,
-            mode,
+            mode: c.mode,
             place: c.place,
             frame: f,
             stretch: st,
@@ -198,7 +182,6 @@ fn take_piece(row: Row, s: State, piece: &[u8], first: usize, count: usize) -> F
     requires { Shared row × Valid row (core_of s) × Counting row s.stretch × (length piece.now ≤ 65536) × (first + count ≤ 8 * length piece.now) }
     ensures { result ≡ run_of row (piece_of piece.now first count) 0 0 s }
 {
-    let level = s.level;
     let mask = modes::mask_of(row);
     let shift = 16 - row.len;
     let mut c = core_of(s);
@@ -207,6 +190,7 @@ fn take_piece(row: Row, s: State, piece: &[u8], first: usize, count: usize) -> F
     let mut words: usize = 0;
     let end = first + count;
     let mut p = first;
+    // an iteration takes as many digits as no rule looks at, and one more
     while p < end {
         let h = hurry::hunt_on(row, mask, c, piece, p, end);
         words += h.words;
@@ -220,23 +204,23 @@ fn take_piece(row: Row, s: State, piece: &[u8], first: usize, count: usize) -> F
         p += 1;
         if frame::is_ready(row, c) {
             let counted = alarm::count(row, st, piece, first, p);
-            return accept(level, c, f, counted, p - first, words, true);
+            return accept(s.level, c, f, counted, p - first, words, true);
         }
     }
     let counted = alarm::count(row, st, piece, first, p); // whatever the mode
-    accept(level, c, f, counted, p - first, words, false)
+    accept(s.level, c, f, counted, p - first, words, false)
 }
 
 fn feed_row(row: Row, s: State, piece: &[u8], first: usize, count: usize) -> Fed
     requires { Shared row }
     ensures { result ≡ feed_row row s piece.now first count }
 {
-    let st = s.stretch;
-    let refusal = refusal_of(row, core_of(s), st, piece.len(), first, count);
+    let refusal = refusal_of(row, core_of(s), s.stretch, piece.len(), first, count);
     if refusal != 0 {
-        return refuse(refusal, s);
+        refuse(refusal, s)
+    } else {
+        take_piece(row, s, piece, first, count)
     }
-    take_piece(row, s, piece, first, count)
 }
 
 // Feeds count digits of the piece, from digit first on, and stops after the digit that completes a frame.
@@ -245,7 +229,7 @@ pub fn feed(s: State, piece: &[u8], first: usize, count: usize) -> Fed
 {
     let level = s.level;
     match table::level_of(level) {
-        Level::Of(row) => feed_row(row, s, piece, first, count),
-        Level::NoSuchLevel => refuse(6, s),
+        Some(row) => feed_row(row, s, piece, first, count),
+        None => refuse(6, s),
     }
 }

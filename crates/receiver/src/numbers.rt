@@ -21,32 +21,25 @@ pub fn mode_number(mode: Mode) -> u64
 pub fn mode_of(n: u64) -> Mode
     ensures { result ≡ mode_of n }
 {
-    if n == 0 {
-        return Mode::Hunting;
+    match n {
+        0 => Mode::Hunting,
+        1 => Mode::OneFound,
+        2 => Mode::TwoFound,
+        3..=6 => Mode::Aligned((n - 3) as u8),
+        _ => Mode::Aligned(4),
     }
-    if n == 1 {
-        return Mode::OneFound;
-    }
-    if n == 2 {
-        return Mode::TwoFound;
-    }
-    if n <= 6 {
-        return Mode::Aligned((n - 3) as u8);
-    }
-    Mode::Aligned(4)
 }
 
 // The numbers of a state, without its frame.
 pub fn state_numbers(s: State) -> [u64; 9]
     ensures { result ≡ state_numbers s }
 {
-    let mode = s.mode;
     let st = s.stretch;
     [
         s.level,
         s.window as u64,
         s.seen as u64,
-        mode_number(mode),
+        mode_number(s.mode),
         s.place as u64,
         st.digits as u64,
         st.zeros as u64,
@@ -59,12 +52,11 @@ pub fn state_numbers(s: State) -> [u64; 9]
 pub fn state_from(numbers: [u64; 9], frame: [u8; 366]) -> State
     ensures { result ≡ state_from numbers frame }
 {
-    let mode = mode_of(numbers[3]);
     State {
         level: numbers[0],
         window: numbers[1] as usize,
         seen: numbers[2] as usize,
-        mode,
+        mode: mode_of(numbers[3]),
         place: numbers[4] as usize,
         frame,
         stretch: Stretch {
@@ -80,13 +72,11 @@ pub fn state_from(numbers: [u64; 9], frame: [u8; 366]) -> State
 pub fn fed_by(s: State, few: u64, alarm: u64, piece: &[u8], first: usize, count: usize) -> Fed
     ensures { result ≡ fed_by s few alarm piece.now first count }
 {
-    if 1 < few {
-        return crate::refuse(6, s);
+    if 1 < few || 1 < alarm {
+        crate::refuse(6, s)
+    } else {
+        crate::feed(s, piece, first, count)
     }
-    if 1 < alarm {
-        return crate::refuse(6, s);
-    }
-    crate::feed(s, piece, first, count)
 }
 
 // The answer of a piece as numbers: digits taken, 1 if a frame is ready, 1 if the alarm stands at the end, words tested.

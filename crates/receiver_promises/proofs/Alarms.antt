@@ -1,5 +1,6 @@
 -- The alarm over whole stretches: after any history it is the fold over its stretches; and where N digits in a row have everywhere few
 -- zeros, or everywhere more, the alarm stands, or is off, after 3 N digits from any state that is not refused.
+use Rattle.std.specs.Prelude.{Some}
 use mathlib.Core.Path.{◌≡◌, refl, sym, ap, ◌∙◌}
 use mathlib.Core.Bool.{Bool, true, false}
 use mathlib.Core.List.{List, [], ◌∷◌}
@@ -13,7 +14,6 @@ use lib.Seq.{length-take-le, drop-drop}
 use Rattle.digits.specs.Digits.{zeros_in}
 use Rattle.digits.proofs.ZeroLaws.{zeros-append, zeros-ones}
 use Rattle.table.specs.declared.Row.{Row}
-use Rattle.table.specs.declared.Level.TheVariants.{Of}
 use Rattle.table.specs.Table.{level_of}
 use Rattle.levels.specs.Table.{Shared}
 use Rattle.levels.proofs.Rows.{shared-row}
@@ -93,18 +93,18 @@ module _ (row : Row) (some : 0 < row.digits) where
       alarm-over (length ds / row.digits) false false ds (omega (arith, parts)) (omega (arith, parts, lt))
 
 -- the alarm after any history
-pub since-alarm : (level : ℕ) (row : Row) → level_of level ≡ Of row → (ds : List ℕ) → (since row level ds).stretch.alarm ≡ alarm_of row ds
+pub since-alarm : (level : ℕ) (row : Row) → level_of level ≡ Some row → (ds : List ℕ) → (since row level ds).stretch.alarm ≡ alarm_of row ds
 since-alarm level row known ds =
     ap (λ (st : Stretch). st.alarm) (heard-stretch row ds (fresh_state level)) ∙ counted-alarm row (some-digits row (shared-row level row known)) ds
 
 -- whatever pieces it came in
-pub calls-alarm : (level : ℕ) (row : Row) → level_of level ≡ Of row → (ps : List Piece) → AllLent ps
+pub calls-alarm : (level : ℕ) (row : Row) → level_of level ≡ Some row → (ps : List Piece) → AllLent ps
     → (left_by call_of (fresh_state level) (calls_for_all call_of (fresh_state level) ps)).stretch.alarm ≡ alarm_of row (digits_in_all ps)
 calls-alarm level row known ps lent =
     ap (λ (s : State). s.stretch.alarm) (fresh-stream level row known ps lent).0 ∙ since-alarm level row known (digits_in_all ps)
 
 -- what an accepted call reports is the alarm after the digits that it took
-pub reported : (s : State) (row : Row) → level_of s.level ≡ Of row → (slice : List ℕ) (first count : ℕ) → (feed_of s slice first count).refusal ≡ 0
+pub reported : (s : State) (row : Row) → level_of s.level ≡ Some row → (slice : List ℕ) (first count : ℕ) → (feed_of s slice first count).refusal ≡ 0
     → (feed_of s slice first count).alarm ≡ (counted row s.stretch (take (feed_of s slice first count).taken (piece_of slice first count))).alarm
 reported s row known slice first count e =
     let is = accepted-answer s row known slice first count e in
@@ -163,7 +163,7 @@ module _ (row : Row) (some : 0 < row.digits) (few : Bool) where
       (everywhere-on ds all m (omega arith)) (omega (arith, length-drop m ds))
 
 -- of the receiver, whatever its mode
-pub heard-settles : (level : ℕ) (row : Row) → level_of level ≡ Of row → (s : State) → Counting row s.stretch → (few : Bool) (ds : List ℕ)
+pub heard-settles : (level : ℕ) (row : Row) → level_of level ≡ Some row → (s : State) → Counting row s.stretch → (few : Bool) (ds : List ℕ)
     → EverywhereFew row few ds → 3 * row.digits ≤ length ds → (heard row s ds).stretch.alarm ≡ few
 heard-settles level row known s c few ds all room =
     ap (λ (st : Stretch). st.alarm) (heard-stretch row ds s)
@@ -178,7 +178,7 @@ zeros-part ds i n =
     omega (arith, one, two)
 
 -- it raises the alarm after at most 3 N digits
-pub ones-raise : (level : ℕ) (row : Row) → level_of level ≡ Of row → (s : State) → Counting row s.stretch → (k : ℕ) → 3 * row.digits ≤ k
+pub ones-raise : (level : ℕ) (row : Row) → level_of level ≡ Some row → (s : State) → Counting row s.stretch → (k : ℕ) → 3 * row.digits ≤ k
     → (heard row s (replicate k 1)).stretch.alarm ≡ true
 ones-raise level row known s c k enough =
     heard-settles level row known s c true (replicate k 1)

@@ -1,6 +1,7 @@
 -- Calls in turn answer as the stream does: what they hand over, the state that they leave and the words that they test are those of the digits
 -- that they took, one stream, wherever it was cut; and a caller who goes on with the rest of a piece where a frame stopped the call loses no digit.
 -- That is so of any calls that stop (crate digits, proofs/Runs.antt); here is what it says of the receiver's.
+use Rattle.std.specs.Prelude.{Some}
 use mathlib.Core.Path.{◌≡◌, refl, sym, ap, ap₂, ◌∙◌}
 use mathlib.Core.Logic.{◌⊎◌, inl, inr}
 use mathlib.Core.List.{List, [], ◌∷◌, map}
@@ -12,7 +13,6 @@ use Rattle.digits.specs.Runs as runs-specs
 use Rattle.digits.proofs.Runs as runs
 use Rattle.digits.proofs.Tests.{cond-told}
 use Rattle.table.specs.declared.Row.{Row}
-use Rattle.table.specs.declared.Level.TheVariants.{Of}
 use Rattle.table.specs.Table.{level_of}
 use Rattle.levels.proofs.Rows.{shared-row}
 use Rattle.receiver.specs.declared.State.{State}
@@ -26,7 +26,7 @@ use Rattle.receiver_promises.proofs.Pieces.{tested-append, heard-state, run_over
 
 -- a state of this row stays one
 abbrev OfRow : Row → State → Type 0
-OfRow row s = level_of s.level ≡ Of row
+OfRow row s = level_of s.level ≡ Some row
 
 knows : (row : Row) (s : State) → OfRow row s → (d : ℕ) → OfRow row (after_of row s d)
 unfolding after_of
@@ -67,7 +67,7 @@ words-taken row (p ∷ ps) s known =
 
 -- however a stream is cut into calls, and whatever they answer: the state that they leave, the frames that they hand over and the words that
 -- they test are those of the digits that they took
-pub as-taken : (row : Row) (ps : List Piece) (before : ℕ) (s : State) → level_of s.level ≡ Of row
+pub as-taken : (row : Row) (ps : List Piece) (before : ℕ) (s : State) → level_of s.level ≡ Some row
     → (left_by call_of s ps ≡ heard row s (taken_by call_of s ps))
     × (handed_by before s ps ≡ streamed row before s (taken_by call_of s ps))
     × (words_by s ps ≡ tested_by row s (taken_by call_of s ps))
@@ -90,7 +90,7 @@ call-run row s k p lent =
 
 -- ---- the stream, wherever it was cut
 
-module _ (row : Row) (s : State) (known : level_of s.level ≡ Of row) (v : ValidState row s) where
+module _ (row : Row) (s : State) (known : level_of s.level ≡ Some row) (v : ValidState row s) where
   -- pieces fed one after another, each with its rest after a frame: the state, the frames and the words tested are those of the stream of all
   -- their digits
   pub as-the-stream : (ps : List Piece) → AllLent ps
@@ -115,7 +115,7 @@ module _ (row : Row) (s : State) (known : level_of s.level ≡ Of row) (v : Vali
       )
 
 -- from reset
-pub fresh-stream : (level : ℕ) (row : Row) → level_of level ≡ Of row → (ps : List Piece) → AllLent ps
+pub fresh-stream : (level : ℕ) (row : Row) → level_of level ≡ Some row → (ps : List Piece) → AllLent ps
     → (left_by call_of (fresh_state level) (calls_for_all call_of (fresh_state level) ps) ≡ since row level (digits_in_all ps))
     × (handed_by 0 (fresh_state level) (calls_for_all call_of (fresh_state level) ps) ≡ streamed row 0 (fresh_state level) (digits_in_all ps))
     × (words_by (fresh_state level) (calls_for_all call_of (fresh_state level) ps) ≡ tested_by row (fresh_state level) (digits_in_all ps))

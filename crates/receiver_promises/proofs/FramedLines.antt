@@ -1,5 +1,6 @@
 -- A framed signal, of ones too, is no alarm indication: N digits in a row of a line of correct frames are never few, wherever they begin, because the
 -- word alone has more zeros than the limit.
+use Rattle.std.specs.Prelude.{Some}
 use mathlib.Core.Path.{◌≡◌, refl, sym, ap, ◌∙◌}
 use mathlib.Core.Bool.{false}
 use mathlib.Core.List.{List}
@@ -13,7 +14,6 @@ use lib.Seq.{take-add, drop-drop, take_all, length-take-le, ext_get_or, get_or-t
 use Rattle.digits.specs.Digits.{zeros_in, written}
 use Rattle.digits.proofs.ZeroLaws.{zeros-append}
 use Rattle.table.specs.declared.Row.{Row}
-use Rattle.table.specs.declared.Level.TheVariants.{Of}
 use Rattle.table.specs.Table.{level_of}
 use Rattle.levels.specs.Table.{Shared}
 use Rattle.levels.proofs.Rows.{shared-row}
@@ -114,7 +114,7 @@ module _ (row : Row) (sh : Shared row) (o : ℕ) (ds : List ℕ) (line : Framed 
 
 -- ---- so frames are never few
 
-module _ (level : ℕ) (row : Row) (known : level_of level ≡ Of row) (o : ℕ) (ds : List ℕ) (line : Framed row o ds) where
+module _ (level : ℕ) (row : Row) (known : level_of level ≡ Some row) (o : ℕ) (ds : List ℕ) (line : Framed row o ds) where
   pub never-few : EverywhereFew row false ds
   never-few i room =
       lt-leb (zeros_in (take row.digits (drop i ds))) row.limit

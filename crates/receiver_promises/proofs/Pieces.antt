@@ -1,5 +1,6 @@
 -- Calls in turn: a run is the history grown by the digits it took; two pieces in turn are one; a state handed back is valid;
 -- and a frame that a call hands over is the N digits received last.
+use Rattle.std.specs.Prelude.{Some}
 use mathlib.Core.Path.{◌≡◌, refl, sym, ap, ap₂, ◌∙◌}
 use mathlib.Core.Bool.{Bool, cond, true, false, ◌||◌}
 use mathlib.Core.List.{List, [], ◌∷◌, ◌++◌}
@@ -15,7 +16,6 @@ use Rattle.digits.specs.Runs as runs
 use Rattle.digits.proofs.Tests.{cond-told}
 use Rattle.digits.proofs.Runs.{piece_cut, piece-binary, heard-append, heard-kept, Ran, ran as digits-ran, run-joined as digits-joined}
 use Rattle.table.specs.declared.Row.{Row}
-use Rattle.table.specs.declared.Level.TheVariants.{Of}
 use Rattle.table.specs.Table.{level_of}
 use Rattle.levels.specs.Table.{Shared}
 use Rattle.levels.proofs.Rows.{shared-row}
@@ -161,7 +161,7 @@ module _ (row : Row) where
 
 -- ---- the same of the public call
 
-module _ (s : State) (row : Row) (known : level_of s.level ≡ Of row) where
+module _ (s : State) (row : Row) (known : level_of s.level ≡ Some row) where
   pub feed-run : (slice : List ℕ) (first count : ℕ) → Accepted row (core_of s) s.stretch (length slice) first count
       → feed_of s slice first count ≡ answer_of row (piece_of slice first count) s
   unfolding feed_row
@@ -219,7 +219,7 @@ module _ (s : State) (row : Row) (known : level_of s.level ≡ Of row) where
           )
 
 -- two pieces of any two slices, accepted in turn, are the piece that has the digits of both
-pub feed-joined : (s : State) (row : Row) → level_of s.level ≡ Of row
+pub feed-joined : (s : State) (row : Row) → level_of s.level ≡ Some row
     → (slice₁ : List ℕ) (first₁ count₁ : ℕ) (slice₂ : List ℕ) (first₂ count₂ : ℕ) (slice : List ℕ) (first count : ℕ)
     → piece_of slice first count ≡ piece_of slice₁ first₁ count₁ ++ piece_of slice₂ first₂ count₂
     → Accepted row (core_of s) s.stretch (length slice₁) first₁ count₁
@@ -244,7 +244,7 @@ feed-joined s row known slice₁ first₁ count₁ slice₂ first₂ count₂ sl
     r : Ran (after_of row) (ready_at row) xs 0 s (run_over row xs 0 s)
     r = ran row xs s
 
-    level : level_of midway.level ≡ Of row
+    level : level_of midway.level ≡ Some row
     level = rw (r.state, heard-level row (take r.taken xs) s) known
 
     valid : ValidState row midway
@@ -254,7 +254,7 @@ feed-joined s row known slice₁ first₁ count₁ slice₂ first₂ count₂ sl
     next = feed-run midway row level slice₂ first₂ count₂ (record { valid = valid.0; counting = valid.1; small = small; within = within })
 
 -- one piece, wherever it is cut
-pub feed-cut : (s : State) (row : Row) → level_of s.level ≡ Of row → (slice : List ℕ) (first a b : ℕ)
+pub feed-cut : (s : State) (row : Row) → level_of s.level ≡ Some row → (slice : List ℕ) (first a b : ℕ)
     → (feed_of s slice first (a + b)).refusal ≡ 0
     → feed_of s slice first (a + b) ≡ joined (feed_of s slice first a) (feed_of (feed_of s slice first a).state slice (first + a) b)
 feed-cut s row known slice first a b e =
@@ -272,7 +272,7 @@ pub record After-feed (row : Row) (level : ℕ) (ds new : List ℕ) (r : Fed) : 
   pub stops : r.ready ≡ false → r.taken ≡ length new
   pub frame : r.ready ≡ true → Handed row (ds ++ take r.taken new) r.state.frame
 
-pub feed-from : (level : ℕ) (row : Row) → level_of level ≡ Of row → (ds : List ℕ) → Binary ds → (slice : List ℕ) (first count : ℕ)
+pub feed-from : (level : ℕ) (row : Row) → level_of level ≡ Some row → (ds : List ℕ) → Binary ds → (slice : List ℕ) (first count : ℕ)
     → (feed_of (since row level ds) slice first count).refusal ≡ 0
     → After-feed row level ds (piece_of slice first count) (feed_of (since row level ds) slice first count)
 feed-from level row known ds bin slice first count e =
@@ -294,7 +294,7 @@ feed-from level row known ds bin slice first count e =
     fed : Fed
     fed = feed_of s slice first count
 
-    same_level : level_of s.level ≡ Of row
+    same_level : level_of s.level ≡ Some row
     same_level = rw (heard-level row ds (fresh_state level)) known
 
     is : fed ≡ answer_of row new s
@@ -328,7 +328,7 @@ fresh-state row sh level =
     let v = (traced-fresh row sh level).valid in
     (v, record { within = omega (arith, v.place); fewer = omega arith })
 
-pub fresh-valid : (level : ℕ) (row : Row) → level_of level ≡ Of row
+pub fresh-valid : (level : ℕ) (row : Row) → level_of level ≡ Some row
     → (invalid row (core_of (fresh_of level).state) || uncounted row (fresh_of level).state.stretch) ≡ false
 fresh-valid level row known =
     let v = fresh-state row (shared-row level row known) level in

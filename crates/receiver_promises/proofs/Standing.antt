@@ -1,5 +1,6 @@
 -- The alarm by the numbers of the stretches: at each stretch's end it turns as request 4's sentences say (crate pieces, specs/Turns.antt), and it stands after
 -- a history exactly if two stretches in a row had few and no two in a row since had each more.
+use Rattle.std.specs.Prelude.{Some}
 use mathlib.Core.Path.{◌≡◌, refl, sym, ap, ◌∙◌}
 use mathlib.Core.Bool.{Bool, true, false, true≢false}
 use mathlib.Core.List.{List}
@@ -12,7 +13,6 @@ use lib.ListN.{length, take, drop, length-drop, take-append-drop}
 use lib.Seq.{length-take-le, take-add}
 use Rattle.digits.specs.Digits.{zeros_in}
 use Rattle.table.specs.declared.Row.{Row}
-use Rattle.table.specs.declared.Level.TheVariants.{Of}
 use Rattle.table.specs.Table.{level_of}
 use Rattle.levels.proofs.Rows.{shared-row}
 use Rattle.pieces.specs.declared.alarm.Stretch.{Stretch}
@@ -202,7 +202,7 @@ module _ (row : Row) (some : 0 < row.digits) (ds : List ℕ) where
 
 -- ---- of the receiver, after any history
 
-module _ (level : ℕ) (row : Row) (known : level_of level ≡ Of row) (ds : List ℕ) where
+module _ (level : ℕ) (row : Row) (known : level_of level ≡ Some row) (ds : List ℕ) where
   some : 0 < row.digits
   some = some-digits row (shared-row level row known)
 

@@ -1,5 +1,6 @@
 -- The line with 1 at the national places and at the service places that no note has (specs/Line.antt, `idle_line`) is a line of correct frames too, at
 -- each level. Such places stand four or fewer in a row, so that the place four or five on is a tributary's and has 0, where the level's word has a 1.
+use Rattle.std.specs.Prelude.{Some}
 use mathlib.Core.Path.{◌≡◌, refl, sym, ap, ◌∙◌}
 use mathlib.Core.Bool.{Bool, cond, true, false, true≢false}
 use Prim.Native.Nat.{ℕ, ◌+◌, ◌*◌, ◌-◌, ◌/◌, ◌≤◌, ◌<◌}
@@ -9,7 +10,6 @@ use native.Mathlib.Nat.{zero-mul, div-eq_of_lt}
 use lib.Dec.{lit<}
 use Rattle.digits.proofs.Written.{written-binary}
 use Rattle.table.specs.declared.Row.{Row}
-use Rattle.table.specs.declared.Level.TheVariants.{Of}
 use Rattle.table.specs.Table.{level_of}
 use Rattle.levels.specs.declared.places.Kind.{Kind}
 use Rattle.levels.specs.declared.places.Kind.TheVariants.{Control, Justification, Tributary}
@@ -146,7 +146,7 @@ module _ (row : Row) (sh : Shared row) where
       go false = written-binary row.len row.word p
 
 -- at each level, of any length and begun anywhere
-pub idle-correct : (level : ℕ) (row : Row) → level_of level ≡ Of row → (o n : ℕ) → CorrectLine row o (idle_line row o n)
+pub idle-correct : (level : ℕ) (row : Row) → level_of level ≡ Some row → (o n : ℕ) → CorrectLine row o (idle_line row o n)
 idle-correct level row known =
     let sh = shared-row level row known in
     frames-correct row sh (idle_digit row) (idle-word row sh) (idle-bits row sh) (idle-alone row sh (lone level row known))

@@ -1,6 +1,7 @@
 -- Multiplexing makes the line of proofs/IdleLines.antt: of tributaries of zeros, with notes of the national bits alone, which it asks for, and the vote 0
 -- before them, it sends the words, 1 at the national places and at the service places that no note has, and 0 at every other place. So a line of correct
 -- frames of any number of frames is one that multiplexing makes.
+use Rattle.std.specs.Prelude.{Some}
 use mathlib.Core.Path.{◌≡◌, refl, sym, ◌∙◌}
 use mathlib.Core.Bool.{cond, true, false, not}
 use mathlib.Core.List.{List, ◌∷◌}
@@ -17,7 +18,6 @@ use Rattle.digits.proofs.Lists.{of_four}
 use Rattle.digits.proofs.Tests.{cond-told}
 use Rattle.digits.proofs.Written.{written-length, written-digit}
 use Rattle.table.specs.declared.Row.{Row}
-use Rattle.table.specs.declared.Level.TheVariants.{Of}
 use Rattle.levels.specs.declared.places.Kind.{Kind}
 use Rattle.levels.specs.declared.order.Action.{Action}
 use Rattle.levels.specs.declared.places.Sign.TheVariants.{Negative, Positive}
@@ -227,7 +227,7 @@ module _ (row : Row) (sh : Shared row) where
         binary = rw is (tab-binary (8 * bytes) 0 (λ i. idle_digit row (in_frame row 0 i)) (λ i. idle-bits row sh (in_frame row 0 i)))
 
 -- at each level, so many bytes of F frames
-pub multiplexed-correct : (level : ℕ) (row : Row) → level_of level ≡ Of row → (F : ℕ) (notes : List ℕ) (tributary : ℕ → List ℕ)
+pub multiplexed-correct : (level : ℕ) (row : Row) → level_of level ≡ Some row → (F : ℕ) (notes : List ℕ) (tributary : ℕ → List ℕ)
     → ((f : ℕ) → f < F → get_or notes f 0 ≡ 32 * (2 ^ row.nationals - 1)) → ((j i : ℕ) → get_or (tributary j) i 0 ≡ 0) → (bytes : ℕ) → 8 * bytes ≤ F * row.digits
     → CorrectLine row 0 (digits_of (line_of row 0 notes tributary bytes))
 multiplexed-correct level row known F notes tributary noted no-digits bytes fits =

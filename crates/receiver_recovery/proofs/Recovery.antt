@@ -1,5 +1,6 @@
 -- Request 8: from any valid state, on a line of correct frames, the receiver is aligned at the true place after at most 8 N digits, and stays so while the
 -- line lasts, in whatever pieces its digits come. Told digit by digit by the deadline of proofs/Deadline.antt.
+use Rattle.std.specs.Prelude.{Some}
 use mathlib.Core.Path.{◌≡◌, refl, sym, ◌∙◌}
 use mathlib.Core.Bool.{Bool, true, false, true≢false}
 use mathlib.Core.List.{List, ◌++◌}
@@ -14,7 +15,6 @@ use Rattle.digits.proofs.Lists.{binary-take}
 use Rattle.digits.proofs.Deadline.{next}
 use Rattle.digits.proofs.WordLines.{none_left}
 use Rattle.table.specs.declared.Row.{Row}
-use Rattle.table.specs.declared.Level.TheVariants.{Of}
 use Rattle.table.specs.Table.{level_of}
 use Rattle.levels.specs.Table.{Shared}
 use Rattle.levels.proofs.Rows.{shared-row}
@@ -148,7 +148,7 @@ forgets row sh s t v w o ds line k enough h =
 
 -- ---- the same of the public call, whatever pieces the line's digits come in: after the calls for these pieces, each with its rest after a frame, whatever
 -- digits of the line are still to come
-pub calls-recover : (row : Row) (s : State) → level_of s.level ≡ Of row → ValidState row s → (ps : List Piece) → AllLent ps → (rest : List ℕ)
+pub calls-recover : (row : Row) (s : State) → level_of s.level ≡ Some row → ValidState row s → (ps : List Piece) → AllLent ps → (rest : List ℕ)
     → (o : ℕ) → CorrectLine row o (digits_in_all ps ++ rest) → 8 * row.digits ≤ length (digits_in_all ps)
     → AlignedAfter row o (length (digits_in_all ps)) (left_by call_of s (calls_for_all call_of s ps))
 calls-recover row s known v ps lent rest o line enough =

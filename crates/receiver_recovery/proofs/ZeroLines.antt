@@ -1,5 +1,6 @@
 -- There are lines of correct frames (specs/Line.antt), at each level, of any length and begun anywhere: the words, and 0 at every other place. It is
 -- enough that the word moved by some places is not the word. The line of frames with any other digits at their other places goes the same way.
+use Rattle.std.specs.Prelude.{Option, Some, None}
 use mathlib.Core.Path.{◌≡◌, refl, sym, ap, subst, ◌∙◌}
 use mathlib.Core.List.{List, [], ◌∷◌}
 use Prim.Native.Nat.{ℕ, zero, suc, ◌+◌, ◌-◌, ◌≤◌, ◌<◌}
@@ -13,8 +14,6 @@ use Rattle.digits.specs.Digits.{written}
 use Rattle.digits.proofs.Laws.{tab-length, tab-at, tab-binary}
 use Rattle.digits.proofs.Written.{written-length, written-binary}
 use Rattle.table.specs.declared.Row.{Row}
-use Rattle.table.specs.declared.Level.{Level}
-use Rattle.table.specs.declared.Level.TheVariants.{Of, NoSuchLevel}
 use Rattle.table.specs.Table.{level_of, row2, row3, row4, row12, row14}
 use Rattle.levels.specs.Table.{Shared}
 use Rattle.levels.proofs.Choice.{cond-by}
@@ -88,9 +87,9 @@ pub record Lone (row : Row) : Type 0 where
   pub on_past : 4 ≤ on
   pub on_near : on ≤ 5
 
-abbrev LoneAt : Level → Type 0
-LoneAt (Of row) = Lone row
-LoneAt NoSuchLevel = Unit {0}
+abbrev LoneAt : Option Row → Type 0
+LoneAt (Some row) = Lone row
+LoneAt None = Unit {0}
 
 lone-2 : Lone row2
 unfolding written
@@ -119,7 +118,7 @@ lone-at level =
     (cond-by LoneAt (eqb level 3) lone-3
     (cond-by LoneAt (eqb level 4) lone-4 (cond-by LoneAt (eqb level 12) lone-12 (cond-by LoneAt (eqb level 14) lone-14 tt))))
 
-pub lone : (level : ℕ) (row : Row) → level_of level ≡ Of row → Lone row
+pub lone : (level : ℕ) (row : Row) → level_of level ≡ Some row → Lone row
 lone level row known = subst LoneAt known (lone-at level)
 
 -- the word stands alone in frames of these digits: moved by r places it is not what stands there
@@ -195,7 +194,7 @@ module _ (row : Row) (sh : Shared row) where
         }
 
 -- at each level, of any length and begun anywhere
-pub zeros-correct : (level : ℕ) (row : Row) → level_of level ≡ Of row → (o n : ℕ) → CorrectLine row o (zero_line row o n)
+pub zeros-correct : (level : ℕ) (row : Row) → level_of level ≡ Some row → (o n : ℕ) → CorrectLine row o (zero_line row o n)
 zeros-correct level row known =
     let sh = shared-row level row known in
     frames-correct row sh (zero_digit row) (λ p h. refl) (written-binary row.len row.word) (zero-alone row sh (lone level row known))

@@ -33,13 +33,13 @@ pub struct Kept {
 pub fn state_of(r: Record) -> State
     ensures { result ≡ state_from r }
 {
-    let mode = numbers::mode_of(r.mode);
+    // A proof by hand aside, an array goes into a struct by a variable of its own.
     let frame = r.frame;
     State {
         level: r.level,
         window: r.window as usize,
         seen: r.seen as usize,
-        mode,
+        mode: numbers::mode_of(r.mode),
         place: r.place as usize,
         frame,
         stretch: Stretch {
@@ -54,19 +54,17 @@ pub fn state_of(r: Record) -> State
 pub fn record_of(s: State) -> Record
     ensures { result ≡ record_of s }
 {
-    let mode = s.mode;
-    let st = s.stretch;
     let frame = s.frame;
     Record {
         level: s.level,
         window: s.window as u64,
         seen: s.seen as u64,
-        mode: numbers::mode_number(mode),
+        mode: numbers::mode_number(s.mode),
         place: s.place as u64,
-        digits: st.digits as u64,
-        zeros: st.zeros as u64,
-        few: digits::as_number(st.few),
-        alarm: digits::as_number(st.alarm),
+        digits: s.stretch.digits as u64,
+        zeros: s.stretch.zeros as u64,
+        few: digits::as_number(s.stretch.few),
+        alarm: digits::as_number(s.stretch.alarm),
         frame,
     }
 }
@@ -77,11 +75,13 @@ fn kept_after(f: Fed, r: Record) -> Kept
 {
     let refusal = f.refusal;
     if refusal != 0 {
-        return Kept { refusal, kept: r };
+        Kept { refusal, kept: r }
+    } else {
+        Kept {
+            refusal,
+            kept: record_of(f.state),
+        }
     }
-    let next = f.state;
-    let kept = record_of(next);
-    Kept { refusal, kept }
 }
 
 // Feeds a piece to the receiver that a record keeps, and writes the answer.

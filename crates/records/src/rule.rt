@@ -10,12 +10,12 @@ pub fn list_refusal(number: usize, line: u64) -> u64
     ensures { result ≡ list_refusal number line }
 {
     if number as u64 <= line {
-        return 8;
+        8
+    } else if 64 < number {
+        2
+    } else {
+        0
     }
-    if 64 < number {
-        return 2;
-    }
-    0
 }
 
 // A feed that the list refuses: nothing taken, no frame, no alarm, no words tested.
@@ -31,15 +31,15 @@ pub fn made(number: usize, line: u64, level: u64) -> Kept
     ensures { result ≡ made_of number line level }
 {
     let fresh = receiver::fresh(level);
-    let state = fresh.state;
-    let kept = crate::record::record_of(state);
+    let kept = crate::record::record_of(fresh.state);
     let no = list_refusal(number, line);
     if no != 0 {
-        return Kept { refusal: no, kept };
-    }
-    Kept {
-        refusal: fresh.refusal,
-        kept,
+        Kept { refusal: no, kept }
+    } else {
+        Kept {
+            refusal: fresh.refusal,
+            kept,
+        }
     }
 }
 
@@ -47,10 +47,7 @@ pub fn made(number: usize, line: u64, level: u64) -> Kept
 pub fn counted(number: usize) -> usize
     ensures { result ≡ counted_to number }
 {
-    if number <= 64 {
-        return number;
-    }
-    0
+    if number <= 64 { number } else { 0 }
 }
 
 pub fn count_on(n: u64, mode: u64) -> u64
@@ -58,17 +55,15 @@ pub fn count_on(n: u64, mode: u64) -> u64
     ensures { result ≡ n + cond (is_aligned mode) 1 0 }
 {
     if crate::record::is_aligned(mode) {
-        return n + 1;
+        n + 1
+    } else {
+        n
     }
-    n
 }
 
 pub fn tell(number: usize, n: u64, answer: &mut [u64; 1]) -> u64
     ensures { (result ≡ count_refusal number) × (answer.new ≡ n ∷ []) }
 {
     *answer = [n];
-    if number <= 64 {
-        return 0;
-    }
-    2
+    if number <= 64 { 0 } else { 2 }
 }

@@ -1,4 +1,5 @@
 -- The verdict, the plain engine, and the calls beside the documents' own: each one's refusal number is the first of its table that applies.
+use Rattle.std.specs.Prelude.{Option, Some, None}
 use mathlib.Core.Path.{◌≡◌, refl}
 use mathlib.Core.Bool.{Bool, cond, true, false, not, ◌&&◌}
 use mathlib.Core.List.{List}
@@ -7,16 +8,14 @@ use native.Mathlib.Omega.{arith}
 use lib.Dec.{eqb, ltb, leb}
 use lib.ListN.{length}
 use borrow.Author.Tests.{ltb-true, ltb-false, lt-leb, le-leb, lt-ltb, ne_eqb}
-use Rattle.table.specs.declared.Level.{Level}
-use Rattle.table.specs.declared.Level.TheVariants.{Of, NoSuchLevel}
+use Rattle.table.specs.declared.Row.{Row}
 use Rattle.table.specs.Table.{level_of}
 use Rattle.levels.specs.Sizes.{bad_line, bad_buffer}
 use Rattle.levels.specs.Faults.{bad_earlier, send_fault_of, send_answered, answered}
 use Rattle.multiplex.specs.Multiplex as multiplex
 use Rattle.reading.specs.Reading.{noted, notes_after}
 use Rattle.extraction.specs.Extract.{buffer_after}
-use Rattle.engine.specs.declared.Answered.{Answered}
-use Rattle.engine.specs.declared.NotesRead.{NotesRead}
+use Rattle.engine.specs.Engine.{Answered, NotesRead}
 use Rattle.engine.specs.Engine as plain
 use Rattle.plain_promises.proofs.Engines.{same-multiplexing, same-reading, same-extraction}
 use Rattle.judge.specs.Verdict as judge
@@ -51,8 +50,8 @@ unfolding judge.number_of judge.judgement
 judge-order level earlier line pattern buffer =
     is-first (judge_table level earlier (length line) pattern (length buffer)) (judged level earlier line pattern buffer).refusal (go (level_of level) refl)
   where
-    go : (l : Level) → level_of level ≡ l → first_of (judge_table level earlier (length line) pattern (length buffer)) ≡ (judged level earlier line pattern buffer).refusal
-    go (Of row) e =
+    go : (l : Option Row) → level_of level ≡ l → first_of (judge_table level earlier (length line) pattern (length buffer)) ≡ (judged level earlier line pattern buffer).refusal
+    go (Some row) e =
         by (bad_pattern pattern) (bad_line row (length line)) (eqb pattern 0 && bad_buffer row (length line) (length buffer)) (bad_earlier row earlier) refl refl refl refl
       where
         by : (p a c d : Bool) → bad_pattern pattern ≡ p → bad_line row (length line) ≡ a → (eqb pattern 0 && bad_buffer row (length line) (length buffer)) ≡ c → bad_earlier row earlier ≡ d
@@ -62,7 +61,7 @@ judge-order level earlier line pattern buffer =
         by false false true d ep ea ec ed = rw (e, ep, ea, ec)
         by false false false true ep ea ec ed = rw (e, ep, ea, ec, ed)
         by false false false false ep ea ec ed = rw (e, ep, ea, ec, ed)
-    go NoSuchLevel e = rw e
+    go None e = rw e
 
 -- ---- the plain engine: it refuses as the other one does (crate plain_promises)
 
@@ -94,14 +93,14 @@ pub late-order : (level earlier line : ℕ) (notes : List ℕ) (buffer : ℕ)
     → FirstThatApplies (multiplex_table level earlier line notes buffer) (late_answer level earlier line notes buffer).refusal
 late-order level earlier line notes buffer = rw (go (level_of level) refl) at (multiplex-order level earlier line notes buffer)
   where
-    go : (l : Level) → level_of level ≡ l → (send_answered level earlier line notes buffer).refusal ≡ (late_answer level earlier line notes buffer).refusal
-    go (Of row) e = by (eqb (send_fault_of row earlier line notes buffer).refusal 0) refl
+    go : (l : Option Row) → level_of level ≡ l → (send_answered level earlier line notes buffer).refusal ≡ (late_answer level earlier line notes buffer).refusal
+    go (Some row) e = by (eqb (send_fault_of row earlier line notes buffer).refusal 0) refl
       where
         by : (t : Bool) → eqb (send_fault_of row earlier line notes buffer).refusal 0 ≡ t
             → (send_answered level earlier line notes buffer).refusal ≡ (late_answer level earlier line notes buffer).refusal
         by true t = rw (e, t)
         by false t = rw (e, t)
-    go NoSuchLevel e = rw e
+    go None e = rw e
 
 -- ---- two lines
 
@@ -109,15 +108,15 @@ pub lines-order : (level : ℕ) (one other : List ℕ) → FirstThatApplies (lin
 unfolding lines_refusal lines_of counted_on
 lines-order level one other = is-first (lines_table level (length one) (length other)) (lines_of level one other).refusal (go (level_of level) refl)
   where
-    go : (l : Level) → level_of level ≡ l → first_of (lines_table level (length one) (length other)) ≡ (lines_of level one other).refusal
-    go (Of row) e = by (bad_line row (length one)) (eqb (length other) (length one)) refl refl
+    go : (l : Option Row) → level_of level ≡ l → first_of (lines_table level (length one) (length other)) ≡ (lines_of level one other).refusal
+    go (Some row) e = by (bad_line row (length one)) (eqb (length other) (length one)) refl refl
       where
         by : (a b : Bool) → bad_line row (length one) ≡ a → eqb (length other) (length one) ≡ b
             → first_of (lines_table level (length one) (length other)) ≡ (lines_of level one other).refusal
         by true b ea eb = rw (e, ea)
         by false true ea eb = rw (e, ea, eb)
         by false false ea eb = rw (e, ea, eb)
-    go NoSuchLevel e = rw e
+    go None e = rw e
 
 pub stretch-order : (level : ℕ) (one other : List ℕ) (first count : ℕ)
     → FirstThatApplies (stretch_table level (length one) (length other) first count) (stretch_of level one other first count).refusal
@@ -125,8 +124,8 @@ unfolding lines_refusal stretch_of stretch_on
 stretch-order level one other first count =
     is-first (stretch_table level (length one) (length other) first count) (stretch_of level one other first count).refusal (go (level_of level) refl)
   where
-    go : (l : Level) → level_of level ≡ l → first_of (stretch_table level (length one) (length other) first count) ≡ (stretch_of level one other first count).refusal
-    go (Of row) e = by (bad_line row (length one)) (eqb (length other) (length one)) (ltb (8 * length one) (first + count)) refl refl refl
+    go : (l : Option Row) → level_of level ≡ l → first_of (stretch_table level (length one) (length other) first count) ≡ (stretch_of level one other first count).refusal
+    go (Some row) e = by (bad_line row (length one)) (eqb (length other) (length one)) (ltb (8 * length one) (first + count)) refl refl refl
       where
         by : (a b c : Bool) → bad_line row (length one) ≡ a → eqb (length other) (length one) ≡ b → ltb (8 * length one) (first + count) ≡ c
             → first_of (stretch_table level (length one) (length other) first count) ≡ (stretch_of level one other first count).refusal
@@ -134,7 +133,7 @@ stretch-order level one other first count =
         by false false c ea eb ec = rw (e, ea, eb)
         by false true true ea eb ec = rw (e, ea, eb, ec)
         by false true false ea eb ec = rw (e, ea, eb, ec)
-    go NoSuchLevel e = rw e
+    go None e = rw e
 
 -- ---- digits carried
 
@@ -159,13 +158,13 @@ pub place-order : (level p : ℕ) → FirstThatApplies (place_table level p) (fr
 unfolding frames.place_in
 place-order level p = is-first (place_table level p) (frames.placed level p).refusal (go (level_of level) refl)
   where
-    go : (l : Level) → level_of level ≡ l → first_of (place_table level p) ≡ (frames.placed level p).refusal
-    go (Of row) e = by (ltb p row.digits) refl
+    go : (l : Option Row) → level_of level ≡ l → first_of (place_table level p) ≡ (frames.placed level p).refusal
+    go (Some row) e = by (ltb p row.digits) refl
       where
         by : (a : Bool) → ltb p row.digits ≡ a → first_of (place_table level p) ≡ (frames.placed level p).refusal
         by true ea = rw (e, not-leb row.digits p, ea)
         by false ea = rw (e, not-leb row.digits p, ea)
-    go NoSuchLevel e = rw e
+    go None e = rw e
 
 pub multiframe-place-order : (p : ℕ) → FirstThatApplies (multiframe_place_table p) (multiframes.multiframe_placed p).refusal
 multiframe-place-order p = is-first (multiframe_place_table p) (multiframes.multiframe_placed p).refusal (by (ltb p 4096) refl)

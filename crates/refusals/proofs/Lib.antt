@@ -3,3 +3,4 @@ pub mod Tables
 pub mod Further
 pub mod Nothing
 pub mod Worn
+pub mod Told

@@ -1,4 +1,5 @@
 -- A refused call does nothing: of each call that answers a refusal other than 0.
+use Rattle.std.specs.Prelude.{Option, Some, None}
 use mathlib.Core.Path.{◌≡◌, refl, ◌∙◌, ap}
 use mathlib.Core.Bool.{Bool, cond, true, false, ◌||◌}
 use mathlib.Core.List.{List}
@@ -9,23 +10,21 @@ use lib.Seq.{set-get_or}
 use borrow.Author.Tests.{eqb-true, eqb-false, ne_eqb}
 use Rattle.digits.proofs.Tests.{cond-told}
 use Rattle.table.specs.declared.Row.{Row}
-use Rattle.table.specs.declared.Level.{Level}
-use Rattle.table.specs.declared.Level.TheVariants.{Of, NoSuchLevel}
 use Rattle.table.specs.Table.{level_of}
-use Rattle.levels.specs.declared.faults.Fault.{Fault}
-use Rattle.levels.specs.declared.faults.Counted.{Counted}
+use Rattle.levels.specs.Faults.{Fault}
+use Rattle.levels.specs.Faults.{Counted}
 use Rattle.levels.specs.Sizes.{bad_line, frames_refusal, size_refusal}
 use Rattle.levels.specs.Faults.{first_with, fault, or_else, naming, overfull, unset, bad_earlier, earlier_fault, note_fault, national_fault, fault_of, send_fault_of, answered, send_answered}
 use Rattle.levels.proofs.Choice.{cond-by}
-use Rattle.reading.specs.declared.Noted.{Noted}
+use Rattle.reading.specs.Reading.{Noted}
 use Rattle.reading.specs.Reading.{noted, notes_after, ReadNotesMet}
 use Rattle.multiplex.specs.Multiplex as multiplex
 use Rattle.extraction.specs.Extract.{ExtractMet, buffer_after}
-use Rattle.swap.specs.declared.Swapped.{Swapped}
+use Rattle.swap.specs.Swap.{Swapped}
 use Rattle.swap.specs.Swap as swap
-use Rattle.repair.specs.declared.Repaired.{Repaired}
+use Rattle.repair.specs.Repair.{Repaired}
 use Rattle.repair.specs.Repair as repair
-use Rattle.captures.specs.declared.Written.{Written}
+use Rattle.captures.specs.Captures.{Written}
 use Rattle.captures.specs.declared.Reading.{Reading}
 use Rattle.captures.specs.Captures.{write_refusal, written_of, left_of, WriteMet, end_at, field_at, unread, after_line, fields_of, read_of, ReadMet}
 use Rattle.differing.specs.declared.Compared.{Compared}
@@ -35,7 +34,7 @@ use Rattle.compare.specs.Compare as comparing
 use Rattle.compare.specs.Lines as two-lines
 use Rattle.copying.specs.Copying.{copies, CopyMet}
 use Rattle.late.specs.Late.{late_answer, late_left, LateMet}
-use Rattle.multiframe.specs.declared.Built.{Built}
+use Rattle.multiframe.specs.Calls.{Built}
 use Rattle.multiframe.specs.Calls.{lengths_right, first_silent, built_of, BuildMet}
 use Rattle.finder_2048.specs.declared.State as finder
 use Rattle.finder_2048.specs.declared.Fed as found
@@ -81,10 +80,10 @@ pub multiplex-nothing : (level earlier : ℕ) (line notes buffer : List ℕ) (an
     → (answer.refusal ≡ 0 → ⊥) → CountedNothing answer line left
 multiplex-nothing level earlier line notes buffer answer left met h = rw (met.0, met.1) (go (level_of level) refl (λ e. h (ap (λ (a : Counted). a.refusal) met.0 ∙ e)))
   where
-    go : (l : Level) → level_of level ≡ l → ((send_answered level earlier (length line) notes (length buffer)).refusal ≡ 0 → ⊥)
+    go : (l : Option Row) → level_of level ≡ l → ((send_answered level earlier (length line) notes (length buffer)).refusal ≡ 0 → ⊥)
         → CountedNothing (send_answered level earlier (length line) notes (length buffer)) line (multiplex.line_after level earlier line notes buffer)
-    go NoSuchLevel e refused = rw e (record { counts = refl; frame = λ five ten. refl; kept = refl })
-    go (Of row) e refused = by (eqb f.refusal 0) refl
+    go None e refused = rw e (record { counts = refl; frame = λ five ten. refl; kept = refl })
+    go (Some row) e refused = by (eqb f.refusal 0) refl
       where
         f : Fault
         f = send_fault_of row earlier (length line) notes (length buffer)
@@ -98,10 +97,10 @@ pub extract-nothing : (level earlier : ℕ) (line notes buffer : List ℕ) (answ
     → (answer.refusal ≡ 0 → ⊥) → CountedNothing answer buffer left
 extract-nothing level earlier line notes buffer answer left met h = rw (met.0, met.1) (go (level_of level) refl (λ e. h (ap (λ (a : Counted). a.refusal) met.0 ∙ e)))
   where
-    go : (l : Level) → level_of level ≡ l → ((answered level earlier (length line) notes (length buffer)).refusal ≡ 0 → ⊥)
+    go : (l : Option Row) → level_of level ≡ l → ((answered level earlier (length line) notes (length buffer)).refusal ≡ 0 → ⊥)
         → CountedNothing (answered level earlier (length line) notes (length buffer)) buffer (buffer_after level earlier line notes buffer)
-    go NoSuchLevel e refused = rw e (record { counts = refl; frame = λ five ten. refl; kept = refl })
-    go (Of row) e refused = by (eqb f.refusal 0) refl
+    go None e refused = rw e (record { counts = refl; frame = λ five ten. refl; kept = refl })
+    go (Some row) e refused = by (eqb f.refusal 0) refl
       where
         f : Fault
         f = fault_of row earlier (length line) notes (length buffer)
@@ -115,9 +114,9 @@ pub read-notes-nothing : (level : ℕ) (line notes : List ℕ) (answer : Noted) 
     → (answer.refusal ≡ 0 → ⊥) → NotedNothing answer notes left
 read-notes-nothing level line notes answer left met h = rw (met.0, met.1) (go (level_of level) refl (λ e. h (ap (λ (a : Noted). a.refusal) met.0 ∙ e)))
   where
-    go : (l : Level) → level_of level ≡ l → ((noted level line (length notes)).refusal ≡ 0 → ⊥) → NotedNothing (noted level line (length notes)) notes (notes_after level line notes)
-    go NoSuchLevel e refused = rw e (record { alignment = refl; dissent = refl; kept = refl })
-    go (Of row) e refused = by (eqb (frames_refusal row (length line) (length notes)) 0) refl
+    go : (l : Option Row) → level_of level ≡ l → ((noted level line (length notes)).refusal ≡ 0 → ⊥) → NotedNothing (noted level line (length notes)) notes (notes_after level line notes)
+    go None e refused = rw e (record { alignment = refl; dissent = refl; kept = refl })
+    go (Some row) e refused = by (eqb (frames_refusal row (length line) (length notes)) 0) refl
       where
         by : (t : Bool) → eqb (frames_refusal row (length line) (length notes)) 0 ≡ t → NotedNothing (noted level line (length notes)) notes (notes_after level line notes)
         by true t = absurd (refused (rw (e, t)))
@@ -127,10 +126,10 @@ pub swap-nothing : (level earlier tributary : ℕ) (line notes buffer : List ℕ
     → swap.SwapMet level earlier tributary line notes buffer answer left → (answer.refusal ≡ 0 → ⊥) → SwappedNothing answer line left
 swap-nothing level earlier tributary line notes buffer answer left met h = rw (met.0, met.1) (go (level_of level) refl (λ e. h (ap (λ (a : Swapped). a.refusal) met.0 ∙ e)))
   where
-    go : (l : Level) → level_of level ≡ l → ((swap.swapped level earlier tributary (length line) notes (length buffer)).refusal ≡ 0 → ⊥)
+    go : (l : Option Row) → level_of level ≡ l → ((swap.swapped level earlier tributary (length line) notes (length buffer)).refusal ≡ 0 → ⊥)
         → SwappedNothing (swap.swapped level earlier tributary (length line) notes (length buffer)) line (swap.line_after level earlier tributary line notes buffer)
-    go NoSuchLevel e refused = rw e (record { digits = refl; kept = refl })
-    go (Of row) e refused = by (eqb (swap.number_of row earlier tributary (length line) (length notes) (length buffer)) 0) refl
+    go None e refused = rw e (record { digits = refl; kept = refl })
+    go (Some row) e refused = by (eqb (swap.number_of row earlier tributary (length line) (length notes) (length buffer)) 0) refl
       where
         by : (t : Bool) → eqb (swap.number_of row earlier tributary (length line) (length notes) (length buffer)) 0 ≡ t
             → SwappedNothing (swap.swapped level earlier tributary (length line) notes (length buffer)) line (swap.line_after level earlier tributary line notes buffer)
@@ -142,10 +141,10 @@ pub repair-nothing : (level earlier : ℕ) (national : Bool) (line : List ℕ) (
 unfolding repair.changed
 repair-nothing level earlier national line answer left met h = rw (met.0, met.1) (go (level_of level) refl (λ e. h (ap (λ (a : Repaired). a.refusal) met.0 ∙ e)))
   where
-    go : (l : Level) → level_of level ≡ l → ((repair.repaired level earlier national line).refusal ≡ 0 → ⊥)
+    go : (l : Option Row) → level_of level ≡ l → ((repair.repaired level earlier national line).refusal ≡ 0 → ⊥)
         → RepairedNothing (repair.repaired level earlier national line) line (repair.line_after level earlier national line)
-    go NoSuchLevel e refused = rw e (record { word = refl; control = refl; stuffing = refl; national = refl; kept = refl })
-    go (Of row) e refused = by (eqb (repair.number_of row earlier (length line)) 0) refl
+    go None e refused = rw e (record { word = refl; control = refl; stuffing = refl; national = refl; kept = refl })
+    go (Some row) e refused = by (eqb (repair.number_of row earlier (length line)) 0) refl
       where
         by : (t : Bool) → eqb (repair.number_of row earlier (length line)) 0 ≡ t
             → RepairedNothing (repair.repaired level earlier national line) line (repair.line_after level earlier national line)
@@ -158,10 +157,10 @@ pub write-nothing : (level : ℕ) (line label : List ℕ) (labelled : Bool) (fil
     → WriteMet level line label labelled file answer left → (answer.refusal ≡ 0 → ⊥) → WrittenNothing answer file left
 write-nothing level line label labelled file answer left met h = rw (met.0, met.1) (go (level_of level) refl (λ e. h (ap (λ (a : Written). a.refusal) met.0 ∙ e)))
   where
-    go : (l : Level) → level_of level ≡ l → ((written_of level line label labelled (length file)).refusal ≡ 0 → ⊥)
+    go : (l : Option Row) → level_of level ≡ l → ((written_of level line label labelled (length file)).refusal ≡ 0 → ⊥)
         → WrittenNothing (written_of level line label labelled (length file)) file (left_of level line label labelled file)
-    go NoSuchLevel e refused = rw e (record { bytes = refl; byte = refl; kept = refl })
-    go (Of row) e refused = by (eqb (write_refusal row level line label labelled (length file)) 0) refl
+    go None e refused = rw e (record { bytes = refl; byte = refl; kept = refl })
+    go (Some row) e refused = by (eqb (write_refusal row level line label labelled (length file)) 0) refl
       where
         by : (t : Bool) → eqb (write_refusal row level line label labelled (length file)) 0 ≡ t
             → WrittenNothing (written_of level line label labelled (length file)) file (left_of level line label labelled file)
@@ -192,10 +191,10 @@ fields-nothing file =
 pub read-nothing : (file : List ℕ) (answer : Reading) → ReadMet file answer → (answer.refusal ≡ 0 → ⊥) → ReadNothing answer
 read-nothing file answer met h = rw met (go (eqb (fields_of file).refusal 0) refl (level_of (fields_of file).level) refl (λ e. h (ap (λ (a : Reading). a.refusal) met ∙ e)))
   where
-    go : (t : Bool) → eqb (fields_of file).refusal 0 ≡ t → (l : Level) → level_of (fields_of file).level ≡ l → Unread (read_of file)
+    go : (t : Bool) → eqb (fields_of file).refusal 0 ≡ t → (l : Option Row) → level_of (fields_of file).level ≡ l → Unread (read_of file)
     go false x l y = rw x (fields-nothing file)
-    go true x NoSuchLevel y = rw (x, y) (unread-so 1 0 (λ _. refl))
-    go true x (Of row) y = by (bad_line row (fields_of file).line.bytes) refl
+    go true x None y = rw (x, y) (unread-so 1 0 (λ _. refl))
+    go true x (Some row) y = by (bad_line row (fields_of file).line.bytes) refl
       where
         by : (t : Bool) → bad_line row (fields_of file).line.bytes ≡ t → Unread (read_of file)
         by true z = rw (x, y, z) (unread-so 2 0 (λ _. refl))
@@ -231,21 +230,21 @@ compare-nothing one other lent answer left met h =
     f : compared.Fault
     f = comparing.fault_of (read_of one) (read_of other)
 
-    go : (t : Bool) → eqb f.refusal 0 ≡ t → (l : Level) → level_of (read_of one).level ≡ l → ((comparing.compared_of one other).refusal ≡ 0 → ⊥)
+    go : (t : Bool) → eqb f.refusal 0 ≡ t → (l : Option Row) → level_of (read_of one).level ≡ l → ((comparing.compared_of one other).refusal ≡ 0 → ⊥)
         → ComparedNothing (comparing.compared_of one other) lent (comparing.listed_of one other lent)
     go false t l e refused = rw t (refused-by f lent (fault-byte one other))
-    go true t NoSuchLevel e refused = rw (t, e) (refused-by (comparing.fault_in 1 0 0) lent (λ _. refl))
-    go true t (Of row) e refused = absurd (refused (rw (t, e)))
+    go true t None e refused = rw (t, e) (refused-by (comparing.fault_in 1 0 0) lent (λ _. refl))
+    go true t (Some row) e refused = absurd (refused (rw (t, e)))
 
 pub lines-nothing : (level : ℕ) (one other lent : List ℕ) (answer : Compared) (left : List ℕ) → two-lines.LinesMet level one other lent answer left
     → (answer.refusal ≡ 0 → ⊥) → ComparedNothing answer lent left
 unfolding two-lines.lines_of two-lines.lines_listed counted_on
 lines-nothing level one other lent answer left met h = rw (met.0, met.1) (go (level_of level) refl (λ e. h (ap (λ (a : Compared). a.refusal) met.0 ∙ e)))
   where
-    go : (l : Level) → level_of level ≡ l → ((two-lines.lines_of level one other).refusal ≡ 0 → ⊥)
+    go : (l : Option Row) → level_of level ≡ l → ((two-lines.lines_of level one other).refusal ≡ 0 → ⊥)
         → ComparedNothing (two-lines.lines_of level one other) lent (two-lines.lines_listed level one other lent)
-    go NoSuchLevel e refused = rw e (refused-by (comparing.fault_in 1 0 0) lent (λ _. refl))
-    go (Of row) e refused = by (eqb (two-lines.lines_refusal row (length one) (length other)) 0) refl
+    go None e refused = rw e (refused-by (comparing.fault_in 1 0 0) lent (λ _. refl))
+    go (Some row) e refused = by (eqb (two-lines.lines_refusal row (length one) (length other)) 0) refl
       where
         by : (t : Bool) → eqb (two-lines.lines_refusal row (length one) (length other)) 0 ≡ t
             → ComparedNothing (two-lines.lines_of level one other) lent (two-lines.lines_listed level one other lent)
@@ -268,10 +267,10 @@ pub late-nothing : (level earlier : ℕ) (line notes buffer : List ℕ) (answer 
     → (answer.refusal ≡ 0 → ⊥) → CountedNothing answer line left
 late-nothing level earlier line notes buffer answer left met h = rw (met.0, met.1) (go (level_of level) refl (λ e. h (ap (λ (a : Counted). a.refusal) met.0 ∙ e)))
   where
-    go : (l : Level) → level_of level ≡ l → ((late_answer level earlier (length line) notes (length buffer)).refusal ≡ 0 → ⊥)
+    go : (l : Option Row) → level_of level ≡ l → ((late_answer level earlier (length line) notes (length buffer)).refusal ≡ 0 → ⊥)
         → CountedNothing (late_answer level earlier (length line) notes (length buffer)) line (late_left level earlier line notes buffer)
-    go NoSuchLevel e refused = rw e (record { counts = refl; frame = λ five ten. refl; kept = refl })
-    go (Of row) e refused = by (eqb f.refusal 0) refl
+    go None e refused = rw e (record { counts = refl; frame = λ five ten. refl; kept = refl })
+    go (Some row) e refused = by (eqb f.refusal 0) refl
       where
         f : Fault
         f = send_fault_of row earlier (length line) notes (length buffer)

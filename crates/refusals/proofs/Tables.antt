@@ -1,4 +1,5 @@
 -- Each call's refusal number is the first of its table that applies.
+use Rattle.std.specs.Prelude.{Option, Some, None}
 use mathlib.Core.Path.{◌≡◌, refl, sym, ◌∙◌}
 use mathlib.Core.Bool.{Bool, cond, true, false, not, ◌||◌, ◌&&◌, true≢false}
 use mathlib.Core.List.{List, [], ◌∷◌}
@@ -8,8 +9,6 @@ use lib.Dec.{eqb, ltb, leb}
 use lib.ListN.{length}
 use borrow.Author.Tests.{lt-ltb, le-ltb, ltb-true, ltb-false, eqb-true, eqb-false, ne_eqb}
 use Rattle.table.specs.declared.Row.{Row}
-use Rattle.table.specs.declared.Level.{Level}
-use Rattle.table.specs.declared.Level.TheVariants.{Of, NoSuchLevel}
 use Rattle.table.specs.Table.{level_of}
 use Rattle.levels.specs.Sizes.{on_level, bad_line, bad_notes, bad_buffer, frames_refusal, size_refusal}
 use Rattle.levels.specs.Faults.{first_with, overfull, unset, bad_earlier, fault_of, send_fault_of, answered, send_answered}
@@ -68,7 +67,7 @@ first_any test (note ∷ notes) = go (test note) (first_any test notes)
 
 -- ---- lines
 
-module _ (level : ℕ) (row : Row) (e : level_of level ≡ Of row) (earlier line : ℕ) (notes : List ℕ) (buffer : ℕ) where
+module _ (level : ℕ) (row : Row) (e : level_of level ≡ Some row) (earlier line : ℕ) (notes : List ℕ) (buffer : ℕ) where
   extract-by : (a b c d v : Bool) → bad_line row line ≡ a → bad_notes row line (length notes) ≡ b → bad_buffer row line buffer ≡ c → bad_earlier row earlier ≡ d
       → any_of (overfull row) notes ≡ v → first_of (extract_table level earlier line notes buffer) ≡ (answered level earlier line notes buffer).refusal
   unfolding frames_refusal size_refusal fault_of
@@ -83,14 +82,14 @@ pub extract-order : (level earlier line : ℕ) (notes : List ℕ) (buffer : ℕ)
     → FirstThatApplies (extract_table level earlier line notes buffer) (answered level earlier line notes buffer).refusal
 extract-order level earlier line notes buffer = is-first (extract_table level earlier line notes buffer) (answered level earlier line notes buffer).refusal (go (level_of level) refl)
   where
-    go : (l : Level) → level_of level ≡ l → first_of (extract_table level earlier line notes buffer) ≡ (answered level earlier line notes buffer).refusal
-    go (Of row) e =
+    go : (l : Option Row) → level_of level ≡ l → first_of (extract_table level earlier line notes buffer) ≡ (answered level earlier line notes buffer).refusal
+    go (Some row) e =
         extract-by level row e earlier line notes buffer (bad_line row line) (bad_notes row line (length notes)) (bad_buffer row line buffer) (bad_earlier row earlier) (any_of (overfull row) notes)
         refl refl refl refl refl
-    go NoSuchLevel e = rw e
+    go None e = rw e
 
 -- multiplexing: the same, then 10
-module _ (level : ℕ) (row : Row) (e : level_of level ≡ Of row) (earlier line : ℕ) (notes : List ℕ) (buffer : ℕ) where
+module _ (level : ℕ) (row : Row) (e : level_of level ≡ Some row) (earlier line : ℕ) (notes : List ℕ) (buffer : ℕ) where
   multiplex-by : (a b c d v w : Bool) → bad_line row line ≡ a → bad_notes row line (length notes) ≡ b → bad_buffer row line buffer ≡ c → bad_earlier row earlier ≡ d
       → any_of (overfull row) notes ≡ v → any_of (unset row) notes ≡ w
       → first_of (multiplex_table level earlier line notes buffer) ≡ (send_answered level earlier line notes buffer).refusal
@@ -110,24 +109,24 @@ pub multiplex-order : (level earlier line : ℕ) (notes : List ℕ) (buffer : �
 multiplex-order level earlier line notes buffer =
     is-first (multiplex_table level earlier line notes buffer) (send_answered level earlier line notes buffer).refusal (go (level_of level) refl)
   where
-    go : (l : Level) → level_of level ≡ l → first_of (multiplex_table level earlier line notes buffer) ≡ (send_answered level earlier line notes buffer).refusal
-    go (Of row) e =
+    go : (l : Option Row) → level_of level ≡ l → first_of (multiplex_table level earlier line notes buffer) ≡ (send_answered level earlier line notes buffer).refusal
+    go (Some row) e =
         multiplex-by level row e earlier line notes buffer (bad_line row line) (bad_notes row line (length notes)) (bad_buffer row line buffer) (bad_earlier row earlier)
         (any_of (overfull row) notes) (any_of (unset row) notes) refl refl refl refl refl refl
-    go NoSuchLevel e = rw e
+    go None e = rw e
 
 pub read-notes-order : (level : ℕ) (line : List ℕ) (notes : ℕ) → FirstThatApplies (read_notes_table level (length line) notes) (noted level line notes).refusal
 unfolding frames_refusal
 read-notes-order level line notes = is-first (read_notes_table level (length line) notes) (noted level line notes).refusal (go (level_of level) refl)
   where
-    go : (l : Level) → level_of level ≡ l → first_of (read_notes_table level (length line) notes) ≡ (noted level line notes).refusal
-    go (Of row) e = by (bad_line row (length line)) (bad_notes row (length line) notes) refl refl
+    go : (l : Option Row) → level_of level ≡ l → first_of (read_notes_table level (length line) notes) ≡ (noted level line notes).refusal
+    go (Some row) e = by (bad_line row (length line)) (bad_notes row (length line) notes) refl refl
       where
         by : (a b : Bool) → bad_line row (length line) ≡ a → bad_notes row (length line) notes ≡ b → first_of (read_notes_table level (length line) notes) ≡ (noted level line notes).refusal
         by true b ea eb = rw (e, ea)
         by false true ea eb = rw (e, ea, eb)
         by false false ea eb = rw (e, ea, eb)
-    go NoSuchLevel e = rw e
+    go None e = rw e
 
 pub swap-order : (level earlier tributary line : ℕ) (notes : List ℕ) (buffer : ℕ)
     → FirstThatApplies (swap_table level earlier tributary line (length notes) buffer) (swapped level earlier tributary line notes buffer).refusal
@@ -135,8 +134,8 @@ unfolding frames_refusal swap.number_of
 swap-order level earlier tributary line notes buffer =
     is-first (swap_table level earlier tributary line (length notes) buffer) (swapped level earlier tributary line notes buffer).refusal (go (level_of level) refl)
   where
-    go : (l : Level) → level_of level ≡ l → first_of (swap_table level earlier tributary line (length notes) buffer) ≡ (swapped level earlier tributary line notes buffer).refusal
-    go (Of row) e =
+    go : (l : Option Row) → level_of level ≡ l → first_of (swap_table level earlier tributary line (length notes) buffer) ≡ (swapped level earlier tributary line notes buffer).refusal
+    go (Some row) e =
         by (bad_tributary tributary) (bad_line row line) (bad_notes row line (length notes)) (bad_room row line buffer) (bad_earlier row earlier) refl refl refl refl refl
       where
         by : (j a b c d : Bool) → bad_tributary tributary ≡ j → bad_line row line ≡ a → bad_notes row line (length notes) ≡ b → bad_room row line buffer ≡ c → bad_earlier row earlier ≡ d
@@ -147,21 +146,21 @@ swap-order level earlier tributary line notes buffer =
         by false false false true d ej ea eb ec ed = rw (e, ej, ea, eb, ec)
         by false false false false true ej ea eb ec ed = rw (e, ej, ea, eb, ec, ed)
         by false false false false false ej ea eb ec ed = rw (e, ej, ea, eb, ec, ed)
-    go NoSuchLevel e = rw e
+    go None e = rw e
 
 pub repair-order : (level earlier : ℕ) (national : Bool) (line : List ℕ)
     → FirstThatApplies (repair_table level earlier (length line)) (repaired level earlier national line).refusal
 unfolding repair.number_of repair.changed
 repair-order level earlier national line = is-first (repair_table level earlier (length line)) (repaired level earlier national line).refusal (go (level_of level) refl)
   where
-    go : (l : Level) → level_of level ≡ l → first_of (repair_table level earlier (length line)) ≡ (repaired level earlier national line).refusal
-    go (Of row) e = by (bad_line row (length line)) (bad_earlier row earlier) refl refl
+    go : (l : Option Row) → level_of level ≡ l → first_of (repair_table level earlier (length line)) ≡ (repaired level earlier national line).refusal
+    go (Some row) e = by (bad_line row (length line)) (bad_earlier row earlier) refl refl
       where
         by : (a d : Bool) → bad_line row (length line) ≡ a → bad_earlier row earlier ≡ d → first_of (repair_table level earlier (length line)) ≡ (repaired level earlier national line).refusal
         by true d ea ed = rw (e, ea)
         by false true ea ed = rw (e, ea, ed)
         by false false ea ed = rw (e, ea, ed)
-    go NoSuchLevel e = rw e
+    go None e = rw e
 
 -- ---- captures
 
@@ -170,8 +169,8 @@ pub write-order : (level : ℕ) (line label : List ℕ) (labelled : Bool) (room 
 unfolding write_refusal
 write-order level line label labelled room = is-first (write_table level line label labelled room) (written_of level line label labelled room).refusal (go (level_of level) refl)
   where
-    go : (l : Level) → level_of level ≡ l → first_of (write_table level line label labelled room) ≡ (written_of level line label labelled room).refusal
-    go (Of row) e =
+    go : (l : Option Row) → level_of level ≡ l → first_of (write_table level line label labelled room) ≡ (written_of level line label labelled room).refusal
+    go (Some row) e =
         by (bad_line row (length line)) (labelled && ltb 32 (length label)) (ltb room (length (file_of level line label labelled))) refl refl refl
       where
         by : (a b c : Bool) → bad_line row (length line) ≡ a → labelled && ltb 32 (length label) ≡ b → ltb room (length (file_of level line label labelled)) ≡ c
@@ -180,7 +179,7 @@ write-order level line label labelled room = is-first (write_table level line la
         by false true c ea eb ec = rw (e, ea, eb)
         by false false true ea eb ec = rw (e, ea, eb, ec)
         by false false false ea eb ec = rw (e, ea, eb, ec)
-    go NoSuchLevel e = rw e
+    go None e = rw e
 
 -- a run of fields is at fault with 9, or with nothing
 nine-or-none : (file : List ℕ) → eqb (fields_of file).refusal 0 ≡ false → (fields_of file).refusal ≡ 9
@@ -197,31 +196,31 @@ nine-or-none file =
 pub read-order : (file : List ℕ) → FirstThatApplies (read_table file) (read_of file).refusal
 read-order file = is-first (read_table file) (read_of file).refusal (go (eqb (fields_of file).refusal 0) refl (level_of (fields_of file).level) refl)
   where
-    go : (t : Bool) → eqb (fields_of file).refusal 0 ≡ t → (l : Level) → level_of (fields_of file).level ≡ l → first_of (read_table file) ≡ (read_of file).refusal
+    go : (t : Bool) → eqb (fields_of file).refusal 0 ≡ t → (l : Option Row) → level_of (fields_of file).level ≡ l → first_of (read_table file) ≡ (read_of file).refusal
     go false none l e = rw none (sym (nine-or-none file none))
-    go true none NoSuchLevel e = rw (none, e)
-    go true none (Of row) e = by (bad_line row (fields_of file).line.bytes) refl
+    go true none None e = rw (none, e)
+    go true none (Some row) e = by (bad_line row (fields_of file).line.bytes) refl
       where
         by : (a : Bool) → bad_line row (fields_of file).line.bytes ≡ a → first_of (read_table file) ≡ (read_of file).refusal
         by true ea = rw (none, e, ea)
         by false ea = rw (none, e, ea) (sym (eqb-true (fields_of file).refusal 0 none))
 
 -- an accepted capture has a level
-has-level : (file : List ℕ) → (read_of file).refusal ≡ 0 → level_of (read_of file).level ≡ NoSuchLevel → ⊥
+has-level : (file : List ℕ) → (read_of file).refusal ≡ 0 → level_of (read_of file).level ≡ None → ⊥
 has-level file ok none = go (eqb (fields_of file).refusal 0) refl (level_of (fields_of file).level) refl
   where
     one : ◌≡◌ {A = ℕ} 1 0 → ⊥
     one e = omega arith
 
-    go : (t : Bool) → eqb (fields_of file).refusal 0 ≡ t → (l : Level) → level_of (fields_of file).level ≡ l → ⊥
+    go : (t : Bool) → eqb (fields_of file).refusal 0 ≡ t → (l : Option Row) → level_of (fields_of file).level ≡ l → ⊥
     go false x l y = eqb-false (fields_of file).refusal 0 x (rw x at ok)
-    go true x NoSuchLevel y = one (rw (x, y) at ok)
-    go true x (Of row) y = by-line (bad_line row (fields_of file).line.bytes) refl
+    go true x None y = one (rw (x, y) at ok)
+    go true x (Some row) y = by-line (bad_line row (fields_of file).line.bytes) refl
       where
         two : ◌≡◌ {A = ℕ} 2 0 → ⊥
         two e = omega arith
 
-        some : Of row ≡ NoSuchLevel → ⊥
+        some : Some row ≡ None → ⊥
         some e = let z : ◌≡◌ {A = ℕ} 0 1 = cc in omega arith
 
         by-line : (t : Bool) → bad_line row (fields_of file).line.bytes ≡ t → ⊥
@@ -234,10 +233,10 @@ compare-order one other =
     is-first (compare_table one other) (compare.compared_of one other).refusal
     (by (eqb (read_of one).refusal 0) (eqb (read_of other).refusal 0) (eqb (read_of one).level (read_of other).level) (eqb (read_of one).line.bytes (read_of other).line.bytes) refl refl refl refl)
   where
-    accepted : (l : Level) → level_of (read_of one).level ≡ l → (read_of one).refusal ≡ 0
+    accepted : (l : Option Row) → level_of (read_of one).level ≡ l → (read_of one).refusal ≡ 0
         → 0 ≡ (on_level l (λ (row : Row). counted_on row (compare.line_of one) (compare.line_of other)) (compare.refused_by (compare.fault_in 1 0 0))).refusal
-    accepted (Of row) e ok = refl
-    accepted NoSuchLevel e ok = absurd (has-level one ok e)
+    accepted (Some row) e ok = refl
+    accepted None e ok = absurd (has-level one ok e)
 
     by : (a b c d : Bool) → eqb (read_of one).refusal 0 ≡ a → eqb (read_of other).refusal 0 ≡ b → eqb (read_of one).level (read_of other).level ≡ c
         → eqb (read_of one).line.bytes (read_of other).line.bytes ≡ d → first_of (compare_table one other) ≡ (compare.compared_of one other).refusal
@@ -252,9 +251,9 @@ compare-order one other =
 pub fresh-order : (level : ℕ) → FirstThatApplies (fresh_table level) (fresh_of level).refusal
 fresh-order level = is-first (fresh_table level) (fresh_of level).refusal (go (level_of level) refl)
   where
-    go : (l : Level) → level_of level ≡ l → first_of (fresh_table level) ≡ (fresh_of level).refusal
-    go (Of row) e = rw e
-    go NoSuchLevel e = rw e
+    go : (l : Option Row) → level_of level ≡ l → first_of (fresh_table level) ≡ (fresh_of level).refusal
+    go (Some row) e = rw e
+    go None e = rw e
 
 -- a call that is run is not refused
 run-accepted : (row : Row) (ds : List ℕ) (taken words : ℕ) (s : State) → (run_of row ds taken words s).refusal ≡ 0
@@ -268,9 +267,9 @@ feed-first : (s : State) (slice : List ℕ) (first count : ℕ) → first_of (fe
 unfolding feed_row refusal_of
 feed-first s slice first count = go (level_of s.level) refl
   where
-    go : (l : Level) → level_of s.level ≡ l → first_of (feed_table s slice first count) ≡ (feed_of s slice first count).refusal
-    go NoSuchLevel e = rw e
-    go (Of row) e = by (invalid row (core_of s) || uncounted row s.stretch) (ltb 65536 (length slice)) (ltb (8 * length slice) (first + count)) refl refl refl
+    go : (l : Option Row) → level_of s.level ≡ l → first_of (feed_table s slice first count) ≡ (feed_of s slice first count).refusal
+    go None e = rw e
+    go (Some row) e = by (invalid row (core_of s) || uncounted row s.stretch) (ltb 65536 (length slice)) (ltb (8 * length slice) (first + count)) refl refl refl
       where
         by : (a b c : Bool) → (invalid row (core_of s) || uncounted row s.stretch) ≡ a → ltb 65536 (length slice) ≡ b → ltb (8 * length slice) (first + count) ≡ c
             → first_of (feed_table s slice first count) ≡ (feed_of s slice first count).refusal
@@ -316,9 +315,9 @@ rack-reset-order records line level =
     is-first (rack_reset_table records line level) (refusal_by (length records) line (kept_reset level (at records line)))
     (after_list (length records) line (given 1 (no_level level) ∷ []) (kept_reset level (at records line)) (go (level_of level) refl))
   where
-    go : (l : Level) → level_of level ≡ l → first_of (fresh_table level) ≡ (fresh_of level).refusal
-    go (Of row) e = rw e
-    go NoSuchLevel e = rw e
+    go : (l : Option Row) → level_of level ≡ l → first_of (fresh_table level) ≡ (fresh_of level).refusal
+    go (Some row) e = rw e
+    go None e = rw e
 
 pub rack-count-order : (records : List Record) → FirstThatApplies (rack_count_table records) (count_refusal (length records))
 unfolding count_refusal

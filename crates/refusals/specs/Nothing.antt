@@ -2,15 +2,15 @@
 -- and the named frame is 0 except under 5", and 10. What each call answers and leaves where it is refused: lent is what was lent for writing, left what is there at the end.
 -- (The receiver's is crate receiver, specs/Nothing.antt.)
 use Rattle.std.specs.Prelude.{◌≡◌, false, List, [], ◌∷◌, ℕ, replicate}
-use Rattle.levels.specs.declared.faults.Counted.{Counted}
-use Rattle.reading.specs.declared.Noted.{Noted}
-use Rattle.swap.specs.declared.Swapped.{Swapped}
-use Rattle.repair.specs.declared.Repaired.{Repaired}
+use Rattle.levels.specs.Faults.{Counted}
+use Rattle.reading.specs.Reading.{Noted}
+use Rattle.swap.specs.Swap.{Swapped}
+use Rattle.repair.specs.Repair.{Repaired}
 use Rattle.differing.specs.declared.Compared.{Compared}
-use Rattle.captures.specs.declared.Written.{Written}
+use Rattle.captures.specs.Captures.{Written}
 use Rattle.captures.specs.declared.Reading.{Reading}
 use Rattle.captures.specs.Captures.{nowhere}
-use Rattle.multiframe.specs.declared.Built.{Built}
+use Rattle.multiframe.specs.Calls.{Built}
 use Rattle.finder_2048.specs.declared.State as finder
 use Rattle.finder_2048.specs.declared.Fed as found
 use Rattle.records.specs.declared.record.Record.{Record}

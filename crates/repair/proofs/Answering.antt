@@ -15,7 +15,7 @@ use Rattle.levels.specs.Faults.{bad_earlier}
 use Rattle.levels.proofs.Judged.{line-frames}
 use Rattle.tally.specs.Tally.{sum_of, sums_of}
 use Rattle.tally.proofs.Sums.{sums_at}
-use Rattle.repair.specs.declared.Repaired.{Repaired}
+use Rattle.repair.specs.Repair.{Repaired}
 use Rattle.repair.specs.Repair.{changes, changed, number_of, refused_with, repaired_on, line_on}
 use Rattle.repair.specs.Mending.{Whole, Mended}
 use Rattle.repair.proofs.Frames.{all_done}

@@ -6,8 +6,7 @@ use Prim.Native.Nat.{ℕ}
 use contract.Lifetimes.{Lfts}
 use denote.Triple.Clauses.{AtExit}
 use borrow.Fn.World.{ArgsD, ResD}
-use Rattle.repair.specs.declared.Repaired.{Repaired}
-use Rattle.repair.specs.Repair.{RepairMet}
+use Rattle.repair.specs.Repair.{Repaired, numbers_of, RepairMet}
 use Rattle.repair.specs.contracts.repair.{signature, ended}
 use Rattle.repair.proofs.repair.Reads.{Asked, Learnt}
 
@@ -17,7 +16,7 @@ no-second-answer level earlier national line r s n m p q = (cc, cc)
 
 -- and what the call ensures is that statement
 pub repair-met : (κs : Lfts 1) (a : ArgsD signature κs) (r : ResD signature κs) (e : AtExit ended κs) → Learnt κs a r e
-    → RepairMet a.0 a.1.0 a.1.1.0 a.1.1.1.0.now r e.1.1.1.0.now
+    → RepairMet a.0 a.1.0 a.1.1.0 a.1.1.1.0.now (numbers_of r) e.1.1.1.0.now
 repair-met κs a r e met = met
 
 -- and it asks nothing of its caller

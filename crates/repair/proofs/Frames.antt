@@ -42,9 +42,6 @@ module _ (row : Row) (ds es : List ℕ) (f : ℕ) (h : (p : ℕ) → f * row.dig
 -- ---- a set
 
 module _ {row : Row} {national : Bool} {f preceding note : ℕ} where
-  pub onward-none : {n n' : ℕ} {line sums : List ℕ} → n ≡ n' → Onward row national f preceding note n n' line sums line sums
-  onward-none e earlier old a m = rw (← e) m
-
   -- one step after others
   pub onward_then : {n k l l' : ℕ} {line sums mid some left more : List ℕ} → Onward row national f preceding note n k line sums mid some
       → Onward row national f preceding note k l mid some left more → l ≡ l' → Onward row national f preceding note n l' line sums left more
@@ -53,11 +50,6 @@ module _ {row : Row} {national : Bool} {f preceding note : ℕ} where
   pub begun-on : {n k : ℕ} {line sums mid some : List ℕ} → Begun row national f preceding note n line sums → Onward row national f preceding note n k line sums mid some
       → Begun row national f preceding note k mid some
   begun-on b on = record { earlier = b.earlier; old = b.old; acts = b.acts; mended = on b.earlier b.old b.acts b.mended }
-
-  -- no length changes
-  pub begun_kept : {n k : ℕ} {line sums mid some : List ℕ} → Begun row national f preceding note n line sums → Onward row national f preceding note n k line sums mid some
-      → length mid ≡ length line
-  begun_kept b on = (on b.earlier b.old b.acts b.mended).kept ∙ sym b.mended.kept
 
   -- behind a set's head nothing is to be repaired
   pub set-done : (s : ℕ) → s < row.sets → {line sums mid some : List ℕ} {n : ℕ}

@@ -1,7 +1,7 @@
 -- Repairing a worn line in place: what the call answers and what it leaves in the line, refused or not, for any input. Document 02, request 13: "sets
 -- alignment digits to the word, control groups to their majority and stuffing digits to 1, and prints how many digits it changed of each kind and
 -- tributary". Request 14: "The repair tool gets a switch that at levels 2 to 4 sets them to 1 and counts that": the national digits. `national` is the switch.
-use Rattle.std.specs.Prelude.{◌≡◌, Bool, cond, not, List, [], ◌∷◌, ℕ, ◌*◌, ◌%◌, eqb, length, get_or}
+use Rattle.std.specs.Prelude.{◌≡◌, Bool, cond, not, List, [], ◌∷◌, ℕ, ◌*◌, ◌%◌, eqb, length, get_or, Result, Ok, Err}
 use Rattle.digits.specs.Digits.{digits_of, bytes_of, tab}
 use Rattle.table.specs.declared.Row.{Row}
 use Rattle.table.specs.Table.{level_of}
@@ -18,7 +18,9 @@ use Rattle.levels.specs.Word.{word_digit}
 use Rattle.levels.specs.Faults.{bad_earlier}
 use Rattle.reading.specs.Notes.{vote_at, notes_of}
 use Rattle.tally.specs.Tally.{sum_number, sum_of}
-use Rattle.repair.specs.declared.Repaired.{Repaired}
+use Rattle.refusal.specs.declared.Refusal.{Refusal}
+use Rattle.refusal.specs.Refusal.{number_of as refusal_number}
+use Rattle.repair.specs.declared.Changes.{Changes}
 
 -- ---- the line
 
@@ -68,6 +70,15 @@ changes row earlier national line p = not (eqb (get_or (digits_of line) p 0) (be
 abbrev pub changed_of : Row → ℕ → Bool → List ℕ → Kind → ℕ → ℕ
 changed_of row earlier national line kind j = sum_of row (changes row earlier national line) (8 * length line) (sum_number kind j)
 
+-- the call's answer as numbers: the refusal, 0 for none, and how many digits changed, of the word, of each tributary's control and stuffing digits, and
+-- national digits
+pub record Repaired : Type 0 where
+  pub refusal : ℕ
+  pub word : ℕ
+  pub control : List ℕ
+  pub stuffing : List ℕ
+  pub national : ℕ
+
 abbrev pub four : (ℕ → ℕ) → List ℕ
 four g = g 0 ∷ g 1 ∷ g 2 ∷ g 3 ∷ []
 
@@ -91,6 +102,12 @@ number_of row earlier line = cond (bad_line row line) 2 (cond (bad_earlier row e
 abbrev pub refused_with : ℕ → Repaired
 refused_with refusal =
     record { refusal = refusal; word = 0; control = 0 ∷ 0 ∷ 0 ∷ 0 ∷ []; stuffing = 0 ∷ 0 ∷ 0 ∷ 0 ∷ []; national = 0 }
+
+-- the numbers of what the code answers
+abbrev pub numbers_of : Result Changes Refusal → Repaired
+numbers_of (Ok made) =
+    record { refusal = 0; word = made.word; control = made.control; stuffing = made.stuffing; national = made.national }
+numbers_of (Err refusal) = refused_with (refusal_number refusal)
 
 abbrev pub repaired_on : Row → ℕ → Bool → List ℕ → Repaired
 repaired_on row earlier national line =

@@ -7,17 +7,17 @@ ghost use Rattle.std.specs.Prelude.{◌≡◌, cond, ◌+◌, ◌*◌, ◌<◌, 
 ghost use Rattle.levels.specs.declared.places.Kind.TheVariants.{Word, Justification};
 ghost use Rattle.levels.specs.Table.{Shared};
 ghost use Rattle.levels.specs.Order.{stuffed, acts_by};
-ghost use Rattle.repair.specs.Repair.{repaired_by, repaired_service, refused_with, repaired_on, line_on, RepairMet};
+ghost use Rattle.repair.specs.Repair.{repaired_by, repaired_service, numbers_of, repaired_on, line_on, RepairMet};
 ghost use Rattle.repair.specs.Mending.{place_of, Begun, Onward, Whole, Mended};
 
 use levels::places::{At, FramePlace, Kind, ServiceDigit, Sign};
 use levels::{faults, lent, order, places, sent, sizes};
-use table::{Level, Row};
+use refusal::Refusal;
+use table::Row;
 
-// What a repair answers: its refusal, and how many digits it changed, of the word, of each tributary's control and stuffing digits, and national digits.
-#[derive(Clone, Copy)]
-pub struct Repaired {
-    pub refusal: u64,
+// How many digits a repair changed: of the word, of each tributary's control and stuffing digits, and national digits.
+#[derive(Clone, Copy, Debug, PartialEq, Eq, Hash)]
+pub struct Changes {
     pub word: usize,
     pub control: [usize; 4],
     pub stuffing: [usize; 4],
@@ -32,27 +32,12 @@ pub struct Rule {
     pub national: bool,
 }
 
-fn refused(refusal: u64) -> Repaired
-    ensures { result ≡ refused_with refusal }
-{
-    Repaired {
-        refusal,
-        word: 0,
-        control: [0; 4],
-        stuffing: [0; 4],
-        national: 0,
-    }
-}
-
 // A national digit: 1 if asked, else as it came.
 fn national_digit(national: bool, came: u8) -> u8
     requires { came < 2 }
     ensures { (result ≡ cond national 1 came) × (result < 2) }
 {
-    if national {
-        return 1;
-    }
-    came
+    if national { 1 } else { came }
 }
 
 // A service digit: every other than a national one stays.
@@ -61,11 +46,9 @@ fn service_digit(national: bool, s: ServiceDigit, came: u8) -> u8
     ensures { (result ≡ repaired_service national came s) × (result < 2) }
 {
     match s {
-        ServiceDigit::RemoteAlarm => came,
-        ServiceDigit::FirstNational => national_digit(national, came),
-        ServiceDigit::SecondNational => national_digit(national, came),
-        ServiceDigit::ThirdNational => national_digit(national, came),
-        ServiceDigit::Fixed => came,
+        ServiceDigit::FirstNational | ServiceDigit::SecondNational | ServiceDigit::ThirdNational =>
+            national_digit(national, came),
+        ServiceDigit::RemoteAlarm | ServiceDigit::Fixed => came,
     }
 }
 
@@ -77,10 +60,9 @@ fn justification_digit(row: Row, sign: Sign, rule: Rule, j: usize, came: u8) -> 
         (Justification sign))
         × (result < 2) }
 {
-    if order::justification_carries(sign, order::action_of(row, rule.preceding, rule.note, j)) {
-        return came;
-    }
-    1
+    let action = order::action_of(row, rule.preceding, rule.note, j);
+    let carries = order::justification_carries(sign, action);
+    if carries { came } else { 1 }
 }
 
 // What place r of a set becomes, by its kind: j is its tributary (from 0).
@@ -117,11 +99,10 @@ fn repair_place(row: Row, line: &mut [u8], at: At, rule: Rule, sums: &mut [usize
         at.place,
         came,
     );
-    if d == came {
-        return;
+    if d != came {
+        lent::put_line_digit(line, FramePlace(p), d);
+        tally::count_at(row, FramePlace(p), sums);
     }
-    lent::put_line_digit(line, FramePlace(p), d);
-    tally::count_at(row, FramePlace(p), sums);
 }
 
 // Set s of frame f: the places of its head. Behind it nothing is to be repaired.
@@ -132,15 +113,13 @@ fn repair_set(row: Row, line: &mut [u8], f: usize, s: usize, rule: Rule, sums: &
         line.old sums.old line.new sums.new }
 {
     let end = places::head_end(row, s);
-    let mut r: usize = 0;
-    while r < end {
+    for r in 0..end {
         let at = At {
             frame: f,
             set: s,
             place: r,
         };
         repair_place(row, line, at, rule, sums);
-        r += 1;
     }
 }
 
@@ -150,10 +129,8 @@ fn repair_frame(row: Row, line: &mut [u8], f: usize, rule: Rule, sums: &mut [usi
     ensures { Onward row rule.national f rule.preceding rule.note (f * row.digits) ((f + 1) * row.digits) line.old sums.old
         line.new sums.new }
 {
-    let mut s: usize = 0;
-    while s < row.sets {
+    for s in 0..row.sets {
         repair_set(row, line, f, s, rule, sums);
-        s += 1;
     }
 }
 
@@ -164,8 +141,7 @@ fn repair_frames(row: Row, earlier: u64, national: bool, line: &mut [u8], sums: 
 {
     let frames = line.len() / row.bytes;
     let mut preceding = earlier;
-    let mut f: usize = 0;
-    while f < frames {
+    for f in 0..frames {
         let read = reading::read_note(row, line, f);
         let rule = Rule {
             preceding,
@@ -174,39 +150,38 @@ fn repair_frames(row: Row, earlier: u64, national: bool, line: &mut [u8], sums: 
         };
         repair_frame(row, line, f, rule, sums);
         preceding = read.note as u64;
-        f += 1;
     }
 }
 
 // A level's row is known: the rest is judged, and the line is repaired.
-fn repair_on(row: Row, earlier: u64, national: bool, line: &mut [u8]) -> Repaired
+fn repair_on(row: Row, earlier: u64, national: bool, line: &mut [u8]) -> Result<Changes, Refusal>
     requires { Shared row }
-    ensures { (result ≡ repaired_on row earlier national line.old) × (line.new ≡ line_on row earlier national line.old) }
+    ensures { (numbers_of result ≡ repaired_on row earlier national line.old) × (line.new ≡ line_on row earlier national line.old) }
 {
     if sizes::bad_line(row, line.len()) {
-        return refused(2);
+        return Err(Refusal::Line);
     }
     if faults::bad_earlier(row, earlier) {
-        return refused(5);
+        return Err(Refusal::NoteBits);
     }
     let mut sums = [0usize; 15];
     repair_frames(row, earlier, national, line, &mut sums);
-    Repaired {
-        refusal: 0,
+    Ok(Changes {
         word: sums[0],
         control: [sums[3], sums[6], sums[9], sums[12]],
         stuffing: [sums[4], sums[7], sums[10], sums[13]],
         national: sums[2],
-    }
+    })
 }
 
-// Repairs the line, with the vote before frame 0; `national` sets national digits to 1 too. Any level number, any length: see specs/Repair.antt.
-pub fn repair(level: u64, earlier: u64, national: bool, line: &mut [u8]) -> Repaired
-    ensures { RepairMet level earlier national line.old result line.new }
+// Repairs the line, with the vote before frame 0; `national` sets national digits to 1 too. Answers what it changed. Any level number, any length: see
+// specs/Repair.antt.
+pub fn repair(level: u64, earlier: u64, national: bool, line: &mut [u8]) -> Result<Changes, Refusal>
+    ensures { RepairMet level earlier national line.old (numbers_of result) line.new }
 {
     let found = table::level_of(level);
     match found {
-        Level::Of(row) => repair_on(row, earlier, national, line),
-        Level::NoSuchLevel => refused(1),
+        Some(row) => repair_on(row, earlier, national, line),
+        None => Err(Refusal::Level),
     }
 }

@@ -1,4 +1,5 @@
 -- What an accepted repair is over its level's row: a line of whole frames, repaired, and its changes counted.
+use Rattle.std.specs.Prelude.{Some}
 use mathlib.Core.Path.{◌≡◌, refl, sym, ◌∙◌, ap}
 use mathlib.Core.Bool.{Bool, false}
 use mathlib.Core.List.{List}
@@ -7,14 +8,13 @@ use native.Mathlib.Omega.{arith}
 use lib.ListN.{length}
 use borrow.Author.Tests.{eq-eqb}
 use Rattle.table.specs.declared.Row.{Row}
-use Rattle.table.specs.declared.Level.TheVariants.{Of}
 use Rattle.table.specs.Table.{level_of}
 use Rattle.levels.specs.Sizes.{bad_line}
 use Rattle.levels.specs.Faults.{bad_earlier}
 use Rattle.levels.proofs.Judged.{unrefused}
 use Rattle.levels.proofs.Refusals.{EarlierFits}
 use Rattle.promises.proofs.Accepted.{some_level, zero-refusal, shared}
-use Rattle.repair.specs.declared.Repaired.{Repaired}
+use Rattle.repair.specs.Repair.{Repaired}
 use Rattle.repair.specs.Repair.{number_of, refused_with, changed, repaired_on, repaired, repaired_line}
 use Rattle.repair.specs.Mending.{Whole}
 use Rattle.repair.proofs.Answering.{whole-line}
@@ -24,10 +24,10 @@ module _ (level earlier : ℕ) (national : Bool) (line : List ℕ) (answer : Rep
   none : (repaired level earlier national line).refusal ≡ 0
   none = sym (ap (λ (r : Repaired). r.refusal) ok.met.0) ∙ ok.accepted
 
-  pub repair-level : (row : Row) × (level_of level ≡ Of row)
+  pub repair-level : (row : Row) × (level_of level ≡ Some row)
   repair-level = some_level (λ (r : Repaired). r.refusal ≡ 0) (level_of level) (λ (row : Row). repaired_on row earlier national line) (refused_with 1) (λ e. omega arith) none
 
-  module _ (row : Row) (e : level_of level ≡ Of row) where
+  module _ (row : Row) (e : level_of level ≡ Some row) where
     pub no_number : number_of row earlier (length line) ≡ 0
     no_number =
         zero-refusal (λ (r : Repaired). r.refusal) (number_of row earlier (length line)) (changed row earlier national line) (refused_with (number_of row earlier (length line))) refl (rw e at none)

@@ -18,7 +18,7 @@ use Rattle.levels.specs.Order.{actions}
 use Rattle.levels.proofs.Positions.{stands}
 use Rattle.reading.specs.Notes.{vote_at, notes_of}
 use Rattle.tally.specs.Tally.{number_at, sum_of}
-use Rattle.repair.specs.declared.Repaired.{Repaired}
+use Rattle.repair.specs.Repair.{Repaired}
 use Rattle.repair.specs.Repair.{repaired_digit, becomes, repaired_line, changes, changed, number_of, RepairMet}
 use Rattle.repair.specs.Mending.{Whole}
 use Rattle.repair.proofs.Frames.{frames-digits}

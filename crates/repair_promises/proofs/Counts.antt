@@ -1,4 +1,5 @@
 -- The counts are the digits in which input and result differ, by kind and tributary, and they add up to all of them.
+use Rattle.std.specs.Prelude.{Some}
 use mathlib.Core.Path.{◌≡◌, refl, sym, ◌∙◌}
 use mathlib.Core.Logic.{◌≢◌}
 use mathlib.Core.Bool.{Bool, cond, true, false, not, ◌&&◌}
@@ -12,7 +13,6 @@ use Rattle.digits.specs.Digits.{digits_of, tab}
 use Rattle.digits.specs.Sums.{sum_to}
 use Rattle.digits.proofs.Sums.{sum-all}
 use Rattle.table.specs.declared.Row.{Row}
-use Rattle.table.specs.declared.Level.TheVariants.{Of}
 use Rattle.table.specs.Table.{level_of}
 use Rattle.levels.specs.declared.order.Action.{Action}
 use Rattle.levels.specs.declared.places.ServiceDigit.{ServiceDigit}
@@ -26,7 +26,7 @@ use Rattle.levels.specs.Word.{word_digit}
 use Rattle.reading.specs.Notes.{vote_at, notes_of}
 use Rattle.tally.specs.Tally.{service_number, sum_number, number_at, sum_of, sums_of, differ_at}
 use Rattle.tally.proofs.Sums.{sums-agree, adds-up}
-use Rattle.repair.specs.declared.Repaired.{Repaired}
+use Rattle.repair.specs.Repair.{Repaired}
 use Rattle.repair.specs.Repair.{repaired_service, repaired_by, repaired_digit, changes, changed, repaired_line}
 use Rattle.repair_promises.specs.Repairing.{Repairs, fifteen, CountsDiffering, CountsDifferingAt}
 use Rattle.repair_promises.proofs.Places.{repaired-at}
@@ -109,5 +109,5 @@ pub counts-differing : (level earlier : ℕ) (national : Bool) (line : List ℕ)
     → Repairs level earlier national line answer new → CountsDifferingAt level line new answer
 counts-differing level earlier national line answer new ok = let on = repair-level level earlier national line answer new ok in go on.0 on.1
   where
-    go : (row : Row) → level_of level ≡ Of row → CountsDifferingAt level line new answer
+    go : (row : Row) → level_of level ≡ Some row → CountsDifferingAt level line new answer
     go row e = rw (e, repair-answer level earlier national line answer new ok row e, repair-line level earlier national line answer new ok row e) (counts-on row earlier national line)

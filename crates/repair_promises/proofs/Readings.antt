@@ -1,5 +1,6 @@
 -- "The notes and tributaries read from the result are those read from the input": whatever notes and buffer the two calls that read are lent. With the switch
 -- on "the notes read back then differ in those bits alone", the national ones, which are then 1.
+use Rattle.std.specs.Prelude.{Some}
 use mathlib.Core.Path.{◌≡◌, refl, sym, ◌∙◌, ap}
 use mathlib.Core.Logic.{◌≢◌}
 use mathlib.Core.Bool.{Bool}
@@ -14,7 +15,6 @@ use Rattle.digits.specs.Digits.{digits_of}
 use Rattle.digits.proofs.Laws.{digits-binary, tab-length}
 use Rattle.digits.proofs.Sums.{sum-all}
 use Rattle.table.specs.declared.Row.{Row}
-use Rattle.table.specs.declared.Level.TheVariants.{Of}
 use Rattle.table.specs.Table.{level_of}
 use Rattle.levels.specs.declared.vote.Vote.{Vote}
 use Rattle.levels.specs.Table.{Shared}
@@ -26,14 +26,14 @@ use Rattle.levels.specs.Word.{wrong_digits}
 use Rattle.levels.proofs.Columns.{columns, frame-start}
 use Rattle.levels.proofs.Judged.{framed, accepted}
 use Rattle.levels.proofs.Refusals.{EarlierFits, NotesFit, fault-of-size, fit-faultless}
-use Rattle.reading.specs.declared.Noted.{Noted}
+use Rattle.reading.specs.Reading.{Noted}
 use Rattle.reading.specs.Notes.{vote_at, note_of, notes_of, alignment_to, dissent_to}
 use Rattle.reading.specs.Reading.{noted_from, refused_with, noted}
 use Rattle.extraction.specs.Quarters.{taken_to, quarter_from, quarters_from}
 use Rattle.promises.proofs.Order.{column-place, places_same, count_same, digits_same}
 use Rattle.promises.proofs.Reading.{note-fits}
 use Rattle.promises.proofs.Accepted.{zero-refusal}
-use Rattle.repair.specs.declared.Repaired.{Repaired}
+use Rattle.repair.specs.Repair.{Repaired}
 use Rattle.repair.specs.Repair.{repaired_digit, repaired_line}
 use Rattle.repair.specs.Mending.{Whole}
 use Rattle.repair.proofs.Frames.{frames-digits}
@@ -111,7 +111,7 @@ module _ (row : Row) (earlier : ℕ) (national : Bool) (line : List ℕ) (wh : W
   judged-same vote buffer =
       fault-same row earlier (length line) after before buffer (tab-length F 0 (note_of row (digits_of left)) ∙ sym (tab-length F 0 (note_of row (digits_of line)))) vote (read_fits left) (read_fits line)
 
-  module _ (level : ℕ) (e : level_of level ≡ Of row) (vote : EarlierFits row earlier) (notes buffer : List ℕ) where
+  module _ (level : ℕ) (e : level_of level ≡ Some row) (vote : EarlierFits row earlier) (notes buffer : List ℕ) where
     abbrev number : ℕ
     number = frames_refusal row (length line) (length notes)
 
@@ -121,7 +121,7 @@ module _ (row : Row) (earlier : ℕ) (national : Bool) (line : List ℕ) (wh : W
     some : (noted level line (length notes)).refusal ≢ 0 → number ≢ 0
     some n z = n (rw (e, eq-eqb number 0 z))
 
-  reads_on : (level : ℕ) → level_of level ≡ Of row → EarlierFits row earlier → ReadsTheSame row level earlier national line left
+  reads_on : (level : ℕ) → level_of level ≡ Some row → EarlierFits row earlier → ReadsTheSame row level earlier national line left
   reads_on level e vote =
       record {
         accepted = λ notes buffer ok.
@@ -156,7 +156,7 @@ pub reads-the-same : (level earlier : ℕ) (national : Bool) (line : List ℕ) (
     → ReadsTheSameAt level earlier national line new
 reads-the-same level earlier national line answer new ok = let on = repair-level level earlier national line answer new ok in go on.0 on.1
   where
-    go : (row : Row) → level_of level ≡ Of row → ReadsTheSameAt level earlier national line new
+    go : (row : Row) → level_of level ≡ Some row → ReadsTheSameAt level earlier national line new
     go row e =
         rw (e, repair-line level earlier national line answer new ok row e)
         (reads_on row earlier national line (repair-whole level earlier national line answer new ok row e) level e (repair-vote level earlier national line answer new ok row e))

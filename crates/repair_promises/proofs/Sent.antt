@@ -1,5 +1,6 @@
 -- "A multiplexed line whose only damage is of demand 3's sort, service digits excepted, comes back exactly as it was sent." With the switch on damaged national
 -- digits come back too: an accepted send has 1 at every national place.
+use Rattle.std.specs.Prelude.{Option, Some, None}
 use mathlib.Core.Path.{◌≡◌, refl, sym, ◌∙◌, ap}
 use mathlib.Core.Bool.{Bool, cond, true, false, true≢false}
 use mathlib.Core.List.{List}
@@ -12,8 +13,6 @@ use borrow.Author.Tests.{eqb-true, not-false}
 use Rattle.digits.specs.Digits.{digits_of, bytes_of, tab}
 use Rattle.digits.proofs.Laws.{digits-length, bytes-by-place}
 use Rattle.table.specs.declared.Row.{Row}
-use Rattle.table.specs.declared.Level.{Level}
-use Rattle.table.specs.declared.Level.TheVariants.{Of, NoSuchLevel}
 use Rattle.table.specs.Table.{level_of}
 use Rattle.levels.specs.declared.order.Action.{Action}
 use Rattle.levels.specs.declared.places.ServiceDigit.{ServiceDigit}
@@ -32,7 +31,7 @@ use Rattle.promises.specs.Calls.{Lent, SendAccepted, sent_line}
 use Rattle.promises.proofs.Sent.{sent-at}
 use Rattle.promises.proofs.Recovered.{vote-kept, acts-kept}
 use Rattle.promises.proofs.Accepted.{send-level, shared, tributary, send-sizes, send-vote, send-places, send-sound, send-bytes, send_line}
-use Rattle.repair.specs.declared.Repaired.{Repaired}
+use Rattle.repair.specs.Repair.{Repaired}
 use Rattle.repair.specs.Repair.{repaired_service, repaired_by, repaired_digit, becomes, number_of, changed, repaired_line, RepairMet}
 use Rattle.repair.proofs.Answering.{none-refused}
 use Rattle.repair_promises.specs.Repairing.{is_national, unrepaired, Wear, WearAt, WearWithSwitch, WearWithSwitchAt}
@@ -110,7 +109,7 @@ module _ (row : Row) (sh : Shared row) (F earlier : ℕ) (national : Bool) (note
       (λ p h. let inside : p < 8 * length line = omega (arith, long) in repaired-at row earlier national line p inside ∙ back_at p inside)
       ∙ ap (λ (n : ℕ). bytes_of n (tab (8 * n) 0 (line_digit row earlier notes tributary))) long
 
-module _ (level earlier : ℕ) (national : Bool) (row : Row) (e : level_of level ≡ Of row) (send : Lent) (ok : SendAccepted level earlier send) (line : List ℕ)
+module _ (level earlier : ℕ) (national : Bool) (row : Row) (e : level_of level ≡ Some row) (send : Lent) (ok : SendAccepted level earlier send) (line : List ℕ)
     (wear : Wear row earlier national send.notes (length send.notes) (digits_of (sent_line level earlier send)) (digits_of line)) where
   long : length line ≡ length send.line
   long = omega (arith, digits-length line, wear.damage.size, send-places level earlier row e send ok)
@@ -146,7 +145,7 @@ module _ (level earlier : ℕ) (national : Bool) (row : Row) (e : level_of level
       )
 
 -- what is said of a level is said of its row
-wear-on : (level earlier : ℕ) (national : Bool) (row : Row) → level_of level ≡ Of row → (notes sent received : List ℕ) → WearAt level earlier national notes sent received
+wear-on : (level earlier : ℕ) (national : Bool) (row : Row) → level_of level ≡ Some row → (notes sent received : List ℕ) → WearAt level earlier national notes sent received
     → Wear row earlier national notes (length notes) (digits_of sent) (digits_of received)
 wear-on level earlier national row e notes sent received w = rw e at w
 
@@ -173,7 +172,7 @@ comes-back-with-switch level earlier send line answer left ok wear = comes_back 
     no-national ThirdNational u = absurd (true≢false (sym u))
     no-national Fixed u = refl
 
-    go : (l : Level) → on_level l (λ (row : Row). WearWithSwitch row earlier send.notes (length send.notes) (digits_of (sent_line level earlier send)) (digits_of line)) ⊥
+    go : (l : Option Row) → on_level l (λ (row : Row). WearWithSwitch row earlier send.notes (length send.notes) (digits_of (sent_line level earlier send)) (digits_of line)) ⊥
         → on_level l (λ (row : Row). Wear row earlier true send.notes (length send.notes) (digits_of (sent_line level earlier send)) (digits_of line)) ⊥
-    go (Of row) w = record { damage = w.worn; service_kept = λ p s h k u. sym (w.others_kept p s h k (no-national s u)) }
-    go NoSuchLevel w = w
+    go (Some row) w = record { damage = w.worn; service_kept = λ p s h k u. sym (w.others_kept p s h k (no-national s u)) }
+    go None w = w

@@ -1,4 +1,5 @@
 -- The switch off sets no national digit; and on a level without national digits, 12 and 14, the switch does nothing.
+use Rattle.std.specs.Prelude.{Some}
 use mathlib.Core.Path.{◌≡◌, refl, sym, ◌∙◌, ap}
 use mathlib.Core.Bool.{Bool, cond, true, false, false≢true, not, ◌&&◌}
 use mathlib.Core.List.{List}
@@ -12,7 +13,6 @@ use Rattle.digits.specs.Digits.{digits_of, bytes_of, tab}
 use Rattle.digits.proofs.Laws.{tab-length, tab-at, tab-of}
 use Rattle.digits.proofs.Sums.{sum-all, sum_same}
 use Rattle.table.specs.declared.Row.{Row}
-use Rattle.table.specs.declared.Level.TheVariants.{Of}
 use Rattle.table.specs.Table.{row12, row14, level_of}
 use Rattle.levels.specs.declared.order.Action.{Action}
 use Rattle.levels.specs.declared.places.ServiceDigit.{ServiceDigit}
@@ -26,7 +26,7 @@ use Rattle.levels.specs.Order.{actions}
 use Rattle.levels.proofs.Rows.{shared12, shared14}
 use Rattle.reading.specs.Notes.{vote_at, notes_of}
 use Rattle.tally.specs.Tally.{sum_number, number_at, sum_of}
-use Rattle.repair.specs.declared.Repaired.{Repaired}
+use Rattle.repair.specs.Repair.{Repaired}
 use Rattle.repair.specs.Repair.{repaired_service, repaired_by, repaired_digit, becomes, repaired_line, changes, changed}
 use Rattle.repair_promises.specs.Repairing.{Repairs, is_national, SwitchIdle}
 use Rattle.repair_promises.proofs.National.{national_kind, national-from}
@@ -119,7 +119,7 @@ module _ (row : Row) (sh : Shared row) (without : row.nationals ≡ 0) (earlier 
       (tab-of (tab n 0 (becomes row earlier true line)) n (becomes row earlier false line) (tab-length n 0 (becomes row earlier true line))
       (λ p h. tab-at n 0 (becomes row earlier true line) p h ∙ ap (becomes row earlier true line) (zero-add p) ∙ becomes-idle p))
 
-switch-idle : (level : ℕ) (row : Row) → level_of level ≡ Of row → Shared row → row.nationals ≡ 0 → (earlier : ℕ) (line : List ℕ) → SwitchIdle level earlier line
+switch-idle : (level : ℕ) (row : Row) → level_of level ≡ Some row → Shared row → row.nationals ≡ 0 → (earlier : ℕ) (line : List ℕ) → SwitchIdle level earlier line
 switch-idle level row e sh without earlier line =
     record { answer = rw (e, changed-idle row sh without earlier line); line_left = rw (e, line-idle row sh without earlier line) }
 

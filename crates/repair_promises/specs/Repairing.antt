@@ -15,7 +15,7 @@ use Rattle.reading.specs.Reading.{noted}
 use Rattle.tally.specs.Tally.{all_of, sums_of, differ_at}
 use Rattle.promises.specs.Damage.{Damage}
 use Rattle.promises.specs.Together.{Outcome, zeros, in_turn}
-use Rattle.repair.specs.declared.Repaired.{Repaired}
+use Rattle.repair.specs.Repair.{Repaired}
 use Rattle.repair.specs.Repair.{repaired, line_after, RepairMet}
 
 -- an accepted repair, by the call's own statement: of this line it answered so, left that one, and refused nothing

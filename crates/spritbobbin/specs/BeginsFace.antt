@@ -1,9 +1,7 @@
 -- The C face of where a recording begins in what was sent, and of where a multiframe begins: the whole statements of the two calls.
 use Rattle.std.specs.Prelude.{◌≡◌, List, [], ◌∷◌, ℕ}
-use Rattle.begins.specs.declared.Begun.{Begun}
-use Rattle.begins.specs.Begins.{begun_in}
-use Rattle.multiframe_start.specs.declared.Started.{Started}
-use Rattle.multiframe_start.specs.Start.{started}
+use Rattle.begins.specs.Begins.{Begun, begun_in}
+use Rattle.multiframe_start.specs.Start.{Started, started}
 
 -- answer: the number, and how many digits differ there
 abbrev pub begun_answer : Begun → List ℕ

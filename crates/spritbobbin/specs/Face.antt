@@ -2,12 +2,12 @@
 -- behind the face say what the numbers are.
 use Rattle.std.specs.Prelude.{◌≡◌, cond, List, [], ◌∷◌, ℕ, eqb, length, get_or}
 use Rattle.digits.specs.Digits.{is_yes}
-use Rattle.levels.specs.declared.faults.Counted.{Counted}
-use Rattle.reading.specs.declared.Noted.{Noted}
+use Rattle.levels.specs.Faults.{Counted}
+use Rattle.reading.specs.Reading.{Noted}
 use Rattle.receiver.specs.declared.Fed.{Fed}
-use Rattle.captures.specs.declared.Written.{Written}
+use Rattle.captures.specs.Captures.{Written}
 use Rattle.captures.specs.declared.Reading.{Reading}
-use Rattle.multiframe.specs.declared.Built.{Built}
+use Rattle.multiframe.specs.Calls.{Built}
 use Rattle.levels.specs.Faults.{answered, send_answered}
 use Rattle.multiplex.specs.Multiplex.{line_after}
 use Rattle.reading.specs.Reading.{noted, notes_after}

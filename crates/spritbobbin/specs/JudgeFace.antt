@@ -1,7 +1,6 @@
 -- The C face of the verdict on a line: how its answer passes as numbers in a fixed array, and the whole statement of the call.
 use Rattle.std.specs.Prelude.{◌≡◌, List, [], ◌∷◌, ℕ, get_or}
-use Rattle.judge.specs.declared.Judged.{Judged}
-use Rattle.judge.specs.Verdict.{judged}
+use Rattle.judge.specs.Verdict.{Judged, judged}
 
 -- answer, for each tributary: readings that fit, wrong digits by its own frame, by the frame before, by the frame after, frames whose decision differs from the
 -- frame before

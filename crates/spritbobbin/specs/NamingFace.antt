@@ -1,9 +1,7 @@
 -- The C face of what a place is, of a frame and of a multiframe: the whole statements of the two calls.
 use Rattle.std.specs.Prelude.{◌≡◌, List, [], ◌∷◌, ℕ}
-use Rattle.naming.specs.declared.Placed.{Placed}
-use Rattle.naming.specs.declared.multiframes.MultiframePlaced.{MultiframePlaced}
-use Rattle.naming.specs.Frames.{placed}
-use Rattle.naming.specs.Multiframes.{multiframe_placed}
+use Rattle.naming.specs.Frames.{Placed, placed}
+use Rattle.naming.specs.Multiframes.{MultiframePlaced, multiframe_placed}
 
 -- answer: kind, tributary
 abbrev pub place_answer : Placed → List ℕ

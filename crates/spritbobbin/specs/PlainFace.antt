@@ -1,8 +1,6 @@
 -- The C face of the plain engine: how its answers pass as numbers in fixed arrays, and the whole statement of each call.
 use Rattle.std.specs.Prelude.{◌≡◌, List, [], ◌∷◌, ℕ, get_or}
-use Rattle.engine.specs.declared.Answered.{Answered}
-use Rattle.engine.specs.declared.NotesRead.{NotesRead}
-use Rattle.engine.specs.Engine.{multiplexed, line_after, notes_read, notes_after, extracted, buffer_after}
+use Rattle.engine.specs.Engine.{Answered, NotesRead, multiplexed, line_after, notes_read, notes_after, extracted, buffer_after}
 
 -- answer: four digit counts, named frame
 abbrev pub answered_answer : Answered → List ℕ

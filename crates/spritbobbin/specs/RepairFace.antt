@@ -1,7 +1,7 @@
 -- The C face of repairing a worn line in place: how its answer passes as numbers in a fixed array, and the whole statement of the call.
 use Rattle.std.specs.Prelude.{◌≡◌, List, [], ◌∷◌, ℕ, get_or}
 use Rattle.digits.specs.Digits.{is_yes}
-use Rattle.repair.specs.declared.Repaired.{Repaired}
+use Rattle.repair.specs.Repair.{Repaired}
 use Rattle.repair.specs.Repair.{repaired, line_after}
 
 -- answer: changed digits of the word, of the control groups of tributaries 1 to 4, stuffing digits of tributaries 1 to 4, national digits

@@ -1,6 +1,6 @@
 -- The C face of swapping one tributary in place: the whole statement of the call.
 use Rattle.std.specs.Prelude.{◌≡◌, List, [], ◌∷◌, ℕ, length}
-use Rattle.swap.specs.declared.Swapped.{Swapped}
+use Rattle.swap.specs.Swap.{Swapped}
 use Rattle.swap.specs.Swap.{swapped, line_after}
 
 -- answer: digits taken

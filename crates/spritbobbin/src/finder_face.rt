@@ -15,22 +15,17 @@ fn phase_number(mode: Mode) -> u64
     }
 }
 
+#[tactic(auto, unfolding(crate::specs::Finding::mode_of))]
 fn phase_of(n: u64) -> Mode
     ensures { result ≡ mode_of n }
 {
-    if n == 0 {
-        return Mode::Hunting;
+    match n {
+        0 => Mode::Hunting,
+        1 => Mode::WordFound,
+        2 => Mode::SecondSeen,
+        3..=5 => Mode::Aligned((n - 3) as u8),
+        _ => Mode::Aligned(3),
     }
-    if n == 1 {
-        return Mode::WordFound;
-    }
-    if n == 2 {
-        return Mode::SecondSeen;
-    }
-    if n <= 5 {
-        return Mode::Aligned((n - 3) as u8);
-    }
-    Mode::Aligned(3)
 }
 
 fn four_numbers(s: State) -> [u64; 4]

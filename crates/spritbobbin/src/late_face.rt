@@ -14,6 +14,7 @@ pub extern "C" fn spritbobbin_late_multiplex(
     ensures { LateFaceMet level earlier line.old notes.now buffer.now result line.new answer.new }
 {
     let sent = late::late_multiplex(level, earlier, line, notes, buffer);
-    *answer = crate::counted_numbers(sent);
-    sent.refusal
+    let (refusal, numbers) = crate::sent_numbers(sent);
+    *answer = numbers;
+    refusal
 }

@@ -11,35 +11,53 @@ pub mod late_face;
 pub mod naming_face;
 pub mod plain_face;
 pub mod rack_face;
+mod refused;
 pub mod repair_face;
 pub mod swap_face;
 pub mod verdict_face;
 pub mod version_face;
 
 ghost use Rattle.std.specs.Prelude.{◌≡◌, cond};
+ghost use Rattle.std.specs.Prelude.{◌∷◌, [], get_or};
+ghost use Rattle.levels.specs.Faults as counting;
+ghost use Rattle.multiframe.specs.Calls as building;
+ghost use Rattle.reading.specs.Reading as noting;
+ghost use Rattle.captures.specs.Captures.{written_in};
 ghost use Rattle.spritbobbin.specs.Face.{counted_answer, noted_answer};
 ghost use Rattle.spritbobbin.specs.Face.{written_answer, read_answer, CaptureWriteMet, CaptureReadMet};
 ghost use Rattle.spritbobbin.specs.Face.{built_answer, MultiframeBuildMet, MultiframeApartMet};
 ghost use Rattle.spritbobbin.specs.Face.{MultiplexMet, ReadNotesMet, ExtractMet, FreshMet, FeedMet, LineDigitMet};
 
-use captures::{Reading, Written};
-use levels::faults::Counted;
-use multiframe::Built;
-use reading::Noted;
+use captures::Reading;
+use levels::faults::Refused;
+use reading::Errors;
 use receiver::numbers;
+use refusal::Refusal;
 
-// An answer as the numbers of the array that C lends for it.
-fn counted_numbers(m: Counted) -> [u64; 5]
-    ensures { result ≡ counted_answer m }
+// Each answer is the numbers of the array that C lends for it: here four digit counts and the named frame, of either engine.
+fn counted_numbers(counts: [usize; 4], frame: usize) -> [u64; 5]
+    ensures { result ≡ get_or counts 0 0 ∷ get_or counts 1 0 ∷ get_or counts 2 0 ∷ get_or counts 3 0 ∷ frame ∷ [] }
 {
-    let c = m.counts;
     [
-        c[0] as u64,
-        c[1] as u64,
-        c[2] as u64,
-        c[3] as u64,
-        m.frame as u64,
+        counts[0] as u64,
+        counts[1] as u64,
+        counts[2] as u64,
+        counts[3] as u64,
+        frame as u64,
     ]
+}
+
+// An answer as C is given it: the refusal's number, and the numbers of the array.
+fn sent_numbers(sent: Result<[usize; 4], Refused>) -> (u64, [u64; 5])
+    ensures { (result.0 ≡ (counting.numbers_of sent).refusal) × (result.1 ≡ counted_answer (counting.numbers_of sent)) }
+{
+    match sent {
+        Ok(counts) => (0, counted_numbers(counts, 0)),
+        Err(refused) => (
+            u64::from(refused.refusal),
+            counted_numbers([0; 4], refused.frame),
+        ),
+    }
 }
 
 // Multiplexes after an earlier vote; answer: four digit counts, named frame. Returns the refusal number.
@@ -55,21 +73,31 @@ pub extern "C" fn spritbobbin_multiplex(
     ensures { MultiplexMet level earlier line.old notes.now buffer.now result line.new answer.new }
 {
     let sent = multiplex::multiplex(level, earlier, line, notes, buffer);
-    *answer = counted_numbers(sent);
-    sent.refusal
+    let (refusal, numbers) = sent_numbers(sent);
+    *answer = numbers;
+    refusal
 }
 
-fn noted_numbers(n: Noted) -> [u64; 5]
-    ensures { result ≡ noted_answer n }
+// Alignment digits that differ and dissenting digits, of either engine.
+fn noted_numbers(alignment: usize, dissent: [usize; 4]) -> [u64; 5]
+    ensures { result ≡ alignment ∷ get_or dissent 0 0 ∷ get_or dissent 1 0 ∷ get_or dissent 2 0 ∷ get_or dissent 3 0 ∷ [] }
 {
-    let e = n.dissent;
     [
-        n.alignment as u64,
-        e[0] as u64,
-        e[1] as u64,
-        e[2] as u64,
-        e[3] as u64,
+        alignment as u64,
+        dissent[0] as u64,
+        dissent[1] as u64,
+        dissent[2] as u64,
+        dissent[3] as u64,
     ]
+}
+
+fn errors_numbers(read: Result<Errors, Refusal>) -> (u64, [u64; 5])
+    ensures { (result.0 ≡ (noting.numbers_of read).refusal) × (result.1 ≡ noted_answer (noting.numbers_of read)) }
+{
+    match read {
+        Ok(errors) => (0, noted_numbers(errors.alignment, errors.dissent)),
+        Err(refusal) => (u64::from(refusal), noted_numbers(0, [0; 4])),
+    }
 }
 
 // Reads notes; answer: alignment digits that differ, dissenting digits of tributaries 1 to 4.
@@ -83,8 +111,9 @@ pub extern "C" fn spritbobbin_read_notes(
     ensures { ReadNotesMet level line.now notes.old result notes.new answer.new }
 {
     let read = reading::read_notes(level, line, notes);
-    *answer = noted_numbers(read);
-    read.refusal
+    let (refusal, numbers) = errors_numbers(read);
+    *answer = numbers;
+    refusal
 }
 
 // Extracts by notes and the vote before them; answer: four digit counts, named frame.
@@ -100,8 +129,9 @@ pub extern "C" fn spritbobbin_extract(
     ensures { ExtractMet level earlier line.now notes.now buffer.old result buffer.new answer.new }
 {
     let taken = extraction::extract(level, earlier, line, notes, buffer);
-    *answer = counted_numbers(taken);
-    taken.refusal
+    let (refusal, numbers) = sent_numbers(taken);
+    *answer = numbers;
+    refusal
 }
 
 // Makes a fresh state; one that is refused with 1 is all zero, and is written.
@@ -156,10 +186,13 @@ pub extern "C" fn spritbobbin_line_digit(line: &[u8], place: u64) -> u64
     line_reader::line_digit(line, place as usize)
 }
 
-fn written_numbers(w: Written) -> [u64; 2]
-    ensures { result ≡ written_answer w }
+fn written_numbers(written: Result<usize, Refusal>) -> (u64, [u64; 2])
+    ensures { (result.0 ≡ (written_in written).refusal) × (result.1 ≡ written_answer (written_in written)) }
 {
-    [w.bytes as u64, w.byte as u64]
+    match written {
+        Ok(bytes) => (0, [bytes as u64, 0]),
+        Err(refusal) => (u64::from(refusal), [0; 2]),
+    }
 }
 
 // Writes a capture into a file; answer: bytes of the file, named byte (0). Where labelled is 0 there is no label.
@@ -175,8 +208,9 @@ pub extern "C" fn spritbobbin_capture_write(
     ensures { CaptureWriteMet level line.now label.now labelled file.old result file.new answer.new }
 {
     let written = captures::write(level, line, label, labelled != 0, file);
-    *answer = written_numbers(written);
-    written.refusal
+    let (refusal, numbers) = written_numbers(written);
+    *answer = numbers;
+    refusal
 }
 
 fn read_numbers(r: Reading) -> [u64; 7]
@@ -205,10 +239,13 @@ pub extern "C" fn spritbobbin_capture_read(file: &[u8], answer: &mut [u64; 7]) -
     reading.refusal
 }
 
-fn built_numbers(b: Built) -> [u64; 1]
-    ensures { result ≡ built_answer b }
+fn built_numbers(built: Result<(), multiframe::Refused>) -> (u64, [u64; 1])
+    ensures { (result.0 ≡ (building.numbers_of built).refusal) × (result.1 ≡ built_answer (building.numbers_of built)) }
 {
-    [b.channel as u64]
+    match built {
+        Ok(()) => (0, [0]),
+        Err(refused) => (u64::from(refused.refusal), [refused.channel as u64]),
+    }
 }
 
 // Builds a multiframe of 2048 kbit/s from channels, signalling and spare digits; answer: named channel.
@@ -224,8 +261,9 @@ pub extern "C" fn spritbobbin_multiframe_build(
         multiframe.new answer.new }
 {
     let built = multiframe::build(multiframe, channels, signalling, spare);
-    *answer = built_numbers(built);
-    built.refusal
+    let (refusal, numbers) = built_numbers(built);
+    *answer = numbers;
+    refusal
 }
 
 // Takes a multiframe apart into channels, signalling and spare digits.
@@ -239,5 +277,5 @@ pub extern "C" fn spritbobbin_multiframe_apart(
     ensures { MultiframeApartMet multiframe.now channels.old signalling.old spare.old result
         channels.new signalling.new spare.new }
 {
-    multiframe::apart(multiframe, channels, signalling, spare)
+    refused::number_in(multiframe::apart(multiframe, channels, signalling, spare))
 }

@@ -1,33 +1,33 @@
 // The C face of the plain engine: the arguments and the answers of the quick one's calls.
+ghost use Rattle.spritbobbin.specs.PlainFace.{PlainMultiplexMet, PlainReadNotesMet, PlainExtractMet};
+ghost use Rattle.spritbobbin.specs.PlainFace.{answered_answer, notes_read_answer};
 ghost use Rattle.std.specs.Prelude.{◌≡◌};
-ghost use Rattle.spritbobbin.specs.PlainFace.{answered_answer, notes_read_answer, PlainMultiplexMet, PlainReadNotesMet, PlainExtractMet};
+ghost use Rattle.engine.specs.Engine.{answered_in, notes_read_in};
 
-use engine::{Answered, NotesRead};
+use engine::Errors;
+use engine::refusals::Refused;
+use refusal::Refusal;
 
-fn answered_numbers(a: Answered) -> [u64; 5]
-    ensures { result ≡ answered_answer a }
+// An answer as C is given it: the refusal's number, and the numbers of the array.
+fn answered_numbers(answered: Result<[usize; 4], Refused>) -> (u64, [u64; 5])
+    ensures { (result.0 ≡ (answered_in answered).refusal) × (result.1 ≡ answered_answer (answered_in answered)) }
 {
-    let c = a.counts;
-    [
-        c[0] as u64,
-        c[1] as u64,
-        c[2] as u64,
-        c[3] as u64,
-        a.frame as u64,
-    ]
+    match answered {
+        Ok(counts) => (0, crate::counted_numbers(counts, 0)),
+        Err(refused) => (
+            u64::from(refused.refusal),
+            crate::counted_numbers([0; 4], refused.frame),
+        ),
+    }
 }
 
-fn notes_read_numbers(n: NotesRead) -> [u64; 5]
-    ensures { result ≡ notes_read_answer n }
+fn errors_numbers(read: Result<Errors, Refusal>) -> (u64, [u64; 5])
+    ensures { (result.0 ≡ (notes_read_in read).refusal) × (result.1 ≡ notes_read_answer (notes_read_in read)) }
 {
-    let e = n.dissent;
-    [
-        n.alignment as u64,
-        e[0] as u64,
-        e[1] as u64,
-        e[2] as u64,
-        e[3] as u64,
-    ]
+    match read {
+        Ok(errors) => (0, crate::noted_numbers(errors.alignment, errors.dissent)),
+        Err(refusal) => (u64::from(refusal), crate::noted_numbers(0, [0; 4])),
+    }
 }
 
 // Multiplexes by the plain engine; answer: four digit counts, named frame. Returns the refusal number.
@@ -43,8 +43,9 @@ pub extern "C" fn spritbobbin_plain_multiplex(
     ensures { PlainMultiplexMet level earlier line.old notes.now buffer.now result line.new answer.new }
 {
     let sent = plain::multiplex(level, earlier, line, notes, buffer);
-    *answer = answered_numbers(sent);
-    sent.refusal
+    let (refusal, numbers) = answered_numbers(sent);
+    *answer = numbers;
+    refusal
 }
 
 // Reads the notes by the plain engine; answer: alignment digits that differ, dissenting digits of tributaries 1 to 4.
@@ -58,8 +59,9 @@ pub extern "C" fn spritbobbin_plain_read_notes(
     ensures { PlainReadNotesMet level line.now notes.old result notes.new answer.new }
 {
     let read = plain::read_notes(level, line, notes);
-    *answer = notes_read_numbers(read);
-    read.refusal
+    let (refusal, numbers) = errors_numbers(read);
+    *answer = numbers;
+    refusal
 }
 
 // Extracts by the plain engine; answer: four digit counts, named frame.
@@ -75,6 +77,7 @@ pub extern "C" fn spritbobbin_plain_extract(
     ensures { PlainExtractMet level earlier line.now notes.now buffer.old result buffer.new answer.new }
 {
     let taken = plain::extract(level, earlier, line, notes, buffer);
-    *answer = answered_numbers(taken);
-    taken.refusal
+    let (refusal, numbers) = answered_numbers(taken);
+    *answer = numbers;
+    refusal
 }

@@ -1,7 +1,10 @@
-// The C face of the verdict on a worn line: a fresh state, and the next frames of a recording fed to a state. The contracts are those of the two calls
-// themselves (crates/verdict/specs/Feed.antt): they pass numbers and arrays already.
+// The C face of the verdict on a worn line: a fresh state, and the next frames of a recording fed to a state. The statements are those of the two calls
+// themselves (crates/verdict_states/specs/States.antt, crates/verdict/specs/Feed.antt): states and answers are arrays of numbers already, and of the
+// Result C is given the number.
 ghost use Rattle.verdict.specs.Feed.{FeedMet};
 ghost use Rattle.verdict_states.specs.States.{FreshMet};
+
+use crate::refused;
 
 // Makes a fresh state for a level, with the vote before the first frame and the pattern sent, or 0. Returns the refusal number.
 #[unsafe(no_mangle)]
@@ -13,7 +16,8 @@ pub extern "C" fn spritbobbin_verdict_fresh(
 ) -> u64
     ensures { FreshMet level earlier pattern result state.new }
 {
-    verdict_states::fresh::fresh(level, earlier, pattern, state)
+    let made = verdict_states::fresh::fresh(level, earlier, pattern, state);
+    refused::number_in(made)
 }
 
 // Feeds the next frames, with the vote of the frame after them or 16 and the digits sent from number `first` on; answer: 22 numbers for each tributary. Returns the
@@ -29,5 +33,6 @@ pub extern "C" fn spritbobbin_verdict_feed(
 ) -> u64
     ensures { FeedMet state.old line.now next sent.now first result state.new answer.new }
 {
-    verdict::feeding::feed(state, line, next, sent, first, answer)
+    let done = verdict::feeding::feed(state, line, next, sent, first, answer);
+    refused::number_in(done)
 }

@@ -1,5 +1,6 @@
-// The C face of the verdict on a worn line: a fresh state, and the next frames of a recording fed to a state. The contracts are those of the two calls
-// themselves (crates/verdict/specs/Feed.antt): they pass numbers and arrays already.
+// The C face of the verdict on a worn line: a fresh state, and the next frames of a recording fed to a state. The statements are those of the two calls
+// themselves (crates/verdict_states/specs/States.antt, crates/verdict/specs/Feed.antt): states and answers are arrays of numbers already, and of the
+// Result C is given the number.
 ghost use Rattle.verdict.specs.Feed.{FeedMet};
 ghost use Rattle.verdict_states.specs.States.{FreshMet};
 

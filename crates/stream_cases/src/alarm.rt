@@ -1,7 +1,6 @@
 // Stretches at their borders: the limit of each level, the begin and the end of the alarm, what is reported, and each refusal.
 use crate::stream;
-use std::io;
-use telling::say;
+use std::{fmt, io};
 
 // A state that hunts, all zero but for its stretch, and a piece of a slice of one byte.
 #[derive(Clone, Copy)]
@@ -254,40 +253,44 @@ const STRETCHES: [Stretched; 23] = [
     },
 ];
 
+impl fmt::Display for Stretched {
+    fn fmt<W: fmt::Write>(&self, f: &mut fmt::Formatter<W>) -> fmt::Result {
+        write!(
+            f,
+            "level {} digits {} zeros {} few {} alarm {} fill {} first {} count {}",
+            self.level,
+            self.digits,
+            self.zeros,
+            self.few,
+            self.alarm,
+            self.fill,
+            self.first,
+            self.count
+        )
+    }
+}
+
 pub fn stretch_all(rt: &impl Print) -> io::Result<()> {
-    let mut k: usize = 0;
-    while k < 23 {
-        stretch_one(rt, STRETCHES[k])?;
-        k += 1;
+    for case in &STRETCHES {
+        stretch(rt, case)?;
     }
     Ok(())
 }
 
-fn stretch_one(rt: &impl Print, c: Stretched) -> io::Result<()> {
-    let mut state = [c.level, 0, 0, 0, 0, c.digits, c.zeros, c.few, c.alarm];
+fn stretch(rt: &impl Print, case: &Stretched) -> io::Result<()> {
+    let mut state = [
+        case.level,
+        0,
+        0,
+        0,
+        0,
+        case.digits,
+        case.zeros,
+        case.few,
+        case.alarm,
+    ];
     let mut frame = [0u8; 366];
-    let mut answer = [0u64; 4];
-    let slice = [c.fill; 1];
-    let no = spritbobbin::spritbobbin_receiver_feed(
-        &mut state,
-        &mut frame,
-        &slice,
-        c.first,
-        c.count,
-        &mut answer,
-    );
-    given(rt, c)?;
-    stream::fed(rt, no, state, answer)?;
-    say::text(rt, b"\n")
-}
-
-fn given(rt: &impl Print, c: Stretched) -> io::Result<()> {
-    say::counted(rt, b"stretch level ", c.level)?;
-    say::counted(rt, b" digits ", c.digits)?;
-    say::counted(rt, b" zeros ", c.zeros)?;
-    say::counted(rt, b" few ", c.few)?;
-    say::counted(rt, b" alarm ", c.alarm)?;
-    say::byte(rt, b" fill ", c.fill)?;
-    say::counted(rt, b" first ", c.first)?;
-    say::counted(rt, b" count ", c.count)
+    let piece = [case.fill];
+    let fed = stream::feed(&mut state, &mut frame, &piece, case.first, case.count);
+    println!(rt; "stretch {case}{fed}")
 }

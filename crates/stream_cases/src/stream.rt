@@ -1,8 +1,8 @@
 // Pieces fed to receivers: each refusal of a piece at its border, and worked case 11 whole and in pieces of 1, 7 and 1,000 digits.
-ghost use Rattle.std.specs.Prelude.{◌≡◌, length};
+ghost use Rattle.std.specs.Prelude.{◌≤◌};
 
-use std::io;
-use telling::{inputs, say};
+use std::{fmt, io};
+use telling::say::Spaced;
 
 // A state whose frame store is zero, and a piece of a slice of zeros.
 #[derive(Clone, Copy)]
@@ -15,6 +15,19 @@ struct Feeding {
     slice: usize,
     first: u64,
     count: u64,
+    // a byte more than a piece may have
+    ghost lent: { slice ≤ 65537 },
+}
+
+// What a feed answered, and the state's numbers after it.
+#[derive(Clone, Copy)]
+pub struct Fed {
+    refusal: u64,
+    taken: u64,
+    ready: u64,
+    alarm: u64,
+    words: u64,
+    state: [u64; 9],
 }
 
 const FEEDINGS: [Feeding; 18] = [
@@ -202,153 +215,133 @@ const FEEDINGS: [Feeding; 18] = [
     },
 ];
 
+impl fmt::Display for Feeding {
+    fn fmt<W: fmt::Write>(&self, f: &mut fmt::Formatter<W>) -> fmt::Result {
+        write!(
+            f,
+            "level {} window {} seen {} mode {} place {} slice {} first {} count {}",
+            self.level,
+            self.window,
+            self.seen,
+            self.mode,
+            self.place,
+            self.slice,
+            self.first,
+            self.count
+        )
+    }
+}
+
+impl fmt::Display for Fed {
+    fn fmt<W: fmt::Write>(&self, f: &mut fmt::Formatter<W>) -> fmt::Result {
+        write!(
+            f,
+            ": refusal {} taken {} ready {} alarm {} words {} state{}",
+            self.refusal,
+            self.taken,
+            self.ready,
+            self.alarm,
+            self.words,
+            Spaced(&self.state)
+        )
+    }
+}
+
 pub fn feed_all(rt: &impl Print) -> io::Result<()> {
-    let mut k: usize = 0;
-    while k < 18 {
-        feed_one(rt, FEEDINGS[k])?;
-        k += 1;
+    for case in &FEEDINGS {
+        feed_one(rt, case)?;
     }
     Ok(())
 }
 
-// A byte more than a piece may have.
-pub fn zeros() -> [u8; 65537]
-    ensures { 65537 ≡ length result }
-{
-    [0; 65537]
-}
-
-fn feed_one(rt: &impl Print, c: Feeding) -> io::Result<()> {
-    let n = c.slice;
-    if 65537 < n {
-        return Ok(());
-    }
-    let slice = zeros();
-    feed_on(rt, c, &slice[..n])
-}
-
-fn feed_on(rt: &impl Print, c: Feeding, slice: &[u8]) -> io::Result<()> {
-    let mut state = [c.level, c.window, c.seen, c.mode, c.place, 0, 0, 0, 0];
+fn feed_one(rt: &impl Print, case: &Feeding) -> io::Result<()> {
+    let zeros = [0u8; 65537];
+    let mut state = [
+        case.level,
+        case.window,
+        case.seen,
+        case.mode,
+        case.place,
+        0,
+        0,
+        0,
+        0,
+    ];
     let mut frame = [0u8; 366];
+    let piece = &zeros[..case.slice];
+    let fed = feed(&mut state, &mut frame, piece, case.first, case.count);
+    println!(rt; "feed {case}{fed}")
+}
+
+// The C call, on a slice lent for the piece.
+pub fn feed(
+    state: &mut [u64; 9],
+    frame: &mut [u8; 366],
+    piece: &[u8],
+    first: u64,
+    count: u64,
+) -> Fed {
     let mut answer = [0u64; 4];
-    let no = spritbobbin::spritbobbin_receiver_feed(
-        &mut state,
-        &mut frame,
-        slice,
-        c.first,
-        c.count,
+    let refusal = spritbobbin::spritbobbin_receiver_feed(
+        state,
+        frame,
+        piece,
+        first,
+        count,
         &mut answer,
     );
-    given(rt, c)?;
-    fed(rt, no, state, answer)?;
-    say::text(rt, b"\n")
+    let [taken, ready, alarm, words] = answer;
+    Fed {
+        refusal,
+        taken,
+        ready,
+        alarm,
+        words,
+        state: *state,
+    }
 }
 
-fn given(rt: &impl Print, c: Feeding) -> io::Result<()> {
-    say::counted(rt, b"feed level ", c.level)?;
-    say::counted(rt, b" window ", c.window)?;
-    say::counted(rt, b" seen ", c.seen)?;
-    say::counted(rt, b" mode ", c.mode)?;
-    say::counted(rt, b" place ", c.place)?;
-    say::labelled(rt, b" slice ", c.slice)?;
-    say::counted(rt, b" first ", c.first)?;
-    say::counted(rt, b" count ", c.count)
-}
-
-// What every feed answers, and the state's numbers.
-pub fn fed(rt: &impl Print, no: u64, state: [u64; 9], answer: [u64; 4]) -> io::Result<()> {
-    say::counted(rt, b": refusal ", no)?;
-    answered(rt, answer)?;
-    numbered(rt, state)
-}
-
-fn answered(rt: &impl Print, answer: [u64; 4]) -> io::Result<()> {
-    say::counted(rt, b" taken ", answer[0])?;
-    say::counted(rt, b" ready ", answer[1])?;
-    say::counted(rt, b" alarm ", answer[2])?;
-    say::counted(rt, b" words ", answer[3])
-}
-
-fn numbered(rt: &impl Print, state: [u64; 9]) -> io::Result<()> {
-    say::counted(rt, b" state ", state[0])?;
-    let mut i: usize = 1;
-    while i < 9 {
-        say::counted(rt, b" ", state[i])?;
-        i += 1;
+// Case 1's line four times over, whole and in pieces of 1, 7 and 1,000 digits: a line to each frame that is ready.
+pub fn case_11(rt: &impl Print) -> io::Result<()> {
+    let line = four_frames();
+    for size in [3392, 1, 7, 1000] {
+        walk(rt, &line, size)?;
     }
     Ok(())
 }
 
-// Case 1's line four times over, in pieces of at most so many digits: a line to each frame that is ready.
-pub fn case_11(rt: &impl Print, size: u64) -> io::Result<()> {
+fn four_frames() -> [u8; 424] {
     let mut one = [0u8; 106];
-    send_zeros(&mut one);
+    let _ = multiplex::multiplex(2, 0, &mut one, &[0x20], &[0; 104]);
     let mut line = [0u8; 424];
-    repeat(&mut line, &one);
-    walk(rt, &line, size)
-}
-
-fn send_zeros(line: &mut [u8; 106]) {
-    let notes = [0x20u8];
-    let buffer = [0u8; 104];
-    multiplex::multiplex(2, 0, line, &notes, &buffer);
-}
-
-fn repeat(line: &mut [u8; 424], one: &[u8; 106]) {
-    let mut i: usize = 0;
-    while i < 424 {
-        line[i] = one[i % 106];
-        i += 1;
+    for frame in line.chunks_exact_mut(106) {
+        frame.copy_from_slice(&one);
     }
+    line
 }
 
-// At most a call for each digit of the line.
+// In pieces of at most so many digits: at most a call for each digit of the line.
 fn walk(rt: &impl Print, line: &[u8; 424], size: u64) -> io::Result<()> {
     let mut state = [0u64; 9];
     let mut frame = [0u8; 366];
-    let mut answer = [0u64; 4];
     spritbobbin::spritbobbin_receiver_fresh(2, &mut state, &mut frame);
     let mut first: u64 = 0;
-    let mut turns: u64 = 0;
-    while turns < 3392 {
+    for _turn in 0..3392 {
         if 3392 <= first {
             return Ok(());
         }
-        let count = inputs::least(size, 3392 - first);
-        let no = spritbobbin::spritbobbin_receiver_feed(
-            &mut state,
-            &mut frame,
-            line,
-            first,
-            count,
-            &mut answer,
-        );
-        first = first.wrapping_add(answer[0]);
-        if answer[1] == 1 {
-            ready(rt, size, first, no, state, answer, &frame)?;
+        let fed = feed(&mut state, &mut frame, line, first, size.min(3392 - first));
+        first = first.wrapping_add(fed.taken);
+        if fed.ready == 1 {
+            ready(rt, size, first, fed, &frame)?;
         }
-        turns += 1;
     }
     Ok(())
 }
 
-fn ready(
-    rt: &impl Print,
-    size: u64,
-    digits: u64,
-    no: u64,
-    state: [u64; 9],
-    answer: [u64; 4],
-    frame: &[u8; 366],
-) -> io::Result<()> {
-    say::counted(rt, b"case 11 pieces ", size)?;
-    say::counted(rt, b" digits ", digits)?;
-    fed(rt, no, state, answer)?;
-    say::text(rt, b" frame")?;
-    let mut i: usize = 0;
-    while i < 106 {
-        say::byte(rt, b" ", frame[i])?;
-        i += 1;
-    }
-    say::text(rt, b"\n")
+fn ready(rt: &impl Print, size: u64, digits: u64, fed: Fed, frame: &[u8; 366]) -> io::Result<()> {
+    println!(rt;
+        "case 11 pieces {size} digits {digits}{fed} frame{}",
+        Spaced(&frame[..106])
+    )
 }

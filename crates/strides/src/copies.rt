@@ -8,10 +8,8 @@ fn copy_digits(f: &mut [u8], to: usize, piece: &[u8], first: usize, end: usize)
     requires { (first ≤ end) × (end ≤ 8 * length piece.now) × (length piece.now ≤ 65536) × (to + (end - first) ≤ 8 * length f.old) × (length f.old ≤ 65536) }
     ensures { f.new ≡ puts f.old to (between piece.now first end) }
 {
-    let mut p = first;
-    while p < end {
+    for p in first..end {
         digits::put_digit(f, to + (p - first), digits::digit_at(piece, p));
-        p += 1;
     }
 }
 
@@ -20,10 +18,8 @@ fn copy_bytes(f: &mut [u8], at: usize, piece: &[u8], first: usize, n: usize)
     requires { (first + 8 * n ≤ 8 * length piece.now) × (length piece.now ≤ 65536) × (at + n ≤ length f.old) × (length f.old ≤ 65536) }
     ensures { f.new ≡ puts f.old (8 * at) (between piece.now first (first + 8 * n)) }
 {
-    let mut k: usize = 0;
-    while k < n {
+    for k in 0..n {
         f[at + k] = words::read_digits(piece, first + 8 * k, 8) as u8;
-        k += 1;
     }
 }
 
@@ -32,10 +28,8 @@ fn copy_words(f: &mut [u8], at: usize, piece: &[u8], first: usize, n: usize)
     requires { (first + 32 * n ≤ 8 * length piece.now) × (length piece.now ≤ 65536) × (at + 4 * n ≤ length f.old) × (length f.old ≤ 65536) }
     ensures { f.new ≡ puts f.old (8 * at) (between piece.now first (first + 32 * n)) }
 {
-    let mut k: usize = 0;
-    while k < n {
+    for k in 0..n {
         words::store4(f, at + 4 * k, words::read_digits(piece, first + 32 * k, 32));
-        k += 1;
     }
 }
 
@@ -58,7 +52,7 @@ pub fn copy(f: &mut [u8], to: usize, piece: &[u8], first: usize, end: usize)
     requires { (first ≤ end) × (end ≤ 8 * length piece.now) × (length piece.now ≤ 65536) × (to + (end - first) ≤ 8 * length f.old) × (length f.old ≤ 65536) }
     ensures { f.new ≡ puts f.old to (between piece.now first end) }
 {
-    let from = first + crate::lesser((8 - to % 8) % 8, end - first);
+    let from = first + ((8 - to % 8) % 8).min(end - first);
     copy_digits(f, to, piece, first, from);
     if from < end {
         copy_aligned(f, (to + 7) / 8, piece, from, end);

@@ -11,10 +11,7 @@ ghost use Rattle.strides.specs.Strides.{window_on, window_from, Word, Misses, Cl
 pub fn lesser(a: usize, b: usize) -> usize
     ensures { result ≡ min a b }
 {
-    if a <= b {
-        return a;
-    }
-    b
+    a.min(b)
 }
 
 // The window with one digit more.
@@ -40,7 +37,7 @@ pub fn window_over(
     if first == at {
         return window;
     }
-    let n = lesser(at - first, 32);
+    let n = (at - first).min(32);
     let v = ((window as u64) << n) | words::read_digits(piece, at - n, n);
     (v as usize) & mask
 }
@@ -111,6 +108,7 @@ fn seek_by(
     ensures { (from ≤ result) × (result < end) × Unmet len word (digits_of piece.now) from result }
 {
     let mut at = from;
+    // No `for`: the place at which it stops is the answer, and a range would not hand it out.
     while at + places < end {
         if !is_clear(
             len,
@@ -132,12 +130,11 @@ fn seek_far(len: usize, word: usize, piece: &[u8], from: usize, end: usize) -> u
     requires { (7 ≤ len) × (len ≤ 12) × (word < 2 ^ len) × (length piece.now ≤ 65536) × (16 ≤ from) × (from % 8 ≡ 0) × (from < end) × (end ≤ 8 * length piece.now) }
     ensures { (from ≤ result) × (result < end) × Unmet len word (digits_of piece.now) from result }
 {
-    if len == 7 {
-        if word == 27 {
-            return seek_by(7, 27, 56, 72057594037927935, piece, from, end);
-        }
+    if len == 7 && word == 27 {
+        seek_by(7, 27, 56, 72057594037927935, piece, from, end)
+    } else {
+        seek_by(len, word, 48, 281474976710655, piece, from, end)
     }
-    seek_by(len, word, 48, 281474976710655, piece, from, end)
 }
 
 // Where it stands: the place of the next digit, and the window before it.
@@ -161,16 +158,17 @@ fn seek_near(
     ensures { Passed len word (digits_of piece.now) (last + 1) first window result.at result.window }
 {
     let mut w = window;
-    let mut at = first;
-    while at < last {
+    for at in first..last {
         let next = window_on(len, mask, w, digits::digit_at(piece, at));
         if next == word {
             return Sought { window: w, at };
         }
         w = next;
-        at += 1;
     }
-    Sought { window: w, at }
+    Sought {
+        window: w,
+        at: last,
+    }
 }
 
 // Goes on from digit first to the digit at which the word ends, or to the last one before end: by the digit as far as words may end that began
@@ -189,7 +187,7 @@ pub fn seek(
 {
     let last = end - 1;
     let start = (first + 23) / 8 * 8;
-    let near = seek_near(len, mask, word, window, piece, first, lesser(start, last));
+    let near = seek_near(len, mask, word, window, piece, first, start.min(last));
     if near.at < start {
         return near;
     }

@@ -1,5 +1,5 @@
 -- What swapping one tributary in place answers and what it leaves in the line, refused or not, for any input. Document 02, request 12.
-use Rattle.std.specs.Prelude.{◌≡◌, Bool, cond, ◌&&◌, ◌||◌, List, ℕ, ◌*◌, ◌-◌, ◌%◌, eqb, ltb, length, get_or}
+use Rattle.std.specs.Prelude.{◌≡◌, Bool, cond, ◌&&◌, ◌||◌, List, ℕ, ◌*◌, ◌-◌, ◌%◌, eqb, ltb, length, get_or, Result, Ok, Err}
 use Rattle.digits.specs.Digits.{digits_of, bytes_of, tab}
 use Rattle.table.specs.declared.Row.{Row}
 use Rattle.table.specs.Table.{level_of}
@@ -8,7 +8,8 @@ use Rattle.levels.specs.Places.{kind_at, is_own}
 use Rattle.levels.specs.Order.{actions, count_of}
 use Rattle.levels.specs.Faults.{bad_earlier}
 use Rattle.levels.specs.Line.{line_digit}
-use Rattle.swap.specs.declared.Swapped.{Swapped}
+use Rattle.refusal.specs.declared.Refusal.{Refusal}
+use Rattle.refusal.specs.Refusal.{number_of as refusal_number}
 
 -- 12: "j outside 1 to 4"
 abbrev pub bad_tributary : ℕ → Bool
@@ -34,8 +35,18 @@ abbrev pub swapped_line : Row → ℕ → List ℕ → ℕ → List ℕ → List
 swapped_line row earlier notes j buffer line =
     bytes_of (length line) (tab (8 * length line) 0 (swapped_digit row earlier notes j (digits_of buffer) (digits_of line)))
 
+-- the call's answer as numbers: the refusal, 0 for none, and the digits taken
+pub record Swapped : Type 0 where
+  pub refusal : ℕ
+  pub digits : ℕ
+
 abbrev pub refused_with : ℕ → Swapped
 refused_with refusal = record { refusal = refusal; digits = 0 }
+
+-- the numbers of what the code answers
+abbrev pub numbers_of : Result ℕ Refusal → Swapped
+numbers_of (Ok digits) = record { refusal = 0; digits = digits }
+numbers_of (Err refusal) = refused_with (refusal_number refusal)
 
 -- accepted: the digits taken
 abbrev pub swapped_on : Row → ℕ → ℕ → ℕ → List ℕ → ℕ → Swapped

@@ -10,7 +10,7 @@ fn own_places(j: usize) -> u64
     requires { j < 4 }
     ensures { result ≡ own_places j }
 {
-    286331153 << (3 - j)
+    0x1111_1111 << (3 - j)
 }
 
 // Eight columns as a number, with other digits of tributary j (from 0): eight digits, spread.
@@ -18,7 +18,7 @@ fn exchanged(columns: u64, spread: u64, j: usize) -> u64
     requires { (j < 4) × (columns < 2 ^ 32) × (15 * spread < 2 ^ 32) }
     ensures { result ≡ bit_or (bit_and columns (2 ^ 32 - 1 - own_places j)) (spread * 2 ^ (3 - j)) }
 {
-    (columns & (4294967295 - own_places(j))) | (spread << (3 - j))
+    (columns & (0xffff_ffff - own_places(j))) | (spread << (3 - j))
 }
 
 // Eight columns from byte `at` of the line on: tributary j (from 0) gets its digits from i on.
@@ -33,18 +33,8 @@ fn put_eight(table: &[u32; 256], line: &mut [u8], at: usize, buffer: &[u8], i: u
     words::store4(line, at, exchanged(words::load4(line, at), digits, j));
 }
 
-// Which eight of so many columns are taken where those before k are done: those from k on, or at the end the last eight, some of them once more.
-fn eight_from(columns: usize, k: usize) -> usize
-    requires { (8 ≤ columns) × (columns % 2 ≡ 0) × (k % 2 ≡ 0) × (k < columns) × (columns < 65536) }
-    ensures { (result ≤ k) × (k < result + 8) × (result + 8 ≤ columns) × (result % 2 ≡ 0) }
-{
-    if k + 8 <= columns {
-        return k;
-    }
-    columns - 8
-}
-
-// Columns by eight, from byte `at` of the line on. The last eight may go over some a second time, with the same digits, so that no column is left.
+// Columns by eight, from byte `at` of the line on: those from k on where the first k are done, or at the end the last eight. These may go over some a
+// second time, with the same digits, so that no column is left.
 pub fn put_columns(
     table: &[u32; 256],
     line: &mut [u8],
@@ -63,10 +53,9 @@ pub fn put_columns(
         × (j < 4) }
     ensures { Ran line.old (2 * at) columns (digits_of buffer.now) i j line.new }
 {
-    let mut k: usize = 0;
-    while k < columns {
-        let c = eight_from(columns, k);
+    for eight in 0..columns.div_ceil(8) {
+        let k = 8 * eight;
+        let c = k.min(columns - 8);
         put_eight(table, line, at + c / 2, buffer, i + c, j);
-        k = c + 8;
     }
 }

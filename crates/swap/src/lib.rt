@@ -6,30 +6,19 @@ mod columns;
 
 ghost use Rattle.std.specs.Prelude.{◌≡◌, true, ℕ, ◌+◌, ◌/◌, ◌*◌, ◌<◌, ◌≤◌, length};
 ghost use Rattle.digits.specs.Digits.{digits_of};
+ghost use Rattle.refusal.specs.Refusal.{refusal_in};
 ghost use Rattle.levels.specs.Table.{Shared};
 ghost use Rattle.levels.specs.Sizes.{Fits};
 ghost use Rattle.levels.specs.Places.{kind_of, pos_of};
 ghost use Rattle.levels.specs.Order.{acts_by, carried};
 ghost use Rattle.swap.specs.Filling.{Ahead, Put, Filled};
-ghost use Rattle.swap.specs.Swap.{bad_tributary, bad_room, number_of, refused_with, swapped_on, line_on, SwapMet};
+ghost use Rattle.swap.specs.Swap.{bad_tributary, bad_room, number_of, numbers_of, swapped_on, line_on, SwapMet};
 
 use levels::places::{At, FramePlace, TributaryPlace};
 use levels::{faults, lent, order, places, sent, sizes};
-use table::{Level, Row};
+use refusal::Refusal;
+use table::Row;
 use weave::table::spread_table;
-
-#[derive(Clone, Copy)]
-pub struct Swapped {
-    pub refusal: u64,
-    // the digits taken
-    pub digits: usize,
-}
-
-fn refused(refusal: u64) -> Swapped
-    ensures { result ≡ refused_with refusal }
-{
-    Swapped { refusal, digits: 0 }
-}
 
 // One place of the tributary's walk: an own place gets its digit, any other stays. Answers the tributary's next digit.
 fn put_one(
@@ -53,14 +42,14 @@ fn put_one(
 {
     let kind = places::kind_of(row, at);
     if !places::is_own(kind) {
-        return i;
-    }
-    if order::carries_digit(row, kind, preceding, note, j) {
+        i
+    } else if order::carries_digit(row, kind, preceding, note, j) {
         lent::put_line_digit(line, p, lent::tributary_digit(buffer, i));
-        return TributaryPlace(i.0 + 1);
+        TributaryPlace(i.0 + 1)
+    } else {
+        lent::put_line_digit(line, p, sent::idle_digit(row, kind, note, j, at.place));
+        i
     }
-    lent::put_line_digit(line, p, sent::idle_digit(row, kind, note, j, at.place));
-    i
 }
 
 // Up to which place of set s a run may reach: over its last column, but in the frame's last set, behind which the line may end.
@@ -69,9 +58,10 @@ fn run_end(row: Row, s: usize) -> usize
     ensures { (row.set ≤ result + 1) × (result ≤ row.set + 3) × (row.sets ≤ s + 1 → result < row.set) }
 {
     if s == row.sets - 1 {
-        return row.set - 1;
+        row.set - 1
+    } else {
+        row.set + 3
     }
-    row.set + 3
 }
 
 // How many columns of tributary digits lie ahead in the set that go by whole bytes: in pairs, eight at least. None in a head, none from the middle of a
@@ -80,17 +70,11 @@ fn ahead(row: Row, at: At, x: usize) -> usize
     requires { Shared row × (at.set < row.sets) × (at.place < row.set) }
     ensures { Ahead row at x result }
 {
-    if x % 2 == 1 {
-        return 0;
-    }
-    if at.place < places::head_end(row, at.set) {
+    if x % 2 == 1 || at.place < places::head_end(row, at.set) {
         return 0;
     }
     let k = (run_end(row, at.set) - at.place) / 8 * 2;
-    if k < 8 {
-        return 0;
-    }
-    k
+    if k < 8 { 0 } else { k }
 }
 
 // So many columns on, in the same set or over its end.
@@ -126,6 +110,7 @@ fn fill(row: Row, earlier: u64, line: &mut [u8], notes: &[u8], buffer: &[u8], j:
         set: 0,
         place: j,
     };
+    // How far a turn goes is not known before it: the run ahead says.
     while x < n {
         let k = ahead(row, at, x);
         columns::put_columns(&table, line, x / 2, buffer, i.0, j, k);
@@ -147,10 +132,7 @@ fn fill(row: Row, earlier: u64, line: &mut [u8], notes: &[u8], buffer: &[u8], j:
 fn bad_tributary(tributary: u64) -> bool
     ensures { result ≡ bad_tributary tributary }
 {
-    if tributary == 0 {
-        return true;
-    }
-    4 < tributary
+    tributary == 0 || 4 < tributary
 }
 
 // Whether eight times a buffer's bytes are less than one tributary's room. A buffer of 8,192 bytes has room for every line.
@@ -158,13 +140,10 @@ fn bad_room(row: Row, line: usize, buffer: usize) -> bool
     requires { Shared row × (line / row.bytes ≤ 64) }
     ensures { result ≡ bad_room row line buffer }
 {
-    if 8191 < buffer {
-        return false;
-    }
-    8 * buffer < line / row.bytes * row.room
+    buffer <= 8191 && 8 * buffer < line / row.bytes * row.room
 }
 
-// The first of 12, 2, 3, 4 and 5 that applies, or 0.
+// The first of 12, 2, 3, 4 and 5 that applies.
 fn number_of(
     row: Row,
     earlier: u64,
@@ -172,27 +151,24 @@ fn number_of(
     line: usize,
     notes: usize,
     buffer: usize,
-) -> u64
+) -> Result<(), Refusal>
     requires { Shared row }
-    ensures { result ≡ number_of row earlier tributary line notes buffer }
+    ensures { refusal_in result ≡ number_of row earlier tributary line notes buffer }
 {
     if bad_tributary(tributary) {
-        return 12;
+        return Err(Refusal::Tributary);
     }
-    let no = sizes::frames_refusal(row, line, notes);
-    if no != 0 {
-        return no;
-    }
+    sizes::frames_refusal(row, line, notes)?;
     if bad_room(row, line, buffer) {
-        return 4;
+        return Err(Refusal::Buffer);
     }
     if faults::bad_earlier(row, earlier) {
-        return 5;
+        return Err(Refusal::NoteBits);
     }
-    0
+    Ok(())
 }
 
-// A level's row is known: the rest is judged, and the tributary is written.
+// A level's row is known: the rest is judged, and the tributary is written. Answers the digits taken.
 fn swap_on(
     row: Row,
     earlier: u64,
@@ -200,27 +176,25 @@ fn swap_on(
     line: &mut [u8],
     notes: &[u8],
     buffer: &[u8],
-) -> Swapped
+) -> Result<usize, Refusal>
     requires { Shared row }
-    ensures { (result ≡ swapped_on row earlier tributary (length line.old) notes.now (length buffer.now))
+    ensures { (numbers_of result ≡ swapped_on row earlier tributary (length line.old) notes.now (length buffer.now))
         × (line.new ≡ line_on row earlier tributary line.old notes.now buffer.now) }
 {
-    let no = number_of(
+    number_of(
         row,
         earlier,
         tributary,
         line.len(),
         notes.len(),
         buffer.len(),
-    );
-    if no != 0 {
-        return refused(no);
-    }
+    )?;
     let digits = fill(row, earlier, line, notes, buffer, (tributary - 1) as usize);
-    Swapped { refusal: 0, digits }
+    Ok(digits)
 }
 
-// Swaps tributary 1 to 4 of the line for the digits of the buffer, by its bit of each note. Any numbers, any lengths: see specs/Swap.antt.
+// Swaps tributary 1 to 4 of the line for the digits of the buffer, by its bit of each note, and answers how many digits it took. Any numbers, any
+// lengths: see specs/Swap.antt.
 pub fn swap(
     level: u64,
     earlier: u64,
@@ -228,12 +202,12 @@ pub fn swap(
     line: &mut [u8],
     notes: &[u8],
     buffer: &[u8],
-) -> Swapped
-    ensures { SwapMet level earlier tributary line.old notes.now buffer.now result line.new }
+) -> Result<usize, Refusal>
+    ensures { SwapMet level earlier tributary line.old notes.now buffer.now (numbers_of result) line.new }
 {
     let found = table::level_of(level);
     match found {
-        Level::Of(row) => swap_on(row, earlier, tributary, line, notes, buffer),
-        Level::NoSuchLevel => refused(1),
+        Some(row) => swap_on(row, earlier, tributary, line, notes, buffer),
+        None => Err(Refusal::Level),
     }
 }

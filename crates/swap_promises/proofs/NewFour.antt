@@ -1,5 +1,6 @@
 -- "A multiplexed line becomes what multiplexing the new four would have made." A tributary's own places go by its own bit of the notes and of the vote
 -- before them and by its digits as many as the frames take; every other place by the word and by the notes' service bits.
+use Rattle.std.specs.Prelude.{Some}
 use mathlib.Core.Path.{◌≡◌, refl, sym, ◌∙◌, ap}
 use mathlib.Core.Logic.{◌≢◌}
 use mathlib.Core.Bool.{Bool, cond, true, false, false≢true, true≢false, ◌&&◌}
@@ -14,7 +15,6 @@ use borrow.Author.Tests.{eqb-true, eqb-false}
 use Rattle.digits.specs.Digits.{digits_of}
 use Rattle.digits.proofs.Laws.{bytes-length, tab-at}
 use Rattle.table.specs.declared.Row.{Row}
-use Rattle.table.specs.declared.Level.TheVariants.{Of}
 use Rattle.table.specs.Table.{level_of}
 use Rattle.levels.specs.Table.{Shared}
 use Rattle.levels.specs.declared.order.Action.{Action}
@@ -133,14 +133,14 @@ module _ (j x y z : ℕ) (one other both : List ℕ) where
       }
 
 -- what a send counts of a tributary, by other notes that have the same bit
-pub count_by : (level y : ℕ) (row : Row) (e : level_of level ≡ Of row) (four : Lent) → SendAccepted level y four → (k z : ℕ) (notes : List ℕ) → k < 4 → SameBit k z y notes four.notes
+pub count_by : (level y : ℕ) (row : Row) (e : level_of level ≡ Some row) (four : Lent) → SendAccepted level y four → (k z : ℕ) (notes : List ℕ) → k < 4 → SameBit k z y notes four.notes
     → get_or (sent_counts level y four) k 0 ≡ count_of row (actions row z notes k) (length notes)
 count_by level y row e four made k z notes hk bits =
     send-count level y row e four made k hk
     ∙ ap (λ (n : ℕ). count_of row (actions row y four.notes k) n) (sym bits.frames)
     ∙ sym (count_same row (actions row z notes k) (actions row y four.notes k) (length notes) (actions-same row z y notes four.notes k (length notes) bits.before bits.bit))
 
-module _ (level x : ℕ) (row : Row) (e : level_of level ≡ Of row) (send : Lent) (sent : SendAccepted level x send) (s : Swap) (ok : SwapAccepted level (sent_line level x send) s)
+module _ (level x : ℕ) (row : Row) (e : level_of level ≡ Some row) (send : Lent) (sent : SendAccepted level x send) (s : Swap) (ok : SwapAccepted level (sent_line level x send) s)
     (y : ℕ) (four : Lent) (made : SendAccepted level y four) (new : NewFour level x send (sent_line level x send) s y four) where
   abbrev line : List ℕ
   line = sent_line level x send

@@ -1,5 +1,6 @@
 -- "What multiplexing the new four would have made" is never empty: of an accepted send and an accepted swap of its line, the send with bit j of its notes and
 -- its quarter j replaced is accepted, and makes the swapped line. Bits 4 and up of a note, by which it is judged, are the old note's.
+use Rattle.std.specs.Prelude.{Some}
 use mathlib.Core.Path.{◌≡◌, refl, sym, ◌∙◌, ap}
 use mathlib.Core.Logic.{◌≢◌}
 use mathlib.Core.Bool.{Bool, cond, true, false, ◌&&◌}
@@ -18,7 +19,6 @@ use Rattle.digits.proofs.Bits.{digit-same, digit-other, with-digit-fits}
 use Rattle.digits.proofs.Laws.{bytes-length, digits_append, digits-length, digits-take, tab-length, tab-at, zeros-at}
 use Rattle.digits.proofs.Lists.{of_four}
 use Rattle.table.specs.declared.Row.{Row}
-use Rattle.table.specs.declared.Level.TheVariants.{Of}
 use Rattle.table.specs.Table.{level_of}
 use Rattle.levels.specs.Sizes.{frames_of, quarter_of, Accepted}
 use Rattle.levels.specs.Places.{noted_of}
@@ -109,7 +109,7 @@ fitted-digits q n buffer a b =
 
 -- ---- the send of the new four
 
-module _ (level x : ℕ) (row : Row) (e : level_of level ≡ Of row) (send : Lent) (sent : SendAccepted level x send) (s : Swap) (ok : SwapAccepted level (sent_line level x send) s) where
+module _ (level x : ℕ) (row : Row) (e : level_of level ≡ Some row) (send : Lent) (sent : SendAccepted level x send) (s : Swap) (ok : SwapAccepted level (sent_line level x send) s) where
   abbrev line : List ℕ
   line = sent_line level x send
 

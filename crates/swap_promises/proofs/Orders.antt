@@ -1,4 +1,5 @@
 -- "and touches no other digit"; "Swapping two different tributaries gives the same line in either order; for one twice the last call stands."
+use Rattle.std.specs.Prelude.{Option, Some, None}
 use mathlib.Core.Path.{◌≡◌, refl, sym, ◌∙◌, ap}
 use mathlib.Core.Logic.{◌≢◌}
 use mathlib.Core.Bool.{Bool, cond, true, false, ◌&&◌}
@@ -11,8 +12,6 @@ use borrow.Author.Tests.{eq-eqb, eqb-true}
 use Rattle.digits.specs.Digits.{digits_of}
 use Rattle.digits.proofs.Laws.{digits-length}
 use Rattle.table.specs.declared.Row.{Row}
-use Rattle.table.specs.declared.Level.{Level}
-use Rattle.table.specs.declared.Level.TheVariants.{Of, NoSuchLevel}
 use Rattle.table.specs.Table.{level_of}
 use Rattle.levels.specs.Sizes.{on_level}
 use Rattle.levels.specs.Places.{kind_at, is_own}
@@ -110,17 +109,17 @@ module _ (row : Row) (line : List ℕ) (a b : Swap) where
 pub either_order : (level : ℕ) (line : List ℕ) (a b : Swap) → a.tributary ≢ b.tributary → swap_line level (swap_line level line a) b ≡ swap_line level (swap_line level line b) a
 either_order level line a b other = go (level_of level)
   where
-    go : (l : Level) → on_level l (λ (row : Row). on_row row (on_level l (λ (row : Row). on_row row line a) line) b) (on_level l (λ (row : Row). on_row row line a) line)
+    go : (l : Option Row) → on_level l (λ (row : Row). on_row row (on_level l (λ (row : Row). on_row row line a) line) b) (on_level l (λ (row : Row). on_row row line a) line)
         ≡ on_level l (λ (row : Row). on_row row (on_level l (λ (row : Row). on_row row line b) line) a) (on_level l (λ (row : Row). on_row row line b) line)
-    go (Of row) = order-on row line a b other
-    go NoSuchLevel = refl
+    go (Some row) = order-on row line a b other
+    go None = refl
 
 -- one tributary twice: the last call stands, where it was accepted, and it is accepted after the first as without it
 pub last-stands : (level : ℕ) (line : List ℕ) (a b : Swap) → SwapAccepted level line b → a.tributary ≡ b.tributary
     → SwapAccepted level (swap_line level line a) b × (swap_line level (swap_line level line a) b ≡ swap_line level line b)
 last-stands level line a b ok same = go (swap-level level line b ok)
   where
-    go : ((row : Row) × (level_of level ≡ Of row)) → SwapAccepted level (swap_line level line a) b × (swap_line level (swap_line level line a) b ≡ swap_line level line b)
+    go : ((row : Row) × (level_of level ≡ Some row)) → SwapAccepted level (swap_line level line a) b × (swap_line level (swap_line level line a) b ≡ swap_line level line b)
     go (row, e) =
         let none = eq-eqb (number_at row (length line) b) 0 (no_number level row e line b ok) in
         (rw (e, on-length row line a, none), rw e (on-again row line a b ∙ rw none (by_first (eqb (number_at row (length line) a) 0))))

@@ -1,4 +1,5 @@
 -- Of the notes, and of the vote before them, a swap looks at bit j−1 alone: two accepted swaps that agree in it leave the same line and answer the same.
+use Rattle.std.specs.Prelude.{Some}
 use mathlib.Core.Path.{◌≡◌, refl, sym, ◌∙◌, ap}
 use mathlib.Core.Bool.{Bool, cond, true, false, ◌&&◌}
 use mathlib.Core.List.{List}
@@ -9,7 +10,6 @@ use lib.ListN.{length, get_or}
 use borrow.Author.Tests.{eqb-true}
 use Rattle.digits.specs.Digits.{digits_of}
 use Rattle.table.specs.declared.Row.{Row}
-use Rattle.table.specs.declared.Level.TheVariants.{Of}
 use Rattle.table.specs.Table.{level_of}
 use Rattle.levels.specs.Places.{kind_at, is_own}
 use Rattle.levels.specs.Order.{actions, count_of}
@@ -17,13 +17,13 @@ use Rattle.levels.proofs.Rows.{shared-row}
 use Rattle.levels.specs.Line.{line_digit}
 use Rattle.promises.specs.Extraction.{SameBit}
 use Rattle.promises.proofs.Order.{count_same, actions-same}
-use Rattle.swap.specs.declared.Swapped.{Swapped}
+use Rattle.swap.specs.Swap.{Swapped}
 use Rattle.swap.specs.Swap.{swapped_digit}
 use Rattle.swap_promises.specs.Swapping.{Swap, SwapAccepted, from0, SameToSwap, SwapsSame}
 use Rattle.swap_promises.proofs.Places.{same_bytes, swap-level, swap_places, swap_line_lem, swap_answer}
 use Rattle.swap_promises.proofs.NewFour.{own-digit}
 
-module _ (level : ℕ) (row : Row) (e : level_of level ≡ Of row) (line : List ℕ) (j : ℕ) (buffer : List ℕ) (x y : ℕ) (m n : List ℕ) (bits : SameBit j x y m n) where
+module _ (level : ℕ) (row : Row) (e : level_of level ≡ Some row) (line : List ℕ) (j : ℕ) (buffer : List ℕ) (x y : ℕ) (m n : List ℕ) (bits : SameBit j x y m n) where
   -- what the frames do for the tributary
   acts-same : count_of row (actions row x m j) (length m) ≡ count_of row (actions row y n j) (length n)
   acts-same =
@@ -52,7 +52,7 @@ own-bit level line a b ok-a ok-b same = go (swap-level level line a ok-a)
     j : from0 b ≡ from0 a
     j = ap (λ (k : ℕ). k - 1) (sym same.tributary)
 
-    go : ((row : Row) × (level_of level ≡ Of row)) → SwapsSame level line a b
+    go : ((row : Row) × (level_of level ≡ Some row)) → SwapsSame level line a b
     go (row, e) =
         record {
           left = swap_line_lem level row e line a ok-a

@@ -1,4 +1,5 @@
 -- The swapped line, place by place, over the row; what an accepted swap is; every other digit stays; two tributaries in either order; one twice.
+use Rattle.std.specs.Prelude.{Some}
 use mathlib.Core.Path.{◌≡◌, refl, sym, ◌∙◌, ap}
 use mathlib.Core.Bool.{false, ◌&&◌}
 use mathlib.Core.List.{List}
@@ -11,7 +12,6 @@ use borrow.Author.Tests.{eq-eqb}
 use Rattle.digits.specs.Digits.{digits_of, bytes_of, tab}
 use Rattle.digits.proofs.Laws.{digits-binary, digits-of-bytes, bytes-length, tab-length, tab-at, tab-of, tab-binary}
 use Rattle.table.specs.declared.Row.{Row}
-use Rattle.table.specs.declared.Level.TheVariants.{Of}
 use Rattle.table.specs.Table.{level_of}
 use Rattle.levels.specs.Sizes.{frames_of, Fits}
 use Rattle.levels.specs.Places.{kind_at, is_own}
@@ -21,7 +21,7 @@ use Rattle.levels.proofs.Judged.{framed}
 use Rattle.levels.proofs.Rows.{shared-row}
 use Rattle.promises.proofs.RoundTrip.{line_small}
 use Rattle.promises.proofs.Accepted.{some_level, zero-refusal}
-use Rattle.swap.specs.declared.Swapped.{Swapped}
+use Rattle.swap.specs.Swap.{Swapped}
 use Rattle.swap.specs.Swap.{number_of, swapped_digit, swapped_line, refused_with, swapped_on, swapped}
 use Rattle.swap.proofs.Accepted.{passed, one-of-four, fits}
 use Rattle.swap_promises.specs.Swapping.{Swap, SwapAccepted, swap_line, swap_count, from0}
@@ -69,7 +69,7 @@ module _ (row : Row) (x y : ℕ) (a b : List ℕ) (j k : ℕ) (s t line : List �
       rw (swapped-length row y b k t line) (same_bytes (length line) (swapped_digit row x a j (digits_of s) (digits_of first)) g same)
 
 -- an accepted swap over its level's row
-pub swap-level : (level : ℕ) (line : List ℕ) (s : Swap) → SwapAccepted level line s → (row : Row) × (level_of level ≡ Of row)
+pub swap-level : (level : ℕ) (line : List ℕ) (s : Swap) → SwapAccepted level line s → (row : Row) × (level_of level ≡ Some row)
 swap-level level line s ok =
     some_level (λ (r : Swapped). r.refusal ≡ 0) (level_of level) (λ (row : Row). swapped_on row s.earlier s.tributary (length line) s.notes (length s.buffer)) (refused_with 1)
     (λ e. omega arith)
@@ -84,7 +84,7 @@ tributary-small row line s none =
     let in_four = one-of-four row s.earlier s.tributary line (length s.notes) (length s.buffer) none in
     omega (arith, in_four.0, in_four.1)
 
-module _ (level : ℕ) (row : Row) (e : level_of level ≡ Of row) (line : List ℕ) (s : Swap) (ok : SwapAccepted level line s) where
+module _ (level : ℕ) (row : Row) (e : level_of level ≡ Some row) (line : List ℕ) (s : Swap) (ok : SwapAccepted level line s) where
   abbrev acts-count : ℕ
   acts-count = count_of row (actions row s.earlier s.notes (from0 s)) (length s.notes)
 

@@ -1,5 +1,6 @@
 -- What is read of a swapped line: extraction by notes with the new bit returns the new digits, and the other three as before. And a swap of what was
 -- read changes nothing but damaged control digits and stuffing digits.
+use Rattle.std.specs.Prelude.{Some}
 use mathlib.Core.Path.{◌≡◌, refl, sym, ◌∙◌, ap}
 use mathlib.Core.Logic.{◌≢◌}
 use mathlib.Core.Bool.{Bool, cond, true, false, false≢true, ◌&&◌, not}
@@ -13,7 +14,6 @@ use borrow.Author.Tests.{eq-eqb, ne_eqb, eqb-true, not-false}
 use Rattle.digits.specs.Digits.{digits_of}
 use Rattle.digits.proofs.Laws.{digits-length, map_at}
 use Rattle.table.specs.declared.Row.{Row}
-use Rattle.table.specs.declared.Level.TheVariants.{Of}
 use Rattle.table.specs.Table.{level_of}
 use Rattle.levels.specs.Table.{Shared}
 use Rattle.levels.specs.declared.order.Action.{Action}
@@ -72,7 +72,7 @@ line-carried row x notes t j c hj h =
     rw (w, q) (digit-carried row (get_or notes at.frame 0) (actions row x notes j at.frame) j at.place (get_or (t j) (before row (actions row x notes j) j c) 0) (kind_at row (4 * c + j)) h)
 
 -- the tributary itself
-module _ (level y : ℕ) (row : Row) (e : level_of level ≡ Of row) (line : List ℕ) (s : Swap) (c : Lent) (ok : SwapAccepted level line s) (ok-c : ExtractAccepted level y c)
+module _ (level y : ℕ) (row : Row) (e : level_of level ≡ Some row) (line : List ℕ) (s : Swap) (c : Lent) (ok : SwapAccepted level line s) (ok-c : ExtractAccepted level y c)
     (new : c.line ≡ swap_line level line s) (bits : SameBit (from0 s) s.earlier y s.notes c.notes) where
   abbrev j : ℕ
   j = from0 s
@@ -172,7 +172,7 @@ module _ (row : Row) (sh : Shared row) (x : ℕ) (notes ds : List ℕ) (j : ℕ)
       (kept_by row (get_or notes f 0) (by-notes f) j (pos_of row p).place (get_or taken (before row by-notes j (p / 4)) 0) (get_or ds p 0) (kind_at row p) o (rw (eq-eqb (p % 4) j w) at sound)
       (λ c. rw place at (taken_at (p / 4) column (rw place c))))
 
-module _ (level x : ℕ) (row : Row) (e : level_of level ≡ Of row) (read : Lent) (s : Swap) (was_read : ReadAccepted level x read)
+module _ (level x : ℕ) (row : Row) (e : level_of level ≡ Some row) (read : Lent) (s : Swap) (was_read : ReadAccepted level x read)
     (ok : SwapAccepted level read.line s) (same : AsRead level x read s) where
   abbrev tributary : ℕ
   tributary = from0 s

@@ -1,5 +1,6 @@
 -- Levels 2 to 4 do not look at the vote before the notes: a swap answers and leaves the same whatever it is, and a multiplexed line becomes what multiplexing
 -- the new four would have made whatever votes the two sends and the swap are given.
+use Rattle.std.specs.Prelude.{Option, Some, None}
 use mathlib.Core.Path.{◌≡◌, refl, sym, ◌∙◌, ap, fun_ext}
 use mathlib.Core.Bool.{false}
 use mathlib.Core.List.{List}
@@ -7,10 +8,8 @@ use Prim.Native.Nat.{ℕ, ◌-◌, ◌<◌}
 use lib.ListN.{length, take, get_or}
 use Rattle.digits.specs.Digits.{digits_of}
 use Rattle.table.specs.declared.Row.{Row}
-use Rattle.table.specs.declared.Level.{Level}
-use Rattle.table.specs.declared.Level.TheVariants.{Of, NoSuchLevel}
 use Rattle.table.specs.Table.{level_of}
-use Rattle.levels.specs.declared.faults.Counted.{Counted}
+use Rattle.levels.specs.Faults.{Counted}
 use Rattle.levels.specs.Sizes.{on_level, quarter_of}
 use Rattle.levels.specs.Order.{has_negative}
 use Rattle.promises.specs.Calls.{Lent, SendAccepted, sent_line, sent_digits}
@@ -29,16 +28,16 @@ module _ (row : Row) (none : has_negative row ≡ false) (x y : ℕ) where
   swapped-alike notes j digits old = fun_ext (λ (p : ℕ). rw (digit-alike row none x y notes (λ (k : ℕ). digits) p))
 
 module _ (x y : ℕ) where
-  on-answer : (l : Level) → Without l → (tributary line : ℕ) (notes : List ℕ) (buffer : ℕ)
+  on-answer : (l : Option Row) → Without l → (tributary line : ℕ) (notes : List ℕ) (buffer : ℕ)
       → on_level l (λ (row : Row). swapped_on row x tributary line notes buffer) (refused_with 1) ≡ on_level l (λ (row : Row). swapped_on row y tributary line notes buffer) (refused_with 1)
-  on-answer (Of row) none tributary line notes buffer = rw (number-alike row none x y tributary line (length notes) buffer, acts row none x y notes (tributary - 1))
-  on-answer NoSuchLevel none tributary line notes buffer = refl
+  on-answer (Some row) none tributary line notes buffer = rw (number-alike row none x y tributary line (length notes) buffer, acts row none x y notes (tributary - 1))
+  on-answer None none tributary line notes buffer = refl
 
-  on_line : (l : Level) → Without l → (tributary : ℕ) (line notes buffer : List ℕ)
+  on_line : (l : Option Row) → Without l → (tributary : ℕ) (line notes buffer : List ℕ)
       → on_level l (λ (row : Row). line_on row x tributary line notes buffer) line ≡ on_level l (λ (row : Row). line_on row y tributary line notes buffer) line
-  on_line (Of row) none tributary line notes buffer =
+  on_line (Some row) none tributary line notes buffer =
       rw (number-alike row none x y tributary (length line) (length notes) (length buffer), swapped-alike row none x y notes (tributary - 1) (digits_of buffer) (digits_of line))
-  on_line NoSuchLevel none tributary line notes buffer = refl
+  on_line None none tributary line notes buffer = refl
 
 -- a swap at levels 2 to 4, refused or not
 pub vote-not-looked-at : (level : ℕ) (line : List ℕ) (s : Swap) (vote : ℕ) → level < 5 → SwapsSame level line s (with_vote vote s)

@@ -1,9 +1,7 @@
 -- The level table of document 01, "Digits and bytes", and of document 02, request 10, with the limit of its request 4. Every crate that goes by a level reads it
 -- here; what the rows share is levels/specs/Table.antt.
-use Rattle.std.specs.Prelude.{cond, ℕ, eqb}
+use Rattle.std.specs.Prelude.{cond, ℕ, eqb, Option, Some, None}
 use Rattle.table.specs.declared.Row.{Row}
-use Rattle.table.specs.declared.Level.{Level}
-use Rattle.table.specs.declared.Level.TheVariants.{Of, NoSuchLevel}
 
 -- |                                      | level 2    | level 3    | level 4      | level 12 | level 14   |
 -- | frame digits N                       | 848        | 1536       | 2928         | 1056     | 2176       |
@@ -45,8 +43,8 @@ row14 =
     { digits = 2176; bytes = 272; sets = 4; set = 544; word = 0b1111010000; len = 10; alarm = 10; alarms = 0; national = 10; nationals = 0; first = 12; middle = 4; last = 12; control = 3; n = 537; room = 538; limit = 4 }
 
 -- the row of a level; every number but 2, 3, 4, 12 and 14 is no level
-unfoldable pub level_of : ℕ → Level
+unfoldable pub level_of : ℕ → Option Row
 level_of level =
-    cond (eqb level 2) (Of row2)
-    (cond (eqb level 3) (Of row3)
-    (cond (eqb level 4) (Of row4) (cond (eqb level 12) (Of row12) (cond (eqb level 14) (Of row14) NoSuchLevel))))
+    cond (eqb level 2) (Some row2)
+    (cond (eqb level 3) (Some row3)
+    (cond (eqb level 4) (Some row4) (cond (eqb level 12) (Some row12) (cond (eqb level 14) (Some row14) None))))

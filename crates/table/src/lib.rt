@@ -37,12 +37,6 @@ pub struct Row {
     pub limit: usize,
 }
 
-#[derive(Clone, Copy)]
-pub enum Level {
-    Of(Row),
-    NoSuchLevel,
-}
-
 // The head of the first set: the last digit of the word and the service places, where the word has eight digits, ten and
 // twelve. The table and the patterns of levels/src/places.rt both read these.
 pub const EIGHT_END: usize = 7;
@@ -174,15 +168,15 @@ const TABLE: [Row; 5] = [
 ];
 
 // The row of a level, or that there is no such level: any number may come.
-pub fn level_of(level: u64) -> Level
+pub fn level_of(level: u64) -> Option<Row>
     ensures { result ≡ level_of level }
 {
     match level {
-        2 => Level::Of(TABLE[0]),
-        3 => Level::Of(TABLE[1]),
-        4 => Level::Of(TABLE[2]),
-        12 => Level::Of(TABLE[3]),
-        14 => Level::Of(TABLE[4]),
-        _ => Level::NoSuchLevel,
+        2 => Some(TABLE[0]),
+        3 => Some(TABLE[1]),
+        4 => Some(TABLE[2]),
+        12 => Some(TABLE[3]),
+        14 => Some(TABLE[4]),
+        _ => None,
     }
 }

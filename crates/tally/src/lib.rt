@@ -41,8 +41,7 @@ pub fn number_at(row: Row, p: FramePlace) -> usize
     requires { Shared row }
     ensures { (result ≡ number_at row p.0) × (result < 15) }
 {
-    let k = p.0;
-    let kind = places::kind_at(row, FramePlace(k % row.digits));
+    let kind = places::kind_at(row, FramePlace(p.0 % row.digits));
     sum_number(kind, places::tributary_at(p))
 }
 
@@ -51,6 +50,5 @@ pub fn count_at(row: Row, p: FramePlace, sums: &mut [usize; 15])
     requires { Shared row × ((k : ℕ) → get_or sums.old k 0 < 2 ^ 63) }
     ensures { sums.new ≡ one_more sums.old (number_at row p.0) }
 {
-    let k = number_at(row, p);
-    sums[k] += 1;
+    sums[number_at(row, p)] += 1;
 }

@@ -1,4 +1,4 @@
-// What the programs of cases share: how inputs are made, and how a call's answer is written out.
+// What the programs of cases share: how inputs are made, and how lists of numbers are written out.
 #![tactic(auto)]
 
 pub mod inputs;

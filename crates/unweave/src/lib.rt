@@ -35,68 +35,58 @@ fn put_quarter(buffer: &mut [u8], q: usize, j: usize, w: Writer, word: u64, n: u
     words::put(&mut buffer[a..e], w, word, n)
 }
 
-// The tributaries' digits, in order, each as a number.
-#[derive(Clone, Copy)]
-struct Columns {
-    a: u64,
-    b: u64,
-    c: u64,
-    d: u64,
-}
-
-// Appends n digits to those of each tributary.
-fn put_four(buffer: &mut [u8], q: usize, w: Writers, x: Columns, n: usize) -> Writers
+// Appends n digits to those of each tributary, whose numbers these are, in order.
+fn put_four(buffer: &mut [u8], q: usize, w: Writers, x: [u64; 4], n: usize) -> Writers
     requires { (4 * q ≤ length buffer.old) × (n ≤ 32) × Below n x × Roomy q (λ (j : ℕ). n) w }
     ensures { Grown q buffer.old buffer.new w result (λ (j : ℕ). written n (number_of x j)) }
 {
-    let a0 = w.a;
-    let b0 = w.b;
-    let c0 = w.c;
-    let d0 = w.d;
-    let a = put_quarter(buffer, q, 0, a0, x.a, n);
-    let b = put_quarter(buffer, q, 1, b0, x.b, n);
-    let c = put_quarter(buffer, q, 2, c0, x.c, n);
-    let d = put_quarter(buffer, q, 3, d0, x.d, n);
+    let a = put_quarter(buffer, q, 0, w.a, x[0], n);
+    let b = put_quarter(buffer, q, 1, w.b, x[1], n);
+    let c = put_quarter(buffer, q, 2, w.c, x[2], n);
+    let d = put_quarter(buffer, q, 3, w.d, x[3], n);
     Writers { a, b, c, d }
 }
 
 // Fewer than sixteen columns from place p of the line on, each tributary's digits as a number.
-fn few_columns(line: &[u8], p: usize, n: usize) -> Columns
+fn few_columns(line: &[u8], p: usize, n: usize) -> [u64; 4]
     requires { (p + 4 * n ≤ 8 * length line.now) × (p < 2 ^ 31) × (0 < n) × (n < 16) }
     ensures { Numbered (digits_of line.now) p n result }
 {
     let rows = turning::from_columns(words::read_wide(line, p, 4 * n));
-    let a = sorting::last_of(rows, 0, n);
-    let b = sorting::last_of(rows, 1, n);
-    let c = sorting::last_of(rows, 2, n);
-    let d = sorting::last_of(rows, 3, n);
-    Columns { a, b, c, d }
+    [
+        sorting::last_of(rows, 0, n),
+        sorting::last_of(rows, 1, n),
+        sorting::last_of(rows, 2, n),
+        sorting::last_of(rows, 3, n),
+    ]
 }
 
 // Sixteen columns or more from place p of the line on, up to 32: the first sixteen and the last sixteen, which may have some in common.
-fn many_columns(line: &[u8], p: usize, n: usize) -> Columns
+fn many_columns(line: &[u8], p: usize, n: usize) -> [u64; 4]
     requires { (p + 4 * n ≤ 8 * length line.now) × (p < 2 ^ 31) × (16 ≤ n) × (n ≤ 32) }
     ensures { Numbered (digits_of line.now) p n result }
 {
     let more = n - 16;
     let first = turning::from_columns(words::read_word(line, p));
     let last = turning::from_columns(words::read_word(line, p + 4 * more));
-    let a = sorting::both_of(first, last, 0, more);
-    let b = sorting::both_of(first, last, 1, more);
-    let c = sorting::both_of(first, last, 2, more);
-    let d = sorting::both_of(first, last, 3, more);
-    Columns { a, b, c, d }
+    [
+        sorting::both_of(first, last, 0, more),
+        sorting::both_of(first, last, 1, more),
+        sorting::both_of(first, last, 2, more),
+        sorting::both_of(first, last, 3, more),
+    ]
 }
 
 // Up to 32 columns from place p of the line on.
-fn columns_at(line: &[u8], p: usize, n: usize) -> Columns
+fn columns_at(line: &[u8], p: usize, n: usize) -> [u64; 4]
     requires { (p + 4 * n ≤ 8 * length line.now) × (p < 2 ^ 31) × (0 < n) × (n ≤ 32) }
     ensures { Numbered (digits_of line.now) p n result }
 {
     if n < 16 {
-        return few_columns(line, p, n);
+        few_columns(line, p, n)
+    } else {
+        many_columns(line, p, n)
     }
-    many_columns(line, p, n)
 }
 
 // The columns between two heads, from place p of the line on, up to 32 a turn: each tributary is handed every fourth digit. One call puts out whole turns
@@ -113,12 +103,10 @@ fn receive_columns(
     ensures { Grown q buffer.old buffer.new w0 result (run_digits (digits_of line.now) p columns) }
 {
     let mut w = w0;
-    let mut k: usize = 0;
-    while k < columns {
-        let n = words::at_most(columns - k, 32);
+    for k in (0..columns).step_by(32) {
+        let n = (columns - k).min(32);
         let x = columns_at(line, p + 4 * k, n);
         w = put_four(buffer, q, w, x, n);
-        k += n;
     }
     w
 }
@@ -164,18 +152,14 @@ fn receive_column(
         × Roomy q (λ (j : ℕ). length (kind_digits (digits_of line.now) p kind (acts_by row preceding note) j)) w }
     ensures { Grown q buffer.old buffer.new w result (kind_digits (digits_of line.now) p kind (acts_by row preceding note)) }
 {
-    let a0 = w.a;
-    let b0 = w.b;
-    let c0 = w.c;
-    let d0 = w.d;
     let at_a = order::carries_digit(row, kind, preceding, note, 0);
     let at_b = order::carries_digit(row, kind, preceding, note, 1);
     let at_c = order::carries_digit(row, kind, preceding, note, 2);
     let at_d = order::carries_digit(row, kind, preceding, note, 3);
-    let a = receive_place(line, p, at_a, buffer, q, 0, a0);
-    let b = receive_place(line, p, at_b, buffer, q, 1, b0);
-    let c = receive_place(line, p, at_c, buffer, q, 2, c0);
-    let d = receive_place(line, p, at_d, buffer, q, 3, d0);
+    let a = receive_place(line, p, at_a, buffer, q, 0, w.a);
+    let b = receive_place(line, p, at_b, buffer, q, 1, w.b);
+    let c = receive_place(line, p, at_c, buffer, q, 2, w.c);
+    let d = receive_place(line, p, at_d, buffer, q, 3, w.d);
     Writers { a, b, c, d }
 }
 
@@ -203,8 +187,7 @@ fn receive_head(
         return w0;
     }
     let mut w = w0;
-    let mut r: usize = CONTROL_END + 1;
-    while r < row.last {
+    for r in (CONTROL_END + 1..row.last).step_by(4) {
         let kind = places::kind_of(
             row,
             At {
@@ -214,7 +197,6 @@ fn receive_head(
             },
         );
         w = receive_column(row, line, p + r, kind, preceding, note, buffer, q, w);
-        r += 4;
     }
     w
 }
@@ -248,14 +230,10 @@ pub fn writer_of(w: Writers, j: usize) -> Writer
     requires { j < 4 }
     ensures { result ≡ writer_of w j }
 {
-    if j == 0 {
-        return w.a;
+    match j {
+        0 => w.a,
+        1 => w.b,
+        2 => w.c,
+        _ => w.d,
     }
-    if j == 1 {
-        return w.b;
-    }
-    if j == 2 {
-        return w.c;
-    }
-    w.d
 }

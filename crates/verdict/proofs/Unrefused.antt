@@ -1,6 +1,6 @@
 -- A feed that is not refused: what it asks follows from the state's validity, and the state's numbers after it are those of the definition.
 use mathlib.Core.Path.{◌≡◌, sym, ◌∙◌, ap}
-use mathlib.Core.Bool.{Bool, cond, true, false, ◌&&◌, not}
+use mathlib.Core.Bool.{Bool, cond, true, ◌&&◌, not}
 use mathlib.Core.List.{List, [], ◌∷◌, ◌++◌}
 use Prim.Native.Nat.{ℕ, zero, suc, ◌+◌, ◌-◌, ◌*◌, ◌/◌, ◌%◌, ◌≤◌, ◌<◌}
 use native.Mathlib.Omega.{arith}

@@ -82,9 +82,9 @@ pub fn feed_next(
 {
     if next == 16 {
         feed_both(state, row, votes, line, pattern, room, sent, base, scratch);
-        return;
+    } else {
+        votes::feed_after(
+            state, row, next, votes, line, pattern, room, sent, base, scratch,
+        );
     }
-    votes::feed_after(
-        state, row, next, votes, line, pattern, room, sent, base, scratch,
-    );
 }

@@ -2,6 +2,7 @@
 ghost use Rattle.std.specs.Prelude.{◌≡◌, ℕ, ◌+◌, ◌/◌, ◌%◌, ◌<◌, ◌≤◌, min, length, get_or, replicate};
 ghost use Rattle.digits.specs.Digits.{digits_of};
 ghost use Rattle.levels.specs.Sizes.{frames_of, quarter_of};
+ghost use Rattle.refusal.specs.Refusal.{refusal_in};
 ghost use Rattle.slips.specs.Slips.{lent_from};
 ghost use Rattle.judge.specs.Counting.{Voted};
 ghost use Rattle.verdict_blocks.specs.Keeping.{block_at};
@@ -13,7 +14,8 @@ ghost use Rattle.verdict_blocks.specs.Going.{Ready, Running};
 ghost use Rattle.verdict.specs.Going.{FedTo, Feedable};
 
 use crate::{answer, behind, refusals};
-use table::{Level, Row};
+use refusal::Refusal;
+use table::Row;
 use verdict_blocks::votes;
 
 // All sixteen blocks: own, before with the unknown vote 0 and with 15, after.
@@ -64,10 +66,7 @@ fn feed_ways(
 fn base_of(first: u64) -> usize
     ensures { (result ≡ zero_at + min first 4611686018427387904) × (result < 9223372036854775808) }
 {
-    if first < 4611686018427387904 {
-        return 2305843009213693952 + first as usize;
-    }
-    6917529027641081856
+    2305843009213693952 + first.min(4611686018427387904) as usize
 }
 
 // Room for what a pattern is held against.
@@ -112,19 +111,16 @@ fn feed_on(
     sent: &[u8],
     first: u64,
     answer: &mut [u64],
-) -> u64
+) -> Result<(), Refusal>
     requires { Shared row × (length state.old ≡ 683) × (answer.old ≡ replicate 88 0) }
-    ensures { (result ≡ feed_fault row (state_from state.old) (length line.now) next (length sent.now))
+    ensures { (refusal_in result ≡ feed_fault row (state_from state.old) (length line.now) next (length sent.now))
         × (state.new ≡ state_on row state.old line.now next sent.now first)
         × (answer.new ≡ answer_on row state.old line.now next sent.now first) }
 {
-    let no = refusals::feed_fault(row, state, line.len(), next, sent.len());
-    if no != 0 {
-        return no;
-    }
+    refusals::feed_fault(row, state, line.len(), next, sent.len())?;
     feed_frames(state, row, line, next, sent, first);
     answer::tell_all(state, answer);
-    0
+    Ok(())
 }
 
 // Feeds the next frames of a recording, 0 to 64, to a state, and answers for all that were fed. Any state, any line, any vote, any digits sent, any number of the
@@ -136,13 +132,12 @@ pub fn feed(
     sent: &[u8],
     first: u64,
     answer: &mut [u64; 88],
-) -> u64
-    ensures { FeedMet state.old line.now next sent.now first result state.new answer.new }
+) -> Result<(), Refusal>
+    ensures { FeedMet state.old line.now next sent.now first (refusal_in result) state.new answer.new }
 {
     *answer = [0; 88];
-    let found = table::level_of(state[0]);
-    match found {
-        Level::Of(row) => feed_on(row, state, line, next, sent, first, answer),
-        Level::NoSuchLevel => 6,
+    match table::level_of(state[0]) {
+        Some(row) => feed_on(row, state, line, next, sent, first, answer),
+        None => Err(Refusal::State),
     }
 }

@@ -96,13 +96,6 @@ pub fn feed_before(
     );
 }
 
-// A vote as a reading is handed the one before its first.
-fn as_earlier(vote: u8) -> u64
-    ensures { result ≡ vote }
-{
-    vote as u64
-}
-
 // By that of the frame after: way 3, with this vote behind the line's.
 pub fn feed_after(
     state: &mut [u64],
@@ -131,7 +124,7 @@ pub fn feed_after(
     let mut moved = votes;
     moved[frames + 1] = next as u8;
     let end = frames + 2;
-    let first = as_earlier(moved[1]);
+    let first = u64::from(moved[1]);
     ways::feed_way(
         state,
         3,

@@ -38,9 +38,8 @@ fn feed_at(
         notes.now j (block_at state.old b)) }
 {
     let a = 11 + 42 * b;
-    let e = a + 42;
     keeping::feed_quarter(
-        &mut state[a..e],
+        &mut state[a..a + 42],
         row,
         earlier,
         notes,
@@ -84,8 +83,7 @@ fn feed_four(
         carried_over row pattern (lent_from base (digits_of (quarter_of sent.now j))) (digits_of (quarter_of room.now j)) earlier
         notes.now j (block_at state.old (4 * w + j))) }
 {
-    let mut j: usize = 0;
-    while j < 4 {
+    for j in 0..4 {
         feed_at(
             state,
             4 * w + j,
@@ -100,7 +98,6 @@ fn feed_four(
             base,
             scratch,
         );
-        j += 1;
     }
 }
 

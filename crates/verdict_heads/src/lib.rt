@@ -11,10 +11,7 @@ ghost use Rattle.verdict_heads.specs.Heads.{votes_after, changes_after};
 fn is_first(came: u64, f: usize) -> bool
     ensures { result ≡ (eqb came 0 && eqb f 0) }
 {
-    if came != 0 {
-        return false;
-    }
-    f == 0
+    came == 0 && f == 0
 }
 
 // Whether tributary j's decision (from 0) in frame f differs from that of the frame before: 1 if it does. The vote before the line's stands at place 0.
@@ -24,12 +21,10 @@ fn change_at(votes: [u8; 66], came: u64, j: usize, f: usize) -> u64
         × (result ≤ 1) }
 {
     if is_first(came, f) {
-        return 0;
+        0
+    } else {
+        u64::from((votes[f + 1] >> j) % 2 != (votes[f] >> j) % 2)
     }
-    if (votes[f + 1] >> j) % 2 == (votes[f] >> j) % 2 {
-        return 0;
-    }
-    1
 }
 
 // In how many frames it differs.
@@ -37,11 +32,9 @@ fn changes_of(votes: [u8; 66], came: u64, j: usize, frames: usize) -> u64
     requires { (j < 4) × (frames ≤ 64) }
     ensures { (result ≡ changes_in came votes j frames) × (result ≤ 64) }
 {
-    let mut changes: u64 = 0;
-    let mut f: usize = 0;
-    while f < frames {
+    let mut changes = 0;
+    for f in 0..frames {
         changes += change_at(votes, came, j, f);
-        f += 1;
     }
     changes
 }
@@ -67,22 +60,17 @@ fn vote_at(older: u64, last: u64, votes: [u8; 66], i: usize) -> u64
     requires { i ≤ 65 }
     ensures { result ≡ get_or (older ∷ last ∷ drop 1 votes) i 0 % 16 }
 {
-    if i == 0 {
-        return older % 16;
+    match i {
+        0 => older % 16,
+        1 => last % 16,
+        _ => (votes[i - 1] % 16) as u64,
     }
-    if i == 1 {
-        return last % 16;
-    }
-    (votes[i - 1] % 16) as u64
 }
 
 fn came_after(came: u64, frames: usize) -> u64
     ensures { result ≡ cond (eqb frames 0) came 1 }
 {
-    if frames == 0 {
-        return came;
-    }
-    1
+    if frames == 0 { came } else { 1 }
 }
 
 // Whether a frame came, and the last two votes with the unknown one 0 and 15.

@@ -1,4 +1,5 @@
 -- Nothing lost: a reading costs nothing exactly where `judge` finds no wrong digit in it. So what is promised of `judge` is promised of the answer that costs nothing.
+use Rattle.std.specs.Prelude.{Some}
 use mathlib.Core.Path.{◌≡◌, refl, sym, ◌∙◌, ap}
 use mathlib.Core.Bool.{Bool, cond, true, false, true≢false, not, ◌&&◌, ◌||◌}
 use mathlib.Core.List.{List, []}
@@ -14,7 +15,6 @@ use Rattle.digits.proofs.Laws.{digits-length}
 use Rattle.digits.proofs.Sums.{sum-zero, sum-all}
 use Rattle.table.specs.declared.Row.{Row}
 use Rattle.levels.specs.Table.{Shared}
-use Rattle.table.specs.declared.Level.TheVariants.{Of}
 use Rattle.table.specs.Table.{level_of}
 use Rattle.levels.specs.Sizes.{frames_of, bad_line, bad_buffer, quarter_of}
 use Rattle.levels.proofs.Judged.{unrefused, line-frames}
@@ -114,7 +114,7 @@ last_of : (a b : Bool) → not a || b ≡ false → b ≡ false
 last_of true b e = e
 last_of false b e = absurd (true≢false e)
 
-module _ (level : ℕ) (q : Question) (ok : JudgeAccepted level q) (row : Row) (e : level_of level ≡ Of row) (given : q.pattern ≡ 0) where
+module _ (level : ℕ) (q : Question) (ok : JudgeAccepted level q) (row : Row) (e : level_of level ≡ Some row) (given : q.pattern ≡ 0) where
   abbrev sh : Shared row
   sh = shared level row e
 
@@ -224,5 +224,5 @@ module _ (level : ℕ) (q : Question) (ok : JudgeAccepted level q) (row : Row) (
 -- so today's theorem is one on cost 0: the line that a right, a late or an early multiplexer made of what was sent, whatever demand 3 allows was damaged, costs nothing by the
 -- reading that goes with it
 pub made-free : (level : ℕ) (q : Question) (index : Index) (t : ℕ → List ℕ) (ok : JudgeAccepted level q) → q.pattern ≡ 0 → AllAsSent q.pattern q.buffer t
-    → MadeAt level index q.earlier t q.line → (row : Row) (e : level_of level ≡ Of row) (j : ℕ) → j < 4 → cost_told (by_index index (as_recording row level q) j) ≡ 0
+    → MadeAt level index q.earlier t q.line → (row : Row) (e : level_of level ≡ Some row) (j : ℕ) → j < 4 → cost_told (by_index index (as_recording row level q) j) ≡ 0
 made-free level q index t ok given sent made row e j hj = fits-free level q ok row e given j hj index (made-fits level q index t ok sent made j hj).none_wrong

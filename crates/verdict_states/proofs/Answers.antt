@@ -5,6 +5,7 @@ use Prim.Native.Nat.{ℕ}
 use contract.Lifetimes.{Lfts}
 use denote.Triple.Clauses.{AtExit}
 use borrow.Fn.World.{ArgsD, ResD}
+use Rattle.refusal.specs.Refusal.{refusal_in}
 use Rattle.verdict_states.specs.States.{FreshMet}
 use Rattle.verdict_states.specs.contracts.fresh.fresh.{signature, ended}
 use Rattle.verdict_states.proofs.fresh.fresh.Reads.{Asked, Learnt}
@@ -15,7 +16,7 @@ fresh-no-second-answer level earlier pattern r s made other p q = (p.0 ∙ sym q
 
 -- and what the call ensures is that statement
 pub fresh-met : (κs : Lfts 1) (a : ArgsD signature κs) (r : ResD signature κs) (e : AtExit ended κs) → Learnt κs a r e
-    → FreshMet a.0 a.1.0 a.1.1.0 r e.1.1.1.0.now
+    → FreshMet a.0 a.1.0 a.1.1.0 (refusal_in r) e.1.1.1.0.now
 fresh-met κs a r e met = met
 
 -- and it asks nothing of its caller

@@ -11,7 +11,7 @@ use native.Mathlib.Numerals.{add-one}
 use lib.Dec.{eqb, leb, ltb}
 use lib.ListN.{length, get_or, take, drop, length-drop, get_or-eq_default}
 use lib.Seq.{length-take-le}
-use borrow.Author.Tests.{leb-true, ltb-true, le-leb, lt-leb, eq-eqb, ne_eqb}
+use borrow.Author.Tests.{leb-true, ltb-true, eq-eqb, ne_eqb}
 use Rattle.digits.proofs.Tests.{and_both}
 use Rattle.slips.specs.Slips.{step_price, Room, Closed}
 use Rattle.verdict_blocks.specs.declared.standing.Standing.{Standing}
@@ -113,20 +113,6 @@ module _ (v : List ℕ) where
         }
 
 -- ---- what stands beside them
-
-pub moved-leb : (f r n : ℕ) → r ≤ n → leb f (n - r) ≡ leb (f + r) n
-moved-leb f r n h =
-    elim (dec_lt n (f + r)) [
-      | yes l ↦ rw (lt-leb (f + r) n l, lt-leb f (n - r) (omega arith))
-      | no l ↦ rw (le-leb (f + r) n (omega arith), le-leb f (n - r) (omega arith))
-    ]
-
-pub moved-eqb : (a b n : ℕ) → b ≤ a → eqb (a - b) n ≡ eqb a (n + b)
-moved-eqb a b n h =
-    elim (ℕ_discrete a (n + b)) [
-      | yes e ↦ rw (eq-eqb a (n + b) e, eq-eqb (a - b) n (omega (arith, e)))
-      | no far ↦ rw (ne_eqb a (n + b) far, ne_eqb (a - b) n (λ e. far (omega (arith, e))))
-    ]
 
 abbrev pub counts_well : Standing → Bool
 counts_well s = leb s.read 1152921504606846976 && leb (s.from + s.right) s.read

@@ -12,13 +12,7 @@ fn good_pair(a: u64, b: u64) -> bool
     requires { a ≤ 4611686018427387904 }
     ensures { result ≡ (leb b 4611686018427387904 && (leb b (a + step_price) && leb a (b + step_price))) }
 {
-    if 4611686018427387904 < b {
-        return false;
-    }
-    if a + 68719476737 < b {
-        return false;
-    }
-    a <= b + 68719476737
+    b <= 4611686018427387904 && b <= a + 68719476737 && a <= b + 68719476737
 }
 
 fn good_lanes(v: &[u64; 17]) -> bool
@@ -27,12 +21,10 @@ fn good_lanes(v: &[u64; 17]) -> bool
     if 4611686018427387904 < v[0] {
         return false;
     }
-    let mut k: usize = 0;
-    while k < 16 {
+    for k in 0..16 {
         if !good_pair(v[k], v[k + 1]) {
             return false;
         }
-        k += 1;
     }
     true
 }
@@ -42,13 +34,7 @@ fn good_follows(pattern: u64, s: Standing) -> bool
     requires { pattern ≤ 23 }
     ensures { result ≡ (ltb s.follows 64 && (eqb s.follows 0 || leb (pattern + s.follows) s.read)) }
 {
-    if 64 <= s.follows {
-        return false;
-    }
-    if s.follows == 0 {
-        return true;
-    }
-    pattern + s.follows <= s.read
+    s.follows < 64 && (s.follows == 0 || pattern + s.follows <= s.read)
 }
 
 // Where lane 0 and the pattern's window are.
@@ -57,74 +43,39 @@ fn good_places(s: Standing) -> bool
         ≡ (leb 1152921504606846976 s.low
         && (leb s.low 3458764513820540928 && (leb s.at 6917529027641081856 && ltb s.window (2 ^ 23)))) }
 {
-    if s.low < 1152921504606846976 {
-        return false;
-    }
-    if 3458764513820540928 < s.low {
-        return false;
-    }
-    if 6917529027641081856 < s.at {
-        return false;
-    }
-    s.window < 8388608
+    1152921504606846976 <= s.low
+        && s.low <= 3458764513820540928
+        && s.at <= 6917529027641081856
+        && s.window < 8388608
 }
 
 // Whether what was sent is known, with digits always.
 fn good_taken(pattern: u64, taken: u64) -> bool
     ensures { result ≡ (leb taken 1 && (eqb taken 1 || not (eqb pattern 0))) }
 {
-    if 1 < taken {
-        return false;
-    }
-    if taken == 1 {
-        return true;
-    }
-    pattern != 0
+    taken <= 1 && (taken == 1 || pattern != 0)
 }
 
 // How many digits there are.
 fn good_counts(s: Standing) -> bool
     ensures { result ≡ (leb s.read 1152921504606846976 && leb (s.from + s.right) s.read) }
 {
-    if 1152921504606846976 < s.read {
-        return false;
-    }
-    if s.read < s.right {
-        return false;
-    }
-    s.from <= s.read - s.right
+    s.read <= 1152921504606846976 && s.right <= s.read && s.from <= s.read - s.right
 }
 
+#[tactic(auto, unfolding(crate::specs::States::good_standing))]
 fn good_standing(pattern: u64, s: Standing) -> bool
     requires { pattern ≤ 23 }
     ensures { result ≡ good_standing pattern s }
 {
-    if !good_counts(s) {
-        return false;
-    }
-    if !good_taken(pattern, s.taken) {
-        return false;
-    }
-    if !good_places(s) {
-        return false;
-    }
-    good_follows(pattern, s)
+    good_counts(s) && good_taken(pattern, s.taken) && good_places(s) && good_follows(pattern, s)
 }
 
 // Whether a pattern that was taken up is held from lane 0's digit on. Without this a state could ask for more of its digits than anyone waits for.
 fn good_window(pattern: u64, s: Standing) -> bool
     ensures { result ≡ good_window pattern s }
 {
-    if pattern == 0 {
-        return true;
-    }
-    if s.taken == 0 {
-        return true;
-    }
-    if s.at < s.low {
-        return false;
-    }
-    s.at - s.low == s.read
+    pattern == 0 || s.taken == 0 || s.low <= s.at && s.at - s.low == s.read
 }
 
 fn good_block(block: &[u64], pattern: u64) -> bool
@@ -149,20 +100,17 @@ fn good_at(state: &[u64], b: usize, pattern: u64) -> bool
     ensures { result ≡ good_block pattern (block_at state.now b) }
 {
     let a = 11 + 42 * b;
-    let e = a + 42;
-    good_block(&state[a..e], pattern)
+    good_block(&state[a..a + 42], pattern)
 }
 
 fn good_blocks(state: &[u64], pattern: u64) -> bool
     requires { (length state.now ≡ 683) × (pattern ≤ 23) }
     ensures { result ≡ good_blocks pattern (block_at state.now) 16 }
 {
-    let mut b: usize = 0;
-    while b < 16 {
+    for b in 0..16 {
         if !good_at(state, b, pattern) {
             return false;
         }
-        b += 1;
     }
     true
 }
@@ -170,13 +118,7 @@ fn good_blocks(state: &[u64], pattern: u64) -> bool
 pub fn bad_pattern(pattern: u64) -> bool
     ensures { result ≡ bad_pattern pattern }
 {
-    if pattern == 0 {
-        return false;
-    }
-    if pattern == 15 {
-        return false;
-    }
-    pattern != 23
+    !matches!(pattern, 0 | 15 | 23)
 }
 
 // Few changes of each tributary's decision, from place 7 on.
@@ -184,16 +126,10 @@ fn few_changes(state: &[u64]) -> bool
     requires { length state.now ≡ 683 }
     ensures { result ≡ few_changes (λ (j : ℕ). get_or state.now (7 + j) 0) }
 {
-    if 4611686018427387904 < state[7] {
-        return false;
-    }
-    if 4611686018427387904 < state[8] {
-        return false;
-    }
-    if 4611686018427387904 < state[9] {
-        return false;
-    }
-    state[10] <= 4611686018427387904
+    state[7] <= 4611686018427387904
+        && state[8] <= 4611686018427387904
+        && state[9] <= 4611686018427387904
+        && state[10] <= 4611686018427387904
 }
 
 // The votes held, from place 3 on.
@@ -203,32 +139,15 @@ fn good_votes(state: &[u64]) -> bool
         ≡ (leb (get_or state.now 3 0) 15
         && (leb (get_or state.now 4 0) 15 && (leb (get_or state.now 5 0) 15 && leb (get_or state.now 6 0) 15))) }
 {
-    if 15 < state[3] {
-        return false;
-    }
-    if 15 < state[4] {
-        return false;
-    }
-    if 15 < state[5] {
-        return false;
-    }
-    state[6] <= 15
+    state[3] <= 15 && state[4] <= 15 && state[5] <= 15 && state[6] <= 15
 }
 
+#[tactic(auto, unfolding(crate::specs::States::good_head, crate::specs::States::state_from))]
 fn good_head(state: &[u64]) -> bool
     requires { length state.now ≡ 683 }
     ensures { result ≡ good_head (state_from state.now) }
 {
-    if bad_pattern(state[1]) {
-        return false;
-    }
-    if 1 < state[2] {
-        return false;
-    }
-    if !good_votes(state) {
-        return false;
-    }
-    few_changes(state)
+    !bad_pattern(state[1]) && state[2] <= 1 && good_votes(state) && few_changes(state)
 }
 
 // Whether a state is valid.
@@ -236,8 +155,5 @@ pub fn is_valid(state: &[u64]) -> bool
     requires { length state.now ≡ 683 }
     ensures { result ≡ is_valid (state_from state.now) }
 {
-    if !good_head(state) {
-        return false;
-    }
-    good_blocks(state, state[1])
+    good_head(state) && good_blocks(state, state[1])
 }

@@ -172,7 +172,6 @@ module _ (a b c d : List ℕ) (i : Next) (all : ℕ) (line₀ : List ℕ) (w₀ 
 -- the digits of n columns are read, and those before the last k₀ are sent: of these, eight at a time, k are still to come
 pub record Eights (a b c d : List ℕ) (n x y z t k₀ : ℕ) (line₀ : List ℕ) (w₀ : Writer) (line : List ℕ) (w : Writer) (k : ℕ) : Type 0 where
   pub to : k ≤ k₀
-  pub eights : k % 8 ≡ 0
   pub kept : length line ≡ length line₀
   pub done : (i : Next) → x ≡ window_at a i.a n → y ≡ window_at b i.b n → z ≡ window_at c i.c n → t ≡ window_at d i.d n
       → Appended line₀ line w₀ w (4 * (k₀ - k)) (woven (k₀ - k) a b c d (moved_on i (n - k₀)))
@@ -183,27 +182,26 @@ moved_twice i m n all e =
     rw (on i.a, on i.b, on i.c, on i.d)
 
 module _ (a b c d : List ℕ) (n x y z t k₀ : ℕ) (line₀ : List ℕ) (w₀ : Writer) where
-  pub eights-start : k₀ % 8 ≡ 0 → Ready w₀.fill w₀.held → Eights a b c d n x y z t k₀ line₀ w₀ line₀ w₀ k₀
+  pub eights-start : Ready w₀.fill w₀.held → Eights a b c d n x y z t k₀ line₀ w₀ line₀ w₀ k₀
   unfolding woven
-  eights-start e r =
+  eights-start r =
       let none : k₀ - k₀ ≡ 0 = omega arith in
-      record { to = omega arith; eights = e; kept = refl; done = λ i ex ey ez et. rw none (appended-none line₀ w₀ r) }
+      record { to = omega arith; kept = refl; done = λ i ex ey ez et. rw none (appended-none line₀ w₀ r) }
 
-  pub eights-more : Binary a → Binary b → Binary c → Binary d → (line line' : List ℕ) (w w' : Writer) (k : ℕ) → Eights a b c d n x y z t k₀ line₀ w₀ line w k → 0 < k → k₀ ≤ n
+  pub eights-more : Binary a → Binary b → Binary c → Binary d → (line line' : List ℕ) (w w' : Writer) (k rest : ℕ) → Eights a b c d n x y z t k₀ line₀ w₀ line w k → rest + 8 ≡ k → k₀ ≤ n
       → length line' ≡ length line
       → Appended line line' w w' 32
-      (written 32 (weave_of (x / 2 ^ (k - 8) % 2 ^ 8) (y / 2 ^ (k - 8) % 2 ^ 8) (z / 2 ^ (k - 8) % 2 ^ 8) (t / 2 ^ (k - 8) % 2 ^ 8)))
-      → Eights a b c d n x y z t k₀ line₀ w₀ line' w' (k - 8)
-  eights-more ba bb bc bd line line' w w' k s some most l more =
+      (written 32 (weave_of (x / 2 ^ rest % 2 ^ 8) (y / 2 ^ rest % 2 ^ 8) (z / 2 ^ rest % 2 ^ 8) (t / 2 ^ rest % 2 ^ 8)))
+      → Eights a b c d n x y z t k₀ line₀ w₀ line' w' rest
+  eights-more ba bb bc bd line line' w w' k rest s one most l more =
       record {
         to = omega (arith, s.to);
-        eights = omega (arith, s.eights);
         kept = l ∙ s.kept;
         done = λ i ex ey ez et.
-            let here : n - k + 8 + (k - 8) ≡ n = omega (arith, some, s.eights, s.to, most) in
-            woven-more a b c d (moved_on i (n - k₀)) (moved_on i (n - k)) (k₀ - k) 8 (k₀ - (k - 8)) line₀ line line' w₀ w w'
+            let here : n - k + 8 + rest ≡ n = omega (arith, one, s.to, most) in
+            woven-more a b c d (moved_on i (n - k₀)) (moved_on i (n - k)) (k₀ - k) 8 (k₀ - rest) line₀ line line' w₀ w w'
             (s.done i ex ey ez et) (moved_twice i (n - k₀) (k₀ - k) (n - k) (omega (arith, s.to, most)))
-            (rw (piece-woven a b c d ba bb bc bd i n x y z t ex ey ez et (n - k) (k - 8) here) at more) (omega (arith, some, s.eights, s.to));
+            (rw (piece-woven a b c d ba bb bc bd i n x y z t ex ey ez et (n - k) rest here) at more) (omega (arith, one, s.to));
       }
 
   pub eights-all : (line : List ℕ) (w : Writer) (k : ℕ) → Eights a b c d n x y z t k₀ line₀ w₀ line w k → k ≡ 0

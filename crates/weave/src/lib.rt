@@ -33,19 +33,12 @@ pub fn moved_on(i: Next, n: usize) -> Next
     }
 }
 
-fn place(x: u64) -> usize
-    ensures { result ≡ x }
-{
-    x as usize
-}
-
 // One entry of the table.
 pub fn spread(table: &[u32; 256], x: u64) -> u64
     requires { (table.now ≡ tab 256 0 (spread_of 8)) × (x < 256) }
     ensures { (result ≡ spread_of 8 x) × (15 * result < 2 ^ 32) }
 {
-    let i = place(x);
-    table[i] as u64
+    u64::from(table[x as usize])
 }
 
 // Eight columns from eight digits of each tributary; fewer columns from fewer digits.
@@ -171,10 +164,8 @@ fn send_wide(
         (woven columns (digits_of a.now) (digits_of b.now) (digits_of c.now) (digits_of d.now) i) }
 {
     let mut w = w0;
-    let mut k: usize = 0;
-    while k < columns {
+    for k in (0..columns).step_by(32) {
         w = send_many(table, line, a, b, c, d, w, moved_on(i, k));
-        k += 32;
     }
     w
 }
@@ -207,11 +198,9 @@ fn send_narrow(
     let z = words::read_digits(c, i.c, columns);
     let t = words::read_digits(d, i.d, columns);
     let first = columns % 8;
-    let mut k = columns - first;
-    let mut w = send_first(table, line, w0, x, y, z, t, k, first);
-    while 0 < k {
-        k -= 8;
-        w = send_eight(table, line, w, x, y, z, t, k);
+    let mut w = send_first(table, line, w0, x, y, z, t, columns - first, first);
+    for eight in (0..columns / 8).rev() {
+        w = send_eight(table, line, w, x, y, z, t, 8 * eight);
     }
     w
 }

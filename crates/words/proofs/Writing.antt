@@ -9,11 +9,16 @@ use lib.Seq.{sets, sets-eq, length-take-le, take_at, drop_at, take-take, take-ni
 use lib.Arith.{digits_lt}
 use lib.Bits.{bit_or, bit_and, or_shifted, and_mask, mask_lt}
 use lib.Pow.{pow-add, shl_exact}
+use borrow.Rule.Slice.PartMut.{put_mid}
 use Rattle.digits.specs.Digits.{digits_of, written}
 use Rattle.digits.proofs.Laws.{digits_append}
 use Rattle.digits.proofs.Written.{written-zero, written-mod, written-split, written-cat, byte-written}
 use Rattle.words.specs.declared.Writer.{Writer}
 use Rattle.words.specs.Words.{four, Ready, out_from, Appended, zeros_after, Finished}
+
+-- eight digits of a number, of which so many come after them
+abbrev byte : ℕ → ℕ → ℕ
+byte w k = w / 2 ^ k % 256
 
 pub four-written : (w : ℕ) → digits_of (four w) ≡ written 32 w
 unfolding digits_of
@@ -23,13 +28,21 @@ four-written w =
     ∙ rw (written-split 8 16 w, written-split 8 8 w, byte-written (w / 2 ^ 24), byte-written (w / 2 ^ 16), byte-written (w / 2 ^ 8), byte-written w)
     )
 
-pub stored-four : (l : List ℕ) (at out b₀ b₁ b₂ b₃ : ℕ) → b₀ ≡ out / 2 ^ 24 % 256 → b₁ ≡ out / 2 ^ 16 % 256 → b₂ ≡ out / 2 ^ 8 % 256 → b₃ ≡ out % 256
-    → set (set (set (set l at b₀) (at + 1) b₁) (at + 2) b₂) (at + 3) b₃ ≡ sets l at (four out)
-stored-four l at out b₀ b₁ b₂ b₃ e₀ e₁ e₂ e₃ =
-    let i₁ : at + 1 ≡ suc at = omega arith in
-    let i₂ : at + 2 ≡ suc (suc at) = omega arith in
-    let i₃ : at + 3 ≡ suc (suc (suc at)) = omega arith in
-    rw (e₀, e₁, e₂, e₃, i₁, i₂, i₃)
+-- the last 32 digits as four bytes
+pub four-bytes : (out : ℕ) → byte (bit_and out (2 ^ 32 - 1)) 24 ∷ byte (bit_and out (2 ^ 32 - 1)) 16 ∷ byte (bit_and out (2 ^ 32 - 1)) 8 ∷ bit_and out (2 ^ 32 - 1) % 256 ∷ [] ≡ four out
+four-bytes out =
+    let e₀ : byte (out % 2 ^ 32) 24 ≡ byte out 24 = omega arith in
+    let e₁ : byte (out % 2 ^ 32) 16 ≡ byte out 16 = omega arith in
+    let e₂ : byte (out % 2 ^ 32) 8 ≡ byte out 8 = omega arith in
+    let e₃ : out % 2 ^ 32 % 256 ≡ out % 256 = omega arith in
+    rw (and_mask out 32, e₀, e₁, e₂, e₃)
+
+-- bytes copied into a part of a slice
+pub stored-part : (l bytes vs : List ℕ) (at k : ℕ) → at + k ≤ length l → k ≡ length vs → bytes ≡ vs → put_mid at (at + k - at) l bytes ≡ sets l at vs
+stored-part l bytes vs at k room e b =
+    let n : at + k - at ≡ length vs = omega (arith, e) in
+    rw (n, b, drop-drop (length vs) at l)
+    (sym (sets-eq vs l at (omega (arith, e)) ∙ append_assoc (take at l) vs (drop (at + length vs) l)))
 
 -- all that a writer does: it stores bytes, and holds what is left. The digits stored and held are those held before, then the new ones
 module _ (old : List ℕ) (w r : Writer) (bs : List ℕ) (n : ℕ) (ds : List ℕ) (room : w.at + length bs ≤ length old) where

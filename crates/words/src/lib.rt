@@ -18,20 +18,12 @@ pub struct Writer {
     pub fill: usize,
 }
 
-// One byte more.
-fn join(hi: u64, b: u8) -> u64
-    requires { hi < 2 ^ 56 }
-    ensures { result ≡ hi * 256 + b }
-{
-    (hi << 8) | b as u64
-}
-
-// The 32 digits of four bytes as a number. Joined by shifts and `|`, the four loads become one.
+// The 32 digits of four bytes as a number.
 pub fn load4(s: &[u8], at: usize) -> u64
     requires { at + 4 ≤ length s.now }
     ensures { (result ≡ window_at (digits_of s.now) (8 * at) 32) × (result < 2 ^ 32) }
 {
-    join(join(join(s[at] as u64, s[at + 1]), s[at + 2]), s[at + 3])
+    u64::from(u32::from_be_bytes([s[at], s[at + 1], s[at + 2], s[at + 3]]))
 }
 
 // The 64 digits of eight bytes.
@@ -48,10 +40,8 @@ fn read_short(s: &[u8], p: usize, n: usize) -> u64
     ensures { (result ≡ window_at (digits_of s.now) p n) × (result < 2 ^ n) }
 {
     let mut r: u64 = 0;
-    let mut k: usize = 0;
-    while k < n {
+    for k in 0..n {
         r = r * 2 + digits::digit_at(s, p + k) as u64;
-        k += 1;
     }
     r
 }
@@ -62,10 +52,7 @@ fn load_from(bytes: usize, p: usize) -> usize
     requires { 8 ≤ bytes }
     ensures { (result + 8 ≤ bytes) × (8 * result ≤ p) × ((n : ℕ) → n ≤ 32 → p + n ≤ 8 * bytes → p + n ≤ 8 * result + 64) }
 {
-    if p / 8 + 8 <= bytes {
-        return p / 8;
-    }
-    bytes - 8
+    (p / 8).min(bytes - 8)
 }
 
 // n digits from place p on, at most 32, as a number: the last of them is worth 1. The slice may have any length.
@@ -88,9 +75,10 @@ pub fn read_word(s: &[u8], p: usize) -> u64
     let at = p / 8;
     let k = p % 8;
     if k == 0 {
-        return load8(s, at);
+        load8(s, at)
+    } else {
+        (load8(s, at) << k) | ((s[at + 8] as u64) >> (8 - k))
     }
-    (load8(s, at) << k) | ((s[at + 8] as u64) >> (8 - k))
 }
 
 // n digits from place p on, at most 64.
@@ -99,10 +87,11 @@ pub fn read_wide(s: &[u8], p: usize, n: usize) -> u64
     ensures { result ≡ window_at (digits_of s.now) p n }
 {
     if n <= 32 {
-        return read_digits(s, p, n);
+        read_digits(s, p, n)
+    } else {
+        let m = n - 32;
+        (read_digits(s, p, m) << 32) | read_digits(s, p + m, 32)
     }
-    let m = n - 32;
-    (read_digits(s, p, m) << 32) | read_digits(s, p + m, 32)
 }
 
 // The last eight digits.
@@ -117,10 +106,8 @@ pub fn store4(s: &mut [u8], at: usize, out: u64)
     requires { at + 4 ≤ length s.old }
     ensures { s.new ≡ sets s.old at (four out) }
 {
-    s[at] = low_byte(out >> 24);
-    s[at + 1] = low_byte(out >> 16);
-    s[at + 2] = low_byte(out >> 8);
-    s[at + 3] = low_byte(out);
+    let bytes = ((out & 0xFFFF_FFFF) as u32).to_be_bytes();
+    s[at..at + 4].copy_from_slice(&bytes);
 }
 
 // n ones.
@@ -187,8 +174,5 @@ pub fn at_most(n: usize, most: usize) -> usize
     requires { (0 < n) × (0 < most) }
     ensures { (result ≤ n) × (result ≤ most) × (0 < result) }
 {
-    if n < most {
-        return n;
-    }
-    most
+    n.min(most)
 }

@@ -6,7 +6,7 @@ use borrow.Fn.World.{ArgsD, ResD}
 use mathlib.Core.Path.{◌≡◌, sym, ◌∙◌}
 use mathlib.Core.List.{List}
 use Prim.Native.Nat.{ℕ}
-use Rattle.levels.specs.declared.faults.Counted.{Counted}
+use Rattle.levels.specs.Faults.{Counted, numbers_of}
 use Rattle.workbench.specs.Bench.{LateLineMet, DelayMet}
 use Rattle.workbench.specs.contracts.late_line as late_line
 use Rattle.workbench.proofs.late_line.Reads as late_line-reads
@@ -18,7 +18,7 @@ pub late-line-once : (level earlier : ℕ) (line said notes late buffer : List �
 late-line-once level earlier line said notes late buffer a b k l m n x y = (x.0 ∙ sym y.0, x.1 ∙ sym y.1, x.2 ∙ sym y.2)
 
 pub late-line-met : (κs : Lfts 5) (a : ArgsD late_line.signature κs) (r : ResD late_line.signature κs) (e : AtExit late_line.ended κs) → late_line-reads.Learnt κs a r e
-    → LateLineMet a.0 a.1.0 a.1.1.0.now a.1.1.1.0.now a.1.1.1.1.0.now a.1.1.1.1.1.0.now a.1.1.1.1.1.1.0.now r
+    → LateLineMet a.0 a.1.0 a.1.1.0.now a.1.1.1.0.now a.1.1.1.1.0.now a.1.1.1.1.1.0.now a.1.1.1.1.1.1.0.now (numbers_of r)
     e.1.1.1.0.now e.1.1.0.now
 late-line-met κs a r e met = met
 

@@ -4,19 +4,13 @@ use mathlib.Core.Bool.{true, false}
 use mathlib.Core.List.{List}
 use Prim.Native.Nat.{ℕ, ◌+◌, ◌*◌, ◌%◌, ◌≤◌, ◌<◌}
 use native.Mathlib.Omega.{arith}
-use native.Mathlib.Nat.{mod-lt}
 use native.Mathlib.Decide.{ℕ_discrete}
 use lib.ListN.{length, get_or, set}
 use Rattle.digits.specs.Digits.{digits_of}
 use Rattle.digits.proofs.Laws.{put_same, put_other}
 use Rattle.table.specs.declared.Row.{Row}
-use Rattle.levels.specs.Table.{Shared}
 use Rattle.levels.specs.Places.{kind_at}
 use Rattle.workbench.specs.Bench.{is_control, mixed}
-
--- a place of a line stands somewhere in a frame
-pub in-a-frame : (row : Row) → Shared row → (p : ℕ) → p % row.digits < row.digits
-in-a-frame row sh p = mod-lt p (omega (arith, sh.counted, sh.later_set))
 
 module _ (row : Row) (said : List ℕ) where
   pub mixed-said : (line : List ℕ) (p d : ℕ) → is_control (kind_at row (p % row.digits)) ≡ true → d ≡ get_or said p 0 → d ≡ mixed row said line p

@@ -1,9 +1,8 @@
 -- The delay of the notes: after f turns the first f are delayed, the others are as they were, and the note last seen is that of frame
 -- f - 1, or the one before all.
 use mathlib.Core.Path.{◌≡◌, refl, sym, ◌∙◌}
-use mathlib.Core.Logic.{◌⊎◌, ⊎_elim}
 use mathlib.Core.List.{List, ◌∷◌}
-use Prim.Native.Nat.{ℕ, ◌+◌, ◌≤◌, ◌<◌}
+use Prim.Native.Nat.{ℕ, ◌+◌, min, ◌≤◌, ◌<◌}
 use native.Mathlib.Omega.{arith}
 use native.Mathlib.Numerals.{add-one}
 use native.Mathlib.Decide.{dec_lt, ℕ_discrete}
@@ -31,12 +30,6 @@ module _ (before : ℕ) (notes old : List ℕ) where
     pub done : (k : ℕ) → k < f → get_or new k 0 ≡ delayed before notes old k
     pub ahead : (k : ℕ) → f ≤ k → get_or new k 0 ≡ get_or old k 0
 
-  pub delaying-start : Delaying 0 before old
-  delaying-start = record { seen = refl; within = omega arith; same = refl; done = λ k h. absurd (over k h); ahead = λ k h. refl }
-    where
-      over : (k : ℕ) → k < 0 → ⊥
-      over k h = omega arith
-
   pub delaying-more : (f last note : ℕ) (new : List ℕ) → Delaying f last new → f < length notes → f < length old → note ≡ decided_by last (get_or notes f 0)
       → Delaying (f + 1) (get_or notes f 0) (set new f note)
   delaying-more f last note new d h ho e =
@@ -61,15 +54,13 @@ module _ (before : ℕ) (notes old : List ℕ) where
             | no other ↦ get_or-set_other new f k note 0 other ∙ d.done k (omega arith)
           ]
 
-  -- the end: of the late notes, or of the notes
-  pub delaying-end : (f last : ℕ) (new : List ℕ) → Delaying f last new → (length old ≤ f) ⊎ (length notes ≤ f) → new ≡ tab (length old) 0 (delayed before notes old)
+  -- the end: of the late notes or of the notes, whichever comes first
+  pub delaying-end : (f last : ℕ) (new : List ℕ) → Delaying f last new → min (length old) (length notes) ≤ f → new ≡ tab (length old) 0 (delayed before notes old)
   delaying-end f last new d at = tab-of new (length old) (delayed before notes old) d.same place
     where
       place : (k : ℕ) → k < length old → get_or new k 0 ≡ delayed before notes old k
       place k hk =
           elim (dec_lt k f) [
             | yes h ↦ d.done k h
-            | no n ↦
-                let past : length notes ≤ k = ⊎_elim (λ (e : length old ≤ f). omega arith) (λ (e : length notes ≤ f). omega arith) at in
-                d.ahead k (omega arith) ∙ sym (delayed-past k past)
+            | no n ↦ d.ahead k (omega arith) ∙ sym (delayed-past k (omega arith))
           ]

@@ -1,5 +1,6 @@
 -- The late multiplexer's line as bytes: the places that are mixed make the mixed line; a refused call leaves the line as it was, and an
 -- accepted one has a line short enough to walk.
+use Rattle.std.specs.Prelude.{Option, Some, None}
 use mathlib.Core.Path.{◌≡◌, refl, sym, ◌∙◌}
 use mathlib.Core.Bool.{cond}
 use mathlib.Core.List.{List}
@@ -13,14 +14,12 @@ use borrow.Author.Tests.{eq-eqb, ne_eqb}
 use Rattle.digits.specs.Digits.{digits_of, Bytes}
 use Rattle.digits.proofs.Laws.{bytes-by-place}
 use Rattle.table.specs.declared.Row.{Row}
-use Rattle.table.specs.declared.Level.{Level}
-use Rattle.table.specs.declared.Level.TheVariants.{Of, NoSuchLevel}
 use Rattle.table.specs.Table.{level_of}
 use Rattle.levels.specs.Table.{Shared}
 use Rattle.levels.specs.Sizes.{on_level}
 use Rattle.levels.proofs.Refusals.{faultless, send-faultless}
 use Rattle.levels.proofs.Rows.{shared-row}
-use Rattle.levels.specs.declared.faults.Counted.{Counted}
+use Rattle.levels.specs.Faults.{Counted}
 use Rattle.levels.specs.Faults.{fault, send_fault_of, refused_with, send_answer_on, send_answered}
 use Rattle.multiplex.specs.Multiplex.{line_on, line_after}
 use Rattle.workbench.specs.Bench.{mixed, mixed_line, late_line}
@@ -53,13 +52,13 @@ answer-number row earlier line notes buffer =
 
 -- the cases of a call, a level's row or no such level: its answer's number is 0 or it is not
 module _ (earlier : ℕ) (line said notes late buffer : List ℕ) where
-  abbrev number : Level → ℕ
+  abbrev number : Option Row → ℕ
   number l = (on_level l (λ (row : Row). send_answer_on row earlier (length line) late (length buffer)) (refused_with (fault 1 0))).refusal
 
-  abbrev after : Level → List ℕ → List ℕ → List ℕ
+  abbrev after : Option Row → List ℕ → List ℕ → List ℕ
   after l xs ns = on_level l (λ (row : Row). line_on row earlier xs ns buffer) xs
 
-  abbrev Ends : Level → List ℕ → Type 0
+  abbrev Ends : Option Row → List ℕ → Type 0
   Ends l end =
       end
       ≡ on_level l
@@ -68,20 +67,20 @@ module _ (earlier : ℕ) (line said notes late buffer : List ℕ) where
       (mixed_line row (line_on row earlier said notes buffer) (line_on row earlier line late buffer)) line)
       line
 
-  refused-ends : (l : Level) → (number l ≡ 0 → ⊥) → Ends l (after l line late)
-  refused-ends (Of row) n =
+  refused-ends : (l : Option Row) → (number l ≡ 0 → ⊥) → Ends l (after l line late)
+  refused-ends (Some row) n =
       rw (ne_eqb (send_fault_of row earlier (length line) late (length buffer)).refusal 0 (λ z. n (answer-number row earlier (length line) late (length buffer) ∙ z))) refl
-  refused-ends NoSuchLevel n = refl
+  refused-ends None n = refl
 
-  sent-ends : (l : Level) → number l ≡ 0 → Ends l (on_level l (λ (row : Row). mixed_line row (after l said notes) (after l line late)) (after l line late))
-  sent-ends (Of row) e =
+  sent-ends : (l : Option Row) → number l ≡ 0 → Ends l (on_level l (λ (row : Row). mixed_line row (after l said notes) (after l line late)) (after l line late))
+  sent-ends (Some row) e =
       rw (eq-eqb (send_fault_of row earlier (length line) late (length buffer)).refusal 0 (sym (answer-number row earlier (length line) late (length buffer)) ∙ e)) refl
-  sent-ends NoSuchLevel e = refl
+  sent-ends None e = refl
 
-  sent-short : (l : Level) → ((row : Row) → l ≡ Of row → Shared row) → number l ≡ 0 → length line ≤ 65536
-  sent-short (Of row) known e =
+  sent-short : (l : Option Row) → ((row : Row) → l ≡ Some row → Shared row) → number l ≡ 0 → length line ≤ 65536
+  sent-short (Some row) known e =
       accepted-short row (known row refl) earlier (length line) late (length buffer) (sym (answer-number row earlier (length line) late (length buffer)) ∙ e)
-  sent-short NoSuchLevel known e = omega arith
+  sent-short None known e = omega arith
 
   -- the same of a level's number, and of what the call answered and left
   module _ (level : ℕ) (r : Counted) (is : r ≡ send_answered level earlier (length line) late (length buffer)) where

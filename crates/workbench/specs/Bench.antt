@@ -7,7 +7,7 @@ use Rattle.levels.specs.declared.places.Kind.TheVariants.{Word, Service, Control
 use Rattle.levels.specs.Places.{kind_at}
 use Rattle.table.specs.Table.{level_of}
 use Rattle.levels.specs.Sizes.{on_level}
-use Rattle.levels.specs.declared.faults.Counted.{Counted}
+use Rattle.levels.specs.Faults.{Counted}
 use Rattle.levels.specs.Faults.{send_fault_of, send_answered, left_by}
 use Rattle.multiplex.specs.Multiplex.{line_on, line_after}
 

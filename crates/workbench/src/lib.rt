@@ -7,24 +7,19 @@ ghost use Rattle.digits.specs.Digits.{digits_of};
 ghost use Rattle.table.specs.Table.{level_of};
 ghost use Rattle.levels.specs.Table.{Shared};
 ghost use Rattle.levels.specs.Sizes.{on_level};
+ghost use Rattle.levels.specs.Faults.{numbers_of};
 ghost use Rattle.workbench.specs.Bench.{is_control, mixed, mixed_line, LateLineMet, decided_by, DelayMet};
 
 use digits::digit_or_zero;
-use levels::faults::Counted;
+use levels::faults::Refused;
 use levels::places;
 use levels::places::{FramePlace, Kind};
-use table::{Level, Row};
+use table::Row;
 
 fn is_control(kind: Kind) -> bool
     ensures { result ≡ is_control kind }
 {
-    match kind {
-        Kind::Word => false,
-        Kind::Service(_) => false,
-        Kind::Control => true,
-        Kind::Justification(_) => false,
-        Kind::Tributary => false,
-    }
+    matches!(kind, Kind::Control)
 }
 
 // The digit that a late multiplexer has at place p: a control digit of the line that says the decisions, any other of the line that acts.
@@ -34,9 +29,10 @@ fn late_digit(row: Row, said: &[u8], line: &[u8], p: usize) -> u8
 {
     let kind = places::kind_at(row, FramePlace(p % row.digits));
     if is_control(kind) {
-        return digit_or_zero(said, p);
+        digit_or_zero(said, p)
+    } else {
+        digit_or_zero(line, p)
     }
-    digit_or_zero(line, p)
 }
 
 // Every control digit of the line becomes that of `said`; every other digit stays.
@@ -44,12 +40,9 @@ fn say_controls(row: Row, line: &mut [u8], said: &[u8])
     requires { Shared row × (length line.old ≤ 65536) }
     ensures { line.new ≡ mixed_line row said.now line.old }
 {
-    let n = 8 * line.len();
-    let mut p: usize = 0;
-    while p < n {
+    for p in 0..8 * line.len() {
         let d = late_digit(row, said, line, p);
         digits::put_digit(line, p, d);
-        p += 1;
     }
 }
 
@@ -60,8 +53,8 @@ fn say_controls_at(level: u64, line: &mut [u8], said: &[u8])
 {
     let found = table::level_of(level);
     match found {
-        Level::Of(row) => say_controls(row, line, said),
-        Level::NoSuchLevel => {}
+        Some(row) => say_controls(row, line, said),
+        None => {}
     }
 }
 
@@ -76,17 +69,14 @@ pub fn late_line(
     notes: &[u8],
     late: &[u8],
     buffer: &[u8],
-) -> Counted
+) -> Result<[usize; 4], Refused>
     ensures { LateLineMet level earlier line.old said.old notes.now late.now buffer.now
-        result said.new line.new }
+        (numbers_of result) said.new line.new }
 {
-    multiplex::multiplex(level, earlier, said, notes, buffer);
-    let r = multiplex::multiplex(level, earlier, line, late, buffer);
-    if r.refusal != 0 {
-        return r;
-    }
+    let _right = multiplex::multiplex(level, earlier, said, notes, buffer);
+    let counts = multiplex::multiplex(level, earlier, line, late, buffer)?;
     say_controls_at(level, line, said);
-    r
+    Ok(counts)
 }
 
 // The decisions of one note and the service digits of another.
@@ -101,13 +91,8 @@ pub fn delay(late: &mut [u8], notes: &[u8], before: u8)
     ensures { DelayMet late.old notes.now before late.new }
 {
     let mut last = before;
-    let mut f: usize = 0;
-    while f < late.len() {
-        if notes.len() <= f {
-            return;
-        }
+    for f in 0..late.len().min(notes.len()) {
         late[f] = decided_by(last, notes[f]);
         last = notes[f];
-        f += 1;
     }
 }

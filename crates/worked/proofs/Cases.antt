@@ -1,5 +1,6 @@
 -- The worked cases hold: one theorem over each table. A frame without digits is computed; zeros, however many, make the same line, and so
 -- multiplexing leaves it.
+use Rattle.std.specs.Prelude.{Some}
 use mathlib.Core.Path.{◌≡◌, refl, ◌∙◌, ap}
 use mathlib.Core.Bool.{false}
 use mathlib.Core.List.{List, [], ◌∷◌}
@@ -15,7 +16,6 @@ use Rattle.digits.specs.Digits.{bytes_of, tab, digits_of}
 use Rattle.digits.proofs.Laws.{digit_at, tab-of, tab-at, tab-length, zeros-at}
 use Rattle.digits.specs.Sums.{sum_to}
 use Rattle.table.specs.declared.Row.{Row}
-use Rattle.table.specs.declared.Level.TheVariants.{Of}
 use Rattle.table.specs.Table.{level_of, row2, row3, row4, row12, row14}
 use Rattle.levels.specs.Places.{first_set, middle_set, last_set, kind_of, pos_of}
 use Rattle.levels.specs.Order.{action_of, actions, carries, before, places_of, count_of, counts_of}
@@ -53,7 +53,7 @@ zero-quarters row earlier notes tributary bytes zero-at =
     (λ p h. tab-at n 0 f p h ∙ rw (zero-add p, zero-at (p % 4) (before row (actions row earlier notes (p % 4)) (p % 4) (p / 4)))))
 
 -- so a frame that computes, of a note that the level has, is what the call makes
-sent-frame : (level earlier : ℕ) (row : Row) → level_of level ≡ Of row → (note : ℕ) (bytes counts : List ℕ)
+sent-frame : (level earlier : ℕ) (row : Row) → level_of level ≡ Some row → (note : ℕ) (bytes counts : List ℕ)
     → row.bytes % row.bytes ≡ 0 → row.bytes / row.bytes ≡ 1 → bad_earlier row earlier ≡ false → first_with (overfull row) (note ∷ []) ≡ 1
     → first_with (unset row) (note ∷ []) ≡ 1
     → line_of row earlier (note ∷ []) (λ (j : ℕ). []) row.bytes ≡ bytes → counts_of row earlier (note ∷ []) 1 ≡ counts

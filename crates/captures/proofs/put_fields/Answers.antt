@@ -33,8 +33,8 @@ returns-then-labelled c =
           two.ensures.1 two.result (omega (arith, two.ensures.0, one.ensures.0)) _ three.ensures.1,
     )
 
-pub returns : goal.returns
-returns c =
+pub returns-else-labelled : goal.returns-else-labelled
+returns-else-labelled c =
     let a = c.args in
     let one = c.put_field-first in
     let two = c.put_field-second in

@@ -9,7 +9,7 @@ pub returns-then-n-eq0 : goal.returns-then-n-eq0
 unfolding written
 returns-then-n-eq0 c = rw c.if-n-eq0.true (refl, omega arith)
 
-pub returns : goal.returns
-returns c =
+pub returns-else-n-eq0 : goal.returns-else-n-eq0
+returns-else-n-eq0 c =
     let r = c.read_digits.ensures in
     (word_read _ c.args.byte _ c.args.p c.args.n _ refl c.requires.0 r.0, r.1)

@@ -17,4 +17,4 @@ pub total-all-requires : goal.total-all-requires
 total-all-requires c = sums-few _ _ _ (8 * length c.args.one.now) _ (omega (arith, c.requires.short)) c.count_frames.ensures
 
 pub returns : goal.returns
-returns c = finished _ _ _ _ _ _ _ (whole-counted _ _ _ c.requires _ _ _ c.count_frames.ensures c.total-all.ensures c.list_lines.ensures) c.at_most.ensures
+returns c = finished _ _ _ _ _ _ _ (whole-counted _ _ _ c.requires _ _ _ c.count_frames.ensures c.total-all.ensures c.list_lines.ensures) c.min.ensures

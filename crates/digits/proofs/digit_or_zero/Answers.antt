@@ -6,7 +6,7 @@ use Rattle.digits.specs.Digits.{digits_of}
 use Rattle.digits.proofs.Laws.{digits-length}
 use Rattle.digits.proofs.digit_or_zero.Goals as goal
 
-pub returns-then-s-p : goal.returns-then-s-p
-returns-then-s-p c =
+pub returns-else-p-s : goal.returns-else-p-s
+returns-else-p-s c =
     let s = c.args.s.now in
     (sym (get_or-eq_default (digits_of s) 0 (omega (arith, digits-length s))), omega arith)

@@ -4,14 +4,14 @@ use Rattle.levels.proofs.Rows.{shared-row}
 use Rattle.extraction.proofs.extract.Goals as goal
 
 pub extract_on-requires : goal.extract_on-requires
-extract_on-requires c = shared-row _ _ (sym c.level_of-found.ensures ∙ c.in-Of.is)
+extract_on-requires c = shared-row _ _ (sym c.level_of-found.ensures ∙ c.in-Some.is)
 
-pub returns-in-Of : goal.returns-in-Of
-returns-in-Of c =
-    let e = sym c.level_of-found.ensures ∙ c.in-Of.is in
+pub returns-in-Some : goal.returns-in-Some
+returns-in-Some c =
+    let e = sym c.level_of-found.ensures ∙ c.in-Some.is in
     rw e c.extract_on.ensures
 
-pub returns-in-NoSuchLevel : goal.returns-in-NoSuchLevel
-returns-in-NoSuchLevel c =
-    let e = sym c.level_of-found.ensures ∙ c.in-NoSuchLevel.is in
-    rw e (c.refused.ensures, refl)
+pub returns-in-None : goal.returns-in-None
+returns-in-None c =
+    let e = sym c.level_of-found.ensures ∙ c.in-None.is in
+    rw (e, c.from.ensures) (refl, refl)

@@ -12,7 +12,7 @@ use Rattle.heads.proofs.Placing.{placed-idle, placed-none, placed-more, first-id
 use Rattle.heads.proofs.first_column.Goals as goal
 
 pub loop-j-init : goal.loop-j-init
-loop-j-init c = (omega arith, omega arith, λ acts buffer next. placed-none _ _ acts 0 _ buffer next)
+loop-j-init c = (omega arith, λ acts buffer next. placed-none _ _ acts 0 _ buffer next)
 
 pub overflow_add-place : goal.overflow_add-place
 unfolding head_end
@@ -25,7 +25,7 @@ kind_of-kind-requires c = c.requires.0
 pub overflow_mul-word : goal.overflow_mul-word
 overflow_mul-word c =
     let l = c.loop-j in
-    omega (arith, l.invariant.1, pow_mono {i = l.j} {j = 4} l.invariant.0)
+    omega (arith, l.invariant.0, pow_mono {i = l.j} {j = 4} (omega arith))
 
 pub idle_digit-requires : goal.idle_digit-requires
 idle_digit-requires c = (c.requires.0, c.loop-j-test.true, λ e. word-within _ 0 _ (sym c.kind_of-kind.ensures ∙ e))
@@ -33,10 +33,7 @@ idle_digit-requires c = (c.requires.0, c.loop-j-test.true, λ e. word-within _ 0
 pub overflow_add-word : goal.overflow_add-word
 overflow_add-word c =
     let l = c.loop-j in
-    omega (arith, l.invariant.1, c.idle_digit.ensures.1, pow_mono {i = l.j} {j = 4} l.invariant.0)
-
-pub loop-j-smaller : goal.loop-j-smaller
-loop-j-smaller c = omega (arith, c.loop-j-test.true)
+    omega (arith, l.invariant.0, c.idle_digit.ensures.1, pow_mono {i = l.j} {j = 4} (omega arith))
 
 pub loop-j-preserved : goal.loop-j-preserved
 loop-j-preserved c =
@@ -46,15 +43,14 @@ loop-j-preserved c =
     let d = c.idle_digit.ensures in
     let idle = rw c.kind_of-kind.ensures at d.0 in
     let none : (act : Action) → _ = first-idle row c.requires.0 (r + l.j) (omega (arith, c.loop-j-test.true, c.requires.1)) in (
-      omega (arith, c.loop-j-test.true),
-      window_more l.j l.word _ l.invariant.1 d.1,
+      window_more l.j l.word _ l.invariant.0 d.1,
       λ acts buffer next.
-          placed-more row c.args.note acts 0 r buffer next l.j l.word next (l.invariant.2 acts buffer next) c.loop-j-test.true _ next
+          placed-more row c.args.note acts 0 r buffer next l.j l.word next (l.invariant.1 acts buffer next) c.loop-j-test.true _ next
           (placed-idle row c.args.note (acts l.j) _ l.j (r + l.j) buffer next _ (none (acts l.j)) idle d.1),
     )
 
 pub returns : goal.returns
 returns c acts buffer next =
     let l = c.loop-j in
-    let end : l.j ≡ 4 = omega (arith, l.invariant.0, c.loop-j-test.false) in
-    rw (← end) (l.invariant.2 acts buffer next)
+    let end : l.j ≡ 4 = omega arith in
+    rw (← end) (l.invariant.1 acts buffer next)

@@ -35,7 +35,7 @@ pub idle_digit-requires : goal.idle_digit-requires
 idle_digit-requires c =
     (c.requires.0, c.requires.3, c.requires.4)
 
-pub returns : goal.returns
-returns c =
+pub returns-else-carries_digit : goal.returns-else-carries_digit
+returns-else-carries_digit c =
     let d = c.idle_digit.ensures in
     placed-idle _ _ _ _ _ _ _ _ _ (sym c.carries_digit.ensures ∙ c.if-carries_digit.false) d.0 d.1

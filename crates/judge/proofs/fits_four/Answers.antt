@@ -2,4 +2,4 @@
 use Rattle.judge.proofs.fits_four.Goals as goal
 
 pub returns : goal.returns
-returns c = rw (c.fits_of-a.ensures, c.fits_of-b.ensures, c.fits_of-c.ensures, c.fits_of-d.ensures)
+returns c = rw (c.fits_of.ensures, c.fits_of-2.ensures, c.fits_of-3.ensures, c.fits_of-4.ensures)

@@ -3,9 +3,6 @@ use native.Mathlib.Omega.{arith}
 use Rattle.judge.specs.Verdict.{fitting}
 use Rattle.judge.proofs.fits_of.Goals as goal
 
-pub overflow_add-result : goal.overflow_add-result
-overflow_add-result c = omega (arith, c.worth.ensures.1, c.worth-2.ensures.1)
-
 pub overflow_add-result-2 : goal.overflow_add-result-2
 overflow_add-result-2 c = omega (arith, c.worth.ensures.1, c.worth-2.ensures.1, c.worth-3.ensures.1)
 

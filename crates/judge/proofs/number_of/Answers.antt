@@ -37,9 +37,9 @@ returns-then-bad_earlier c =
     let sent-passed : let a = c.args in (eqb a.pattern 0 && bad_buffer a.row a.line a.buffer) ≡ false = sym c.bad_sent.ensures ∙ c.if-bad_sent.false in
     rw (pattern-passed, line-passed, sent-passed, sym c.bad_earlier.ensures ∙ c.if-bad_earlier.true)
 
-pub returns : goal.returns
+pub returns-else-bad_earlier : goal.returns-else-bad_earlier
 unfolding number_of
-returns c =
+returns-else-bad_earlier c =
     let pattern-passed : bad_pattern c.args.pattern ≡ false = sym c.bad_pattern.ensures ∙ c.if-bad_pattern.false in
     let line-passed : let a = c.args in bad_line a.row a.line ≡ false = sym c.bad_line.ensures ∙ c.if-bad_line.false in
     let sent-passed : let a = c.args in (eqb a.pattern 0 && bad_buffer a.row a.line a.buffer) ≡ false = sym c.bad_sent.ensures ∙ c.if-bad_sent.false in

@@ -5,5 +5,5 @@ use Rattle.line_reader.proofs.line_digit.Goals as goal
 pub returns-then-s : goal.returns-then-s
 returns-then-s c = rw (← c.step_at-s.ensures, c.if-s.true)
 
-pub returns : goal.returns
-returns c = rw (← c.step_at-s.ensures, c.if-s.false)
+pub returns-else-s : goal.returns-else-s
+returns-else-s c = rw (← c.step_at-s.ensures, c.if-s.false)

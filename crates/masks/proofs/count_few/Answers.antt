@@ -13,5 +13,5 @@ returns-then-k-eq1 c = rw c.if-k-eq1.true c.count_column.ensures
 pub count_columns-requires : goal.count_columns-requires
 count_columns-requires c = c.requires
 
-pub returns : goal.returns
-returns c = c.count_columns.ensures
+pub returns-else-k-eq1 : goal.returns-else-k-eq1
+returns-else-k-eq1 c = c.count_columns.ensures

@@ -7,6 +7,6 @@ pub returns-then-is_hunting : goal.returns-then-is_hunting
 unfolding asks
 returns-then-is_hunting c = rw (sym c.is_hunting.ensures ∙ c.if-is_hunting.true)
 
-pub returns : goal.returns
+pub returns-else-is_hunting : goal.returns-else-is_hunting
 unfolding asks
-returns c = rw (sym c.is_hunting.ensures ∙ c.if-is_hunting.false)
+returns-else-is_hunting c = rw (sym c.is_hunting.ensures ∙ c.if-is_hunting.false)

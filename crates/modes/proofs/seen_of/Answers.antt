@@ -7,6 +7,6 @@ pub returns-then-seen-row : goal.returns-then-seen-row
 unfolding seen_of
 returns-then-seen-row c = rw (lt-ltb _ _ c.if-seen-row.true)
 
-pub returns : goal.returns
+pub returns-else-seen-row : goal.returns-else-seen-row
 unfolding seen_of
-returns c = rw (le-ltb _ _ c.if-seen-row.false)
+returns-else-seen-row c = rw (le-ltb _ _ c.if-seen-row.false)

@@ -10,8 +10,8 @@ returns-then-asks_word c =
     rw (← c.window_of-window.ensures, ← c.seen_of-seen.ensures, sym c.asks_word.ensures ∙ c.if-asks_word.true, ← c.is_good.ensures, ← c.judge-judged.ensures)
     (refl, refl, omega arith)
 
-pub returns : goal.returns
+pub returns-else-asks_word : goal.returns-else-asks_word
 unfolding step_of after_digit tested_at
-returns c =
+returns-else-asks_word c =
     rw (← c.window_of-window.ensures, ← c.seen_of-seen.ensures, sym c.asks_word.ensures ∙ c.if-asks_word.false, ← c.place_after-place.ensures)
     (refl, refl, omega arith)

@@ -12,25 +12,7 @@ use Rattle.multiframe.proofs.put_channels.Goals as goal
 pub loop-c-init : goal.loop-c-init
 loop-c-init c =
     let a = c.args in
-    (omega arith, omega arith, omega arith, omega arith, channelling-none a.channels.now a.multiframe.now)
-
-pub overflow_mul-start : goal.overflow_mul-start
-overflow_mul-start c = omega arith
-
-pub overflow_add-end : goal.overflow_add-end
-overflow_add-end c = omega arith
-
-pub column_of-requires : goal.column_of-requires
-column_of-requires c = omega arith
-
-pub slice_bounds-put_column-count : goal.slice_bounds-put_column-count
-slice_bounds-put_column-count c = omega arith
-
-pub slice_bounds-put_column-start : goal.slice_bounds-put_column-start
-slice_bounds-put_column-start c = omega arith
-
-pub slice_bounds-put_column-end : goal.slice_bounds-put_column-end
-slice_bounds-put_column-end c = omega arith
+    (omega arith, channelling-none a.channels.now a.multiframe.now)
 
 pub put_column-requires : goal.put_column-requires
 put_column-requires c =
@@ -40,12 +22,6 @@ put_column-requires c =
     let there = column-there l.c (omega arith) in
     (omega arith, omega (arith, n), omega (arith, n, there.inside, c.column_of.ensures))
 
-pub overflow_add-c : goal.overflow_add-c
-overflow_add-c c = omega arith
-
-pub loop-c-smaller : goal.loop-c-smaller
-loop-c-smaller c = omega arith
-
 pub loop-c-preserved : goal.loop-c-preserved
 loop-c-preserved c =
     let put = c.put_column in
@@ -54,12 +30,9 @@ loop-c-preserved c =
     let part = take (16 * l.c + 16 - 16 * l.c) (drop (16 * l.c) ch) in
     let n : length part ≡ 16 = mid_len (16 * l.c) (16 * l.c + 16) ch (omega arith) ∙ add-sub_cancel_left (16 * l.c) 16 in
     let done : ColumnPut l.multiframe _ part 16 _ = rw (c.column_of.ensures, n) at put.ensures in
-    (omega arith, omega arith, omega arith, omega arith, channelling-put ch l.multiframe part _ l.c (omega arith) l.invariant.4 (part_of l.c (omega arith) ch (omega arith)) done)
-
-pub shape_of-multiframe : goal.shape_of-multiframe
-shape_of-multiframe c = omega arith
+    (omega arith, channelling-put ch l.multiframe part _ l.c (omega arith) l.invariant.1 (part_of l.c (omega arith) ch (omega arith)) done)
 
 pub returns : goal.returns
 returns c =
     let l = c.loop-c in
-    channelling-all c.args.channels.now l.c l.multiframe (omega arith) l.invariant.4
+    channelling-all c.args.channels.now l.c l.multiframe (omega arith) l.invariant.1

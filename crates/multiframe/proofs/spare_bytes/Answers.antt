@@ -26,30 +26,6 @@ returns c =
     (rw (c.byte_of.ensures, c.digit_at-4.ensures.0, c.digit_at-3.ensures.0, c.digit_at-2.ensures.0, c.digit_at.ensures.0) refl)
     refl))))))))
 
-pub digits_at-requires : goal.digits_at-requires
-digits_at-requires c = (c.requires, lit< tt, lit< tt, lit< tt, lit< tt, lit< tt, lit< tt, lit< tt, lit< tt)
-
-pub digits_at-requires-2 : goal.digits_at-requires-2
-digits_at-requires-2 c = (c.requires, lit< tt, lit< tt, lit< tt, lit< tt, lit< tt, lit< tt, lit< tt, lit< tt)
-
-pub digits_at-requires-3 : goal.digits_at-requires-3
-digits_at-requires-3 c = (c.requires, lit< tt, lit< tt, lit< tt, lit< tt, lit< tt, lit< tt, lit< tt, lit< tt)
-
-pub digits_at-requires-4 : goal.digits_at-requires-4
-digits_at-requires-4 c = (c.requires, lit< tt, lit< tt, lit< tt, lit< tt, lit< tt, lit< tt, lit< tt, lit< tt)
-
-pub digits_at-requires-5 : goal.digits_at-requires-5
-digits_at-requires-5 c = (c.requires, lit< tt, lit< tt, lit< tt, lit< tt, lit< tt, lit< tt, lit< tt, lit< tt)
-
-pub digits_at-requires-6 : goal.digits_at-requires-6
-digits_at-requires-6 c = (c.requires, lit< tt, lit< tt, lit< tt, lit< tt, lit< tt, lit< tt, lit< tt, lit< tt)
-
-pub digits_at-requires-7 : goal.digits_at-requires-7
-digits_at-requires-7 c = (c.requires, lit< tt, lit< tt, lit< tt, lit< tt, lit< tt, lit< tt, lit< tt, lit< tt)
-
-pub digits_at-requires-8 : goal.digits_at-requires-8
-digits_at-requires-8 c = (c.requires, lit< tt, lit< tt, lit< tt, lit< tt, lit< tt, lit< tt, lit< tt, lit< tt)
-
 pub digit_at-requires : goal.digit_at-requires
 digit_at-requires c = within _ _ c.requires (lit< tt)
 

@@ -12,25 +12,7 @@ use Rattle.multiframe.proofs.take_channels.Goals as goal
 pub loop-c-init : goal.loop-c-init
 loop-c-init c =
     let a = c.args in
-    (omega arith, omega arith, omega arith, omega arith, channelling-none a.channels.now a.multiframe.now)
-
-pub overflow_mul-start : goal.overflow_mul-start
-overflow_mul-start c = omega arith
-
-pub overflow_add-end : goal.overflow_add-end
-overflow_add-end c = omega arith
-
-pub column_of-requires : goal.column_of-requires
-column_of-requires c = omega arith
-
-pub slice_bounds-take_column-count : goal.slice_bounds-take_column-count
-slice_bounds-take_column-count c = omega arith
-
-pub slice_bounds-take_column-start : goal.slice_bounds-take_column-start
-slice_bounds-take_column-start c = omega arith
-
-pub slice_bounds-take_column-end : goal.slice_bounds-take_column-end
-slice_bounds-take_column-end c = omega arith
+    (omega arith, channelling-none a.channels.now a.multiframe.now)
 
 pub take_column-requires : goal.take_column-requires
 take_column-requires c =
@@ -38,12 +20,6 @@ take_column-requires c =
     let n = mid_len (16 * l.c) (16 * l.c + 16) l.channels (omega arith) in
     let there = column-there l.c (omega arith) in
     (omega arith, omega (arith, n), omega (arith, n, there.inside, c.column_of.ensures))
-
-pub overflow_add-c : goal.overflow_add-c
-overflow_add-c c = omega arith
-
-pub loop-c-smaller : goal.loop-c-smaller
-loop-c-smaller c = omega arith
 
 pub loop-c-preserved : goal.loop-c-preserved
 loop-c-preserved c =
@@ -55,19 +31,13 @@ loop-c-preserved c =
     let n : length mid ≡ 16 = mid_len (16 * l.c) (16 * l.c + 16) l.channels (omega arith) ∙ add-sub_cancel_left (16 * l.c) 16 in
     let ly : length ys ≡ 16 = omega (arith, taken.auto, n) in
     let done : ColumnTaken m (column_of l.c) 16 ys = rw (c.column_of.ensures, n) at taken.ensures in (
-      omega arith,
-      omega arith,
-      omega arith,
-      same_len_mid (16 * l.c) (16 * l.c + 16 - 16 * l.c) l.channels ys (omega (arith, ly, n)) ∙ l.invariant.3,
-      channelling-take m l.channels (put_mid (16 * l.c) (16 * l.c + 16 - 16 * l.c) l.channels ys) l.c (omega arith) l.invariant.4
-          (part_stays l.c (omega arith) l.channels l.invariant.3 ys ly)
-          (λ f h. part-is l.c (omega arith) l.channels l.invariant.3 ys ly f h ∙ done f h),
+      same_len_mid (16 * l.c) (16 * l.c + 16 - 16 * l.c) l.channels ys (omega (arith, ly, n)) ∙ l.invariant.0,
+      channelling-take m l.channels (put_mid (16 * l.c) (16 * l.c + 16 - 16 * l.c) l.channels ys) l.c (omega arith) l.invariant.1
+          (part_stays l.c (omega arith) l.channels l.invariant.0 ys ly)
+          (λ f h. part-is l.c (omega arith) l.channels l.invariant.0 ys ly f h ∙ done f h),
     )
-
-pub shape_of-channels : goal.shape_of-channels
-shape_of-channels c = omega arith
 
 pub returns : goal.returns
 returns c =
     let l = c.loop-c in
-    channelling-all l.channels l.c c.args.multiframe.now (omega arith) l.invariant.4
+    channelling-all l.channels l.c c.args.multiframe.now (omega arith) l.invariant.1

@@ -12,42 +12,30 @@ pub loop-f-init : goal.loop-f-init
 loop-f-init c =
     let b = c.args in
     let pre = c.requires in
-    (omega arith, c.spread_table-table.ensures, refl, sending-start b.row pre.0 b.earlier b.notes.now b.buffer.now b.line.now pre.1)
+    (c.spread_table-table.ensures, refl, sending-start b.row pre.0 b.earlier b.notes.now b.buffer.now b.line.now pre.1)
 
 pub send_frame-w-requires : goal.send_frame-w-requires
 send_frame-w-requires c =
     let l = c.loop-f in
     let test = c.loop-f-test in
     let pre = c.requires in
-    (l.invariant.1, test.true, pre.1.quarters, l.invariant.3)
-
-pub overflow_add-f : goal.overflow_add-f
-overflow_add-f c =
-    let test = c.loop-f-test in
-    let pre = c.requires in
-    omega (arith, test.true, pre.1.framed.noted, pre.1.framed.few)
-
-pub loop-f-smaller : goal.loop-f-smaller
-loop-f-smaller c = omega (arith, c.loop-f-test.true)
+    (l.invariant.0, test.true, pre.1.quarters, l.invariant.2)
 
 pub loop-f-preserved : goal.loop-f-preserved
 loop-f-preserved c =
     let test = c.loop-f-test in
     let l = c.loop-f in
     let send-frame = c.send_frame-w in
-    (omega (arith, test.true), l.invariant.1, send-frame.auto.line ∙ l.invariant.2, send-frame.ensures)
+    (l.invariant.0, send-frame.auto.line ∙ l.invariant.1, send-frame.ensures)
 
 pub finish-requires : goal.finish-requires
 finish-requires c =
     let b = c.args in
     let l = c.loop-f in
-    let s = l.invariant.3 in
-    let end : l.f ≡ length b.notes.now = omega (arith, l.invariant.0, c.loop-f-test.false) in
+    let s = l.invariant.2 in
+    let end : l.f ≡ length b.notes.now = omega arith in
     let e : l.f * b.row.digits ≡ length b.notes.now * b.row.digits = rw end in
     (s.ready, omega (arith, s.place, e, line_whole _ _ _ _ s.fits))
-
-pub shape_of-line : goal.shape_of-line
-shape_of-line c = c.finish.auto.s ∙ c.loop-f.invariant.2
 
 pub returns : goal.returns
 returns c =
@@ -56,7 +44,7 @@ returns c =
     let pre = c.requires in
     let l = c.loop-f in
     let b = c.args in
-    let end : l.f ≡ length b.notes.now = omega (arith, l.invariant.0, test.false) in
+    let end : l.f ≡ length b.notes.now = omega arith in
     let bytes : Bytes finish.new.s = λ i. omega (arith, c.type_inv.line i) in
-    all-sent b.row pre.0 b.earlier b.notes.now b.buffer.now b.line.now pre.1 l.line _ l.w _ l.next l.invariant.2 (rw end at l.invariant.3)
+    all-sent b.row pre.0 b.earlier b.notes.now b.buffer.now b.line.now pre.1 l.line _ l.w _ l.next l.invariant.1 (rw end at l.invariant.2)
     finish.ensures finish.auto.s bytes

@@ -8,7 +8,7 @@ pub returns-then-row-p : goal.returns-then-row-p
 unfolding place_in
 returns-then-row-p c =
     let a = c.args in
-    rw (le-ltb a.p a.row.digits c.if-row-p.true) c.refused.ensures
+    rw (le-ltb a.p a.row.digits c.if-row-p.true) refl
 
 pub returns : goal.returns
 unfolding place_in

@@ -4,7 +4,6 @@ use Rattle.patterns.specs.Patterns.{pushed}
 use native.Mathlib.Omega.{arith}
 use Rattle.patterns.proofs.push.Goals as goal
 
--- src/patterns.rt:32:1
 pub returns : goal.returns
 unfolding pushed
 returns c = (refl, omega arith)

@@ -4,7 +4,6 @@ use native.Mathlib.Omega.{arith}
 use Rattle.patterns.proofs.Eights.{window-eight}
 use Rattle.patterns.proofs.push_eight.Goals as goal
 
--- src/patterns.rt:52:1
 pub returns : goal.returns
 returns c =
     let a = c.args in

@@ -4,16 +4,13 @@ use native.Mathlib.Omega.{arith}
 use Rattle.reading.proofs.Lanes.{column-first, column-last}
 use Rattle.reading.proofs.column_at.Goals as goal
 
-pub overflow_cast-byte : goal.overflow_cast-byte
-overflow_cast-byte c = omega (arith, c.type_inv.line (c.args.p.0 / 8))
-
 pub returns-then-p-eq0 : goal.returns-then-p-eq0
 returns-then-p-eq0 c =
     let b = c.args in
     let byte = c.type_inv.line (b.p.0 / 8) in
     (column-first b.line.now b.p.0 (omega (arith, byte)) c.if-p-eq0.true, omega (arith, byte))
 
-pub returns : goal.returns
-returns c =
+pub returns-else-p-eq0 : goal.returns-else-p-eq0
+returns-else-p-eq0 c =
     let byte = c.type_inv.line (c.args.p.0 / 8) in
     (column-last c.args.line.now c.args.p.0 (omega (arith, byte)) (omega (arith, c.requires.0, c.if-p-eq0.false)), omega arith)

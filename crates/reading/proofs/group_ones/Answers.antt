@@ -5,18 +5,13 @@ use native.Mathlib.Omega.{arith}
 use lib.ListN.{length}
 use Rattle.digits.specs.Digits.{digits_of}
 use Rattle.digits.proofs.Laws.{digits-binary}
-use Rattle.reading.proofs.Inside.{frame-end}
 use Rattle.reading.proofs.Lanes.{column-inside, ones-few, ones_none, column-more, columns-all}
 use Rattle.reading.proofs.group_ones.Goals as goal
 
 pub loop-k-init : goal.loop-k-init
 loop-k-init c =
     let a = c.args in
-    (omega arith, sym (ones_none a.row (digits_of a.line.now) (digits-binary a.line.now) a.f))
-
-pub overflow_mul-p : goal.overflow_mul-p
-overflow_mul-p c =
-    omega (arith, frame-end _ c.requires.0 c.args.f (length c.args.line.now) c.requires.2)
+    sym (ones_none a.row (digits_of a.line.now) (digits-binary a.line.now) a.f)
 
 pub overflow_mul-p-in-loop-k : goal.overflow_mul-p-in-loop-k
 overflow_mul-p-in-loop-k c =
@@ -39,34 +34,23 @@ column_at-requires c =
     let inside = column-inside _ c.requires.0 c.args.f (length c.args.line.now) c.requires.2 c.requires.1 l.k c.loop-k-test.true in
     (inside.2, inside.1)
 
-pub apart-ones-requires : goal.apart-ones-requires
-apart-ones-requires c = c.column_at.ensures.1
-
 pub overflow_add-ones : goal.overflow_add-ones
 overflow_add-ones c =
     let l = c.loop-k in
     let few = ones-few c.args.row (digits_of c.args.line.now) (digits-binary c.args.line.now) c.args.f l.k in
     let sh = c.requires.0 in
-    omega (arith, l.invariant.0, l.invariant.1, c.apart-ones.ensures, c.column_at.ensures.1, few 0, few 1, few 2, few 3, sh.group, sh.few_sets)
-
-pub overflow_add-k : goal.overflow_add-k
-overflow_add-k c = omega arith
-
-pub loop-k-smaller : goal.loop-k-smaller
-loop-k-smaller c = omega arith
+    omega (arith, l.invariant, c.apart-ones.ensures, c.column_at.ensures.1, few 0, few 1, few 2, few 3, sh.group, sh.few_sets)
 
 pub loop-k-preserved : goal.loop-k-preserved
 loop-k-preserved c =
     let l = c.loop-k in
     let a = c.args in
-    let column = c.column_at in (
-      omega arith,
-      ap₂ ◌+◌ l.invariant.1 c.apart-ones.ensures
-          ∙ column-more a.row (digits_of a.line.now) (digits-binary a.line.now) a.f l.k _ column.result refl column.ensures.0,
-    )
+    let column = c.column_at in
+    ap₂ ◌+◌ l.invariant c.apart-ones.ensures
+    ∙ column-more a.row (digits_of a.line.now) (digits-binary a.line.now) a.f l.k _ column.result refl column.ensures.0
 
 pub returns : goal.returns
 returns c =
     let l = c.loop-k in
     let a = c.args in
-    columns-all a.row (digits_of a.line.now) (digits-binary a.line.now) a.f l.k _ (omega arith) l.invariant.1
+    columns-all a.row (digits_of a.line.now) (digits-binary a.line.now) a.f l.k _ (omega arith) l.invariant

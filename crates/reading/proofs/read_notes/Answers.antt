@@ -5,11 +5,11 @@ use Rattle.reading.proofs.read_notes.Goals as goal
 
 pub read_notes_on-requires : goal.read_notes_on-requires
 read_notes_on-requires c =
-    shared-row c.args.level c.in-Of.row (sym c.level_of-found.ensures ∙ c.in-Of.is)
+    shared-row c.args.level c.in-Some.row (sym c.level_of-found.ensures ∙ c.in-Some.is)
 
-pub returns-in-Of : goal.returns-in-Of
-returns-in-Of c =
-    rw (sym c.level_of-found.ensures ∙ c.in-Of.is) c.read_notes_on.ensures
+pub returns-in-Some : goal.returns-in-Some
+returns-in-Some c =
+    rw (sym c.level_of-found.ensures ∙ c.in-Some.is) c.read_notes_on.ensures
 
-pub returns-in-NoSuchLevel : goal.returns-in-NoSuchLevel
-returns-in-NoSuchLevel c = rw (sym c.level_of-found.ensures ∙ c.in-NoSuchLevel.is) (c.refused.ensures, refl)
+pub returns-in-None : goal.returns-in-None
+returns-in-None c = rw (sym c.level_of-found.ensures ∙ c.in-None.is) (refl, refl)

@@ -17,8 +17,8 @@ take_piece-requires c =
     let a = accepted-if _ _ _ _ _ _ (sym c.refusal_of-refusal.ensures ∙ c.if-refusal-ne0.false) in
     (c.requires, rw c.core_of.ensures at a.valid, a.counting, a.small, a.within)
 
-pub returns : goal.returns
+pub returns-else-refusal-ne0 : goal.returns-else-refusal-ne0
 unfolding feed_row
-returns c =
+returns-else-refusal-ne0 c =
     let accepted = eq-eqb c.refusal_of-refusal.result 0 c.if-refusal-ne0.false in
     c.take_piece.ensures ∙ rw (← c.core_of.ensures, ← c.refusal_of-refusal.ensures, accepted)

@@ -1,54 +1,31 @@
--- `refusal_of` is `refusal_of`: each `return` rewrites with the tests that led there. The code subtracts, so that no sum wraps. What a test that is passed
--- says is said once, for the returns behind it.
-use mathlib.Core.Path.{◌≡◌, sym, ◌∙◌}
-use mathlib.Core.Bool.{false}
-use borrow.Author.Tests.{lt-ltb, le-ltb}
+-- `refusal_of` is `refusal_of`. The code subtracts, so that no sum wraps.
 use native.Mathlib.Omega.{arith}
-use Rattle.pieces.specs.Alarm.{uncounted}
-use Rattle.receiver.specs.Feed.{invalid, refusal_of}
-use Prim.Native.Nat.{◌+◌, ◌*◌}
+use Rattle.std.proofs.lemmas.Grind.{common_steps}
+use Rattle.std.proofs.lemmas.Bool.Decides.{nat_tests}
+use Rattle.receiver.specs.Feed.{refusal_of}
 use Rattle.receiver.proofs.refusal_of.Goals as goal
-
-pub returns-then-is_invalid : goal.returns-then-is_invalid
-unfolding refusal_of
-returns-then-is_invalid c = rw (sym c.is_invalid.ensures ∙ c.if-is_invalid.true)
+use Rattle.receiver.proofs.refusal_of.Goals.{then-is_invalid, else-is_invalid, then-bytes-first, else-bytes-first}
 
 pub returns-then-is_uncounted : goal.returns-then-is_uncounted
 unfolding refusal_of
 returns-then-is_uncounted c =
-    let valid-passed : invalid c.args.row c.args.c ≡ false = sym c.is_invalid.ensures ∙ c.if-is_invalid.false in
-    rw (valid-passed, sym c.is_uncounted.ensures ∙ c.if-is_uncounted.true)
+    elim c.if-is_invalid.branch [
+      | then-is_invalid w ↦ grind (arith, common_steps, nat_tests)
+      | else-is_invalid w ↦ grind (arith, common_steps, nat_tests)
+    ]
 
 pub returns-then-bytes-gt65536 : goal.returns-then-bytes-gt65536
 unfolding refusal_of
-returns-then-bytes-gt65536 c =
-    let valid-passed : invalid c.args.row c.args.c ≡ false = sym c.is_invalid.ensures ∙ c.if-is_invalid.false in
-    let counted-passed : uncounted c.args.row c.args.st ≡ false = sym c.is_uncounted.ensures ∙ c.if-is_uncounted.false in
-    rw (valid-passed, counted-passed, lt-ltb _ _ c.if-bytes-gt65536.true)
-
-pub returns-then-bytes-first : goal.returns-then-bytes-first
-unfolding refusal_of
-returns-then-bytes-first c =
-    let valid-passed : invalid c.args.row c.args.c ≡ false = sym c.is_invalid.ensures ∙ c.if-is_invalid.false in
-    let counted-passed : uncounted c.args.row c.args.st ≡ false = sym c.is_uncounted.ensures ∙ c.if-is_uncounted.false in
-    let a = c.args in
-    let over = lt-ltb (8 * a.bytes) (a.first + a.count) (omega arith) in
-    rw (valid-passed, counted-passed, le-ltb _ _ c.if-bytes-gt65536.false, over)
+returns-then-bytes-gt65536 c = grind (arith, common_steps, nat_tests)
 
 pub returns-then-bytes-first-2 : goal.returns-then-bytes-first-2
 unfolding refusal_of
 returns-then-bytes-first-2 c =
-    let valid-passed : invalid c.args.row c.args.c ≡ false = sym c.is_invalid.ensures ∙ c.if-is_invalid.false in
-    let counted-passed : uncounted c.args.row c.args.st ≡ false = sym c.is_uncounted.ensures ∙ c.if-is_uncounted.false in
-    let a = c.args in
-    let over = lt-ltb (8 * a.bytes) (a.first + a.count) (omega arith) in
-    rw (valid-passed, counted-passed, le-ltb _ _ c.if-bytes-gt65536.false, over)
+    elim c.if-bytes-first.branch [
+      | then-bytes-first w ↦ grind (arith, common_steps, nat_tests)
+      | else-bytes-first w ↦ grind (arith, common_steps, nat_tests)
+    ]
 
-pub returns : goal.returns
+pub returns-else-bytes-first-2 : goal.returns-else-bytes-first-2
 unfolding refusal_of
-returns c =
-    let valid-passed : invalid c.args.row c.args.c ≡ false = sym c.is_invalid.ensures ∙ c.if-is_invalid.false in
-    let counted-passed : uncounted c.args.row c.args.st ≡ false = sym c.is_uncounted.ensures ∙ c.if-is_uncounted.false in
-    let a = c.args in
-    let fits = le-ltb (8 * a.bytes) (a.first + a.count) (omega arith) in
-    rw (valid-passed, counted-passed, le-ltb _ _ c.if-bytes-gt65536.false, fits)
+returns-else-bytes-first-2 c = grind (arith, common_steps, nat_tests)

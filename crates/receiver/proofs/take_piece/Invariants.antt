@@ -4,7 +4,7 @@ use Rattle.receiver.proofs.Runs.{Going}
 use Rattle.receiver.proofs.take_piece.Given as goal
 
 abbrev pub invariant-loop-p : goal.invariant-loop-p
-invariant-loop-p l = Going l.row l.piece l.first l.count l.end l.level l.st l.initial.c l.initial.f l.c l.f l.words l.p
+invariant-loop-p l = Going l.row l.piece l.first l.count l.end l.s.level l.st l.initial.c l.initial.f l.c l.f l.words l.p
 
 abbrev pub decreases-loop-p : goal.decreases-loop-p
 decreases-loop-p l = l.end - l.p

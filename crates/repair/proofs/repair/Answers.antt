@@ -5,10 +5,10 @@ use Rattle.repair.proofs.repair.Goals as goal
 
 pub repair_on-requires : goal.repair_on-requires
 repair_on-requires c =
-    shared-row c.args.level c.in-Of.row (sym c.level_of-found.ensures ∙ c.in-Of.is)
+    shared-row c.args.level c.in-Some.row (sym c.level_of-found.ensures ∙ c.in-Some.is)
 
-pub returns-in-Of : goal.returns-in-Of
-returns-in-Of c = rw (sym c.level_of-found.ensures ∙ c.in-Of.is) c.repair_on.ensures
+pub returns-in-Some : goal.returns-in-Some
+returns-in-Some c = rw (sym c.level_of-found.ensures ∙ c.in-Some.is) c.repair_on.ensures
 
-pub returns-in-NoSuchLevel : goal.returns-in-NoSuchLevel
-returns-in-NoSuchLevel c = rw (sym c.level_of-found.ensures ∙ c.in-NoSuchLevel.is) (c.refused.ensures, refl)
+pub returns-in-None : goal.returns-in-None
+returns-in-None c = rw (sym c.level_of-found.ensures ∙ c.in-None.is) (refl, refl)

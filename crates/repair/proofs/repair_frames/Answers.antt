@@ -1,6 +1,5 @@
 -- `repair_frames`: frame after frame, each with the note that is read from it before anything of it is written.
 use native.Mathlib.Omega.{arith}
-use mathlib.Core.Path.{refl}
 use Rattle.repair.proofs.Frames.{framing-none, note-asks, frame-begun, framing-more, framing-all}
 use Rattle.repair.proofs.repair_frames.Goals as goal
 
@@ -12,37 +11,24 @@ nonzero_div-frames c =
 pub loop-f-init : goal.loop-f-init
 loop-f-init c =
     let a = c.args in
-    (omega arith, refl, framing-none a.row a.earlier a.national a.line.now a.sums.now c.requires.0 (λ i. omega (arith, c.type_inv.line i)) c.requires.1)
+    framing-none a.row a.earlier a.national a.line.now a.sums.now c.requires.0 (λ i. omega (arith, c.type_inv.line i)) c.requires.1
 
 pub read_note-read-requires : goal.read_note-read-requires
 read_note-read-requires c =
     let l = c.loop-f in
-    note-asks l.invariant.2 (omega (arith, l.invariant.1))
+    note-asks l.invariant (omega arith)
 
 pub repair_frame-requires : goal.repair_frame-requires
 repair_frame-requires c =
     let l = c.loop-f in
-    frame-begun l.invariant.2 (omega (arith, l.invariant.1)) c.read_note-read.ensures.0
-
-pub overflow_cast-preceding : goal.overflow_cast-preceding
-overflow_cast-preceding c = omega arith
-
-pub overflow_add-f : goal.overflow_add-f
-overflow_add-f c =
-    omega (arith, c.loop-f.invariant.1, c.requires.0.few)
-
-pub loop-f-smaller : goal.loop-f-smaller
-loop-f-smaller c = omega arith
+    frame-begun l.invariant (omega arith) c.read_note-read.ensures.0
 
 pub loop-f-preserved : goal.loop-f-preserved
 loop-f-preserved c =
     let l = c.loop-f in
-    (omega arith, l.invariant.1, framing-more l.invariant.2 (omega (arith, l.invariant.1)) c.read_note-read.ensures.0 _ _ c.repair_frame.ensures)
-
-pub shape_of-line : goal.shape_of-line
-shape_of-line c = c.loop-f.invariant.2.mended.kept
+    framing-more l.invariant (omega arith) c.read_note-read.ensures.0 _ _ c.repair_frame.ensures
 
 pub returns : goal.returns
 returns c =
     let l = c.loop-f in
-    framing-all l.invariant.2 (omega (arith, l.invariant.0, l.invariant.1))
+    framing-all l.invariant (omega arith)

@@ -9,7 +9,7 @@ returns-then-bad_line c =
     let a = c.args in
     let all = refused_all a.row a.earlier a.line.now a.national 2 (λ z. omega arith)
     (bad-line-two a.row a.earlier a.line.now (sym c.bad_line.ensures ∙ c.if-bad_line.true)) in
-    (c.refused.ensures ∙ all.0, all.1)
+    (all.0, all.1)
 
 pub returns-then-bad_earlier : goal.returns-then-bad_earlier
 returns-then-bad_earlier c =
@@ -17,7 +17,7 @@ returns-then-bad_earlier c =
     let all = refused_all a.row a.earlier a.line.now a.national 5 (λ z. omega arith)
     (bad-earlier-five a.row a.earlier a.line.now (sym c.bad_line.ensures ∙ c.if-bad_line.false)
     (sym c.bad_earlier.ensures ∙ c.if-bad_earlier.true)) in
-    (c.refused-then-bad_earlier.ensures ∙ all.0, all.1)
+    (all.0, all.1)
 
 pub repair_frames-requires : goal.repair_frames-requires
 repair_frames-requires c =

@@ -29,9 +29,6 @@ pub line_digit-came-requires : goal.line_digit-came-requires
 line_digit-came-requires c =
     (place-asks c.args.at c.requires.0 c.requires.1 c.requires.2).0
 
-pub kind_of-kind-requires : goal.kind_of-kind-requires
-kind_of-kind-requires c = c.requires.0.mended.whole.shared
-
 pub repaired_digit-d-requires : goal.repaired_digit-d-requires
 repaired_digit-d-requires c = (
   c.requires.0.mended.whole.shared,
@@ -40,10 +37,10 @@ repaired_digit-d-requires c = (
   c.line_digit-came.ensures.1,
 )
 
-pub returns-then-d-came : goal.returns-then-d-came
-returns-then-d-came c earlier old a m =
+pub returns-else-d-came : goal.returns-else-d-came
+returns-else-d-came c earlier old a m =
     place-stays c.requires.1 c.requires.2 c.line_digit-came.ensures.0 c.kind_of-kind.ensures c.tributary_at.ensures
-    c.repaired_digit-d.ensures.0 earlier old a m c.if-d-came.true
+    c.repaired_digit-d.ensures.0 earlier old a m c.if-d-came.false
 
 pub put_line_digit-requires : goal.put_line_digit-requires
 put_line_digit-requires c =
@@ -54,9 +51,9 @@ count_at-requires c =
     let in_line = place-asks c.args.at c.requires.0 c.requires.1 c.requires.2 in
     (c.requires.0.mended.whole.shared, λ k. omega (arith, sums-few c.requires.0.mended k, in_line.0, in_line.1))
 
-pub returns : goal.returns
-returns c earlier old a m =
+pub returns-then-d-came : goal.returns-then-d-came
+returns-then-d-came c earlier old a m =
     let put = c.put_line_digit in
     place-changes c.requires.1 c.requires.2 c.line_digit-came.ensures.0 c.kind_of-kind.ensures c.tributary_at.ensures
-    c.repaired_digit-d.ensures.0 earlier old a m c.if-d-came.false put.new.line c.count_at.new.sums put.ensures.0 put.ensures.1
+    c.repaired_digit-d.ensures.0 earlier old a m c.if-d-came.true put.new.line c.count_at.new.sums put.ensures.0 put.ensures.1
     c.count_at.ensures

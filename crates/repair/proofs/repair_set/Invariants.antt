@@ -1,14 +1,8 @@
 -- `repair_set`: place after place of the head, and behind it nothing is to be done.
-use mathlib.Core.Path.{◌≡◌}
-use Prim.Native.Nat.{◌+◌, ◌*◌, ◌-◌, ◌≤◌}
-use Rattle.levels.specs.Places.{head_end}
+use Prim.Native.Nat.{◌+◌, ◌*◌}
 use Rattle.repair.specs.Mending.{Onward}
 use Rattle.repair.proofs.repair_set.Given as goal
 
 abbrev pub invariant-loop-r : goal.invariant-loop-r
 invariant-loop-r l =
-    (l.r ≤ l.end) × (l.end ≡ head_end l.row l.s)
-    × Onward l.row l.rule.national l.f l.rule.preceding l.rule.note (l.f * l.row.digits + l.s * l.row.set) (l.f * l.row.digits + (l.s * l.row.set + l.r)) l.initial.line l.initial.sums l.line l.sums
-
-abbrev pub decreases-loop-r : goal.decreases-loop-r
-decreases-loop-r l = l.end - l.r
+    Onward l.row l.rule.national l.f l.rule.preceding l.rule.note (l.f * l.row.digits + l.s * l.row.set) (l.f * l.row.digits + (l.s * l.row.set + l.r)) l.initial.line l.initial.sums l.line l.sums

@@ -7,19 +7,19 @@ use Rattle.strides.proofs.seek.Goals as goal
 
 pub seek_near-near-requires : goal.seek_near-near-requires
 seek_near-near-requires c =
-    let s = stop-before c.args.first c.args.end c.lesser.result c.requires.3 c.lesser.ensures in
+    let s = stop-before c.args.first c.args.end c.min.result c.requires.3 c.min.ensures in
     (c.requires.0, c.requires.1, c.requires.2, s.0, omega (arith, s.1, c.requires.4))
 
 pub returns-then-near-start : goal.returns-then-near-start
 returns-then-near-start c =
-    let s = stop-before c.args.first c.args.end c.lesser.result c.requires.3 c.lesser.ensures in
+    let s = stop-before c.args.first c.args.end c.min.result c.requires.3 c.min.ensures in
     passed-before _ _ _ _ _ _ _ _ _ c.seek_near-near.ensures (omega (arith, s.1))
 
 pub seek_far-far-requires : goal.seek_far-far-requires
 seek_far-far-requires c =
     let near = c.seek_near-near.ensures in
     let s =
-    stop-at c.args.first c.args.end c.lesser.result _ c.requires.3 c.lesser.ensures near.before c.if-near-start.false in
+    stop-at c.args.first c.args.end c.min.result _ c.requires.3 c.min.ensures near.before c.if-near-start.false in
     (c.requires.0.least, c.requires.0.most, c.requires.0.fits, c.requires.2, s.0, s.1, s.2, c.requires.4)
 
 pub window_over-w-requires : goal.window_over-w-requires
@@ -40,8 +40,8 @@ seek_near-requires c =
     let near = c.seek_near-near.ensures in
     let far = c.seek_far-far.ensures in
     let s =
-    stop-at c.args.first c.args.end c.lesser.result _ c.requires.3
-    c.lesser.ensures near.before c.if-near-start.false in
+    stop-at c.args.first c.args.end c.min.result _ c.requires.3
+    c.min.ensures near.before c.if-near-start.false in
     let on =
     passed-far c.args.len c.args.word (digits_of c.args.piece.now) c.args.end c.args.first c.args.window (digits-binary c.args.piece.now)
     c.requires.0.most c.requires.1 _ _ _ _ _ near s.3 far.0 far.1 far.2 c.window_over-w.ensures in (
@@ -58,8 +58,8 @@ returns c =
     let near = c.seek_near-near.ensures in
     let far = c.seek_far-far.ensures in
     let s =
-    stop-at c.args.first c.args.end c.lesser.result _ c.requires.3
-    c.lesser.ensures near.before c.if-near-start.false in
+    stop-at c.args.first c.args.end c.min.result _ c.requires.3
+    c.min.ensures near.before c.if-near-start.false in
     let on =
     passed-far c.args.len c.args.word (digits_of c.args.piece.now) c.args.end c.args.first c.args.window (digits-binary c.args.piece.now)
     c.requires.0.most c.requires.1 _ _ _ _ _ near s.3 far.0 far.1 far.2 c.window_over-w.ensures in

@@ -9,18 +9,6 @@ pub loop-at-init : goal.loop-at-init
 loop-at-init c =
     (omega arith, c.requires.4, c.requires.3, unmet-none _ _ _ _)
 
-pub overflow_add-at : goal.overflow_add-at
-overflow_add-at c =
-    omega (arith, c.requires.1, c.requires.5, c.requires.0.room, c.loop-at.invariant.1)
-
-pub overflow_add-at-in-loop-at : goal.overflow_add-at-in-loop-at
-overflow_add-at-in-loop-at c =
-    omega (arith, c.requires.1, c.requires.5, c.loop-at-test.true)
-
-pub overflow_sub-at : goal.overflow_sub-at
-overflow_sub-at c =
-    omega (arith, c.requires.2, c.requires.0.some, c.loop-at.invariant.0)
-
 pub load8-requires : goal.load8-requires
 load8-requires c =
     turn-load c.args.from c.args.end c.loop-at.at c.args.places _ c.requires.2 c.requires.0.some c.loop-at.invariant.0 c.loop-at-test.true c.requires.5
@@ -34,14 +22,6 @@ pub returns-then-not-is_clear : goal.returns-then-not-is_clear
 returns-then-not-is_clear c =
     let l = c.loop-at in
     (l.invariant.0, l.invariant.1, l.invariant.3)
-
-pub overflow_add-at-in-loop-at-2 : goal.overflow_add-at-in-loop-at-2
-overflow_add-at-in-loop-at-2 c =
-    omega (arith, c.requires.1, c.requires.5, c.loop-at-test.true)
-
-pub loop-at-smaller : goal.loop-at-smaller
-loop-at-smaller c =
-    omega (arith, c.loop-at-test.true, c.requires.0.some)
 
 pub loop-at-preserved : goal.loop-at-preserved
 loop-at-preserved c =

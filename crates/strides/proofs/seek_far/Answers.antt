@@ -19,8 +19,8 @@ returns-then-word-eq27 c =
     let found = c.seek_by.ensures in
     (found.0, found.1, unmet-as _ _ _ _ _ _ _ found.2 c.if-len-eq7.true c.if-word-eq27.true)
 
-pub seek_by-requires-2 : goal.seek_by-requires-2
-seek_by-requires-2 c = (
+pub seek_by-requires-else-len-eq7 : goal.seek_by-requires-else-len-eq7
+seek_by-requires-else-len-eq7 c = (
   record { least = c.requires.0; most = c.requires.1; fits = c.requires.2; bytes = refl; some = omega arith; room = omega (arith, c.requires.1); masked = refl },
   c.requires.3,
   c.requires.4,

@@ -11,4 +11,4 @@ returns-then-first-at c =
 pub returns : goal.returns
 returns c =
     window-over-is c.args.len c.requires.0 _ (digits-binary _) c.args.first c.args.window c.requires.2 c.args.at _ _ _ c.requires.4
-    c.lesser-n.ensures c.read_digits.ensures.0 c.read_digits.ensures.1 c.requires.1
+    c.min-n.ensures c.read_digits.ensures.0 c.read_digits.ensures.1 c.requires.1

@@ -2,8 +2,8 @@
 use native.Mathlib.Omega.{arith}
 use Rattle.swap.proofs.ahead.Goals as goal
 
-pub returns : goal.returns
-returns c =
+pub returns-else-k-lt8 : goal.returns-else-k-lt8
+returns-else-k-lt8 c =
     let end = c.run_end.ensures in
     let head = c.head_end.ensures in
     record {

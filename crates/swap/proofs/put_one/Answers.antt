@@ -32,9 +32,9 @@ pub idle_digit-requires : goal.idle_digit-requires
 idle_digit-requires c =
     (c.requires.0, c.requires.2, λ e. word-within _ c.args.at.set _ (sym c.kind_of-kind.ensures ∙ e))
 
-pub returns : goal.returns
-returns c =
-    let put = c.put_line_digit-2.ensures in
+pub returns-else-carries_digit : goal.returns-else-carries_digit
+returns-else-carries_digit c =
+    let put = c.put_line_digit-else-carries_digit.ensures in
     let own = ap is_own (sym c.kind_of-kind.ensures) ∙ sym c.is_own.ensures ∙ c.if-not-is_own.false in
     let none = answered _ c.kind_of-kind.ensures c.carries_digit.ensures c.if-carries_digit.false in
     put-idle _ _ _ _ _ _ _ _ _ own _ put.1 none _ ((rw c.kind_of-kind.ensures at c.idle_digit.ensures.0) _ _ none) put.0

@@ -3,11 +3,9 @@ use Rattle.tally.specs.Tally.{number_at}
 use Rattle.tally.proofs.Sums.{in_frame, kind-in-frame}
 use Rattle.tally.proofs.number_at.Goals as goal
 
--- src/lib.rt:45:9
 pub kind_at-kind-requires : goal.kind_at-kind-requires
 kind_at-kind-requires c = (c.requires, in_frame _ c.requires _)
 
--- src/lib.rt:40:1
 pub returns : goal.returns
 unfolding number_at
 returns c =

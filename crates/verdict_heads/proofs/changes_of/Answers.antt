@@ -16,30 +16,21 @@ changed votes came j f = cond (eqb came 0 && eqb f 0) 0 (cond (eqb (decided (get
 
 pub loop-f-init : goal.loop-f-init
 unfolding sum_to
-loop-f-init c = (omega arith, refl, omega arith)
+loop-f-init c = (refl, omega arith)
 
 pub change_at-changes-requires : goal.change_at-changes-requires
 change_at-changes-requires c = (c.requires.0, omega (arith, c.requires.1))
-
-pub overflow_add-changes : goal.overflow_add-changes
-overflow_add-changes c = omega (arith, c.requires.1, c.loop-f.invariant.2, c.change_at-changes.ensures.1)
-
-pub overflow_add-f : goal.overflow_add-f
-overflow_add-f c = omega (arith, c.requires.1)
-
-pub loop-f-smaller : goal.loop-f-smaller
-loop-f-smaller c = omega arith
 
 pub loop-f-preserved : goal.loop-f-preserved
 unfolding sum_to
 loop-f-preserved c =
     let l = c.loop-f in
     let one = rw (add-one l.f) at c.change_at-changes.ensures.0 in
-    (omega arith, rw (add-one l.f) (omega (arith, one, l.invariant.1)), omega (arith, l.invariant.2, c.change_at-changes.ensures.1))
+    (rw (add-one l.f) (omega (arith, one, l.invariant.0)), omega (arith, l.invariant.1, c.change_at-changes.ensures.1))
 
 pub returns : goal.returns
 unfolding changes_in
 returns c =
     let l = c.loop-f in
     let end : l.f ≡ c.args.frames = omega arith in
-    (rw (← end) l.invariant.1, omega (arith, l.invariant.2, c.requires.1))
+    (rw (← end) l.invariant.0, omega (arith, l.invariant.1, c.requires.1))

@@ -27,12 +27,6 @@ send_many-w-requires c =
       has_on b.a.now b.b.now b.c.now b.d.now b.i b.columns l.k 32 _ pre.4 more c.moved_on.ensures,
     )
 
-pub overflow_add-k : goal.overflow_add-k
-overflow_add-k c =
-    let test = c.loop-k-test in
-    let pre = c.requires in
-    omega (arith, test.true, pre.4.small)
-
 pub loop-k-smaller : goal.loop-k-smaller
 loop-k-smaller c =
     let test = c.loop-k-test in
@@ -59,3 +53,10 @@ returns c =
     let l = c.loop-k in
     let end : l.k ≡ c.args.columns = omega (arith, l.invariant.1.to, c.loop-k-test.false) in
     rw (← end) l.invariant.1.done
+
+pub returns-2 : goal.returns-2
+returns-2 c =
+    let l = c.loop-k in
+    let end : l.k + 32 ≡ c.args.columns = omega (arith, l.invariant.0, c.loop-k-test.true, c.requires.3) in
+    let done = weaving-more _ _ _ _ _ _ _ _ l.line l.w l.k 32 _ _ _ l.invariant.1 (omega arith) c.send_many-w.auto.line c.moved_on.ensures c.send_many-w.ensures in
+    rw end at done.done

@@ -22,9 +22,6 @@ store_first-w-requires c =
     let l = c.loop-w in
     (l.invariant.3.ready, omega (arith, c.loop-w-test.true), omega (arith, c.loop-w-test.true))
 
-pub loop-w-smaller : goal.loop-w-smaller
-loop-w-smaller c = omega (arith, c.store_first-w.ensures.1)
-
 pub loop-w-preserved : goal.loop-w-preserved
 loop-w-preserved c =
     let l = c.loop-w in

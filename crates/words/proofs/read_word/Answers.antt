@@ -1,6 +1,6 @@
 -- `read_word` loads eight bytes, and in the middle of a byte the first digits of a ninth.
 use mathlib.Core.Path.{◌≡◌, ap, ◌∙◌}
-use Prim.Native.Nat.{ℕ, ◌+◌, ◌*◌, ◌/◌}
+use Prim.Native.Nat.{ℕ, ◌*◌, ◌/◌}
 use native.Mathlib.Omega.{arith}
 use Rattle.digits.specs.Digits.{digits_of, window_at, Bytes}
 use Rattle.words.proofs.Loads.{load-nine}
@@ -11,10 +11,7 @@ returns-then-k-eq0 c =
     let whole : 8 * (c.args.p / 8) ≡ c.args.p = omega arith in
     c.load8.ensures ∙ ap (λ (k : ℕ). window_at (digits_of c.args.s.now) k 64) whole
 
-pub overflow_cast-result : goal.overflow_cast-result
-overflow_cast-result c = omega (arith, c.type_inv.s (c.args.p / 8 + 8))
-
-pub returns : goal.returns
-returns c =
+pub returns-else-k-eq0 : goal.returns-else-k-eq0
+returns-else-k-eq0 c =
     let bytes : Bytes c.args.s.now = λ i. omega (arith, c.type_inv.s i) in
-    load-nine c.args.s.now c.args.p _ bytes c.load8-2.ensures (omega arith)
+    load-nine c.args.s.now c.args.p _ bytes c.load8-else-k-eq0.ensures (omega arith)

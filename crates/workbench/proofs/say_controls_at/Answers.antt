@@ -5,14 +5,14 @@ use Rattle.workbench.proofs.say_controls_at.Goals as goal
 
 pub say_controls-requires : goal.say_controls-requires
 say_controls-requires c =
-    (shared-row _ _ (sym c.level_of-found.ensures ∙ c.in-Of.is), c.requires)
+    (shared-row _ _ (sym c.level_of-found.ensures ∙ c.in-Some.is), c.requires)
 
-pub returns-in-Of : goal.returns-in-Of
-returns-in-Of c =
-    let e = sym c.level_of-found.ensures ∙ c.in-Of.is in
+pub returns-in-Some : goal.returns-in-Some
+returns-in-Some c =
+    let e = sym c.level_of-found.ensures ∙ c.in-Some.is in
     rw e c.say_controls.ensures
 
-pub returns-in-NoSuchLevel : goal.returns-in-NoSuchLevel
-returns-in-NoSuchLevel c =
-    let e = sym c.level_of-found.ensures ∙ c.in-NoSuchLevel.is in
+pub returns-in-None : goal.returns-in-None
+returns-in-None c =
+    let e = sym c.level_of-found.ensures ∙ c.in-None.is in
     rw e refl

@@ -5,12 +5,12 @@ use Rattle.compare.specs.Lines.{stretch_of}
 use Rattle.compare.proofs.lines.compare_stretch.Goals as goal
 
 pub stretch_judged-requires : goal.stretch_judged-requires
-stretch_judged-requires c = shared-row _ _ (sym c.level_of-found.ensures ∙ c.in-Of.is)
+stretch_judged-requires c = shared-row _ _ (sym c.level_of-found.ensures ∙ c.in-Some.is)
 
-pub returns-in-Of : goal.returns-in-Of
+pub returns-in-Some : goal.returns-in-Some
 unfolding stretch_of
-returns-in-Of c = rw (sym c.level_of-found.ensures ∙ c.in-Of.is) c.stretch_judged.ensures
+returns-in-Some c = rw (sym c.level_of-found.ensures ∙ c.in-Some.is) c.stretch_judged.ensures
 
-pub returns-in-NoSuchLevel : goal.returns-in-NoSuchLevel
+pub returns-in-None : goal.returns-in-None
 unfolding stretch_of
-returns-in-NoSuchLevel c = rw (sym c.level_of-found.ensures ∙ c.in-NoSuchLevel.is) c.stretch_refused.ensures
+returns-in-None c = rw (sym c.level_of-found.ensures ∙ c.in-None.is) c.stretch_refused.ensures

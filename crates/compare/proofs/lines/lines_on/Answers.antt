@@ -1,15 +1,14 @@
 -- `lines_on`: refused with 2 and the list left, or compared.
 use mathlib.Core.Path.{refl, sym, ◌∙◌}
-use borrow.Author.Tests.{eq-eqb, ne_eqb}
+use borrow.Author.Tests.{eqb-true}
 use Rattle.compare.proofs.TwoLines.{lines_fit}
 use Rattle.compare.proofs.lines.lines_on.Goals as goal
 
-pub returns-then-lines_refusal-ne0 : goal.returns-then-lines_refusal-ne0
-returns-then-lines_refusal-ne0 c =
-    rw (← c.lines_refusal.ensures, ne_eqb _ _ c.if-lines_refusal-ne0.true) (c.refused.ensures ∙ rw c.fault_in.ensures refl, refl)
-
 pub counted_on-requires : goal.counted_on-requires
-counted_on-requires c = lines_fit _ c.requires _ _ (sym c.lines_refusal.ensures ∙ c.if-lines_refusal-ne0.false)
+counted_on-requires c = lines_fit _ c.requires _ _ (eqb-true _ _ (sym c.fits.ensures ∙ c.if-fits.true))
 
-pub returns : goal.returns
-returns c = rw (← c.lines_refusal.ensures, eq-eqb _ _ c.if-lines_refusal-ne0.false) c.counted_on.ensures
+pub returns-then-fits : goal.returns-then-fits
+returns-then-fits c = rw (sym c.fits.ensures ∙ c.if-fits.true) c.counted_on.ensures
+
+pub returns-else-fits : goal.returns-else-fits
+returns-else-fits c = rw (sym c.fits.ensures ∙ c.if-fits.false) (c.refused.ensures ∙ rw c.fault_in.ensures refl, refl)

@@ -26,8 +26,8 @@ overflow_add-result c =
     let b = c.requires in
     omega (arith, summed-all _ _ _ _ _ _ _ b.3, b.2, b.0.short)
 
-pub returns : goal.returns
-returns c =
+pub returns-else-line_digit : goal.returns-else-line_digit
+returns-else-line_digit c =
     let b = c.requires in
     rw c.count_at.ensures
     (summed-more _ _ _ _ _ _ _ b.3 b.1

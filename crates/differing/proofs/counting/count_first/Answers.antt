@@ -57,18 +57,14 @@ overflow_add-r c =
 
 pub overflow_add-row : goal.overflow_add-row
 overflow_add-row c =
-    let a = c.args in
     let b = c.requires in
     let sh = b.0.shared in
-    let i = set-inside a.row a.one.now a.other.now b.0 a.f b.1 0 (omega (arith, sh.later_set)) in
     omega (arith, sh.word_short, sh.few_alarm)
 
 pub overflow_sub-row : goal.overflow_sub-row
 overflow_sub-row c =
-    let a = c.args in
     let b = c.requires in
     let sh = b.0.shared in
-    let i = set-inside a.row a.one.now a.other.now b.0 a.f b.1 0 (omega (arith, sh.later_set)) in
     omega (arith, sh.room, sh.alarm_next, sh.national_next, sh.first_next, sh.few_alarm)
 
 pub count_kind-requires-3 : goal.count_kind-requires-3
@@ -90,8 +86,6 @@ pub returns : goal.returns
 returns c =
     let a = c.args in
     let b = c.requires in
-    let sh = b.0.shared in
-    let i = set-inside a.row a.one.now a.other.now b.0 a.f b.1 0 (omega (arith, sh.later_set)) in
     let w1 = word-sums _ _ _ b.0 a.f b.1 _ _ b.2 c.count_kind.ensures in
     let w2 = alarm-sums _ _ _ b.0 a.f b.1 _ _ w1 c.count_kind-2.ensures in
     national-sums _ _ _ b.0 a.f b.1 _ _ w2 c.count_kind-3.ensures

@@ -1,10 +1,7 @@
 -- `count_frame`: set after set.
-use Prim.Native.Nat.{◌+◌, ◌-◌, ◌*◌, ◌≤◌}
+use Prim.Native.Nat.{◌+◌, ◌*◌}
 use Rattle.differing.specs.Counting.{SumsTo}
 use Rattle.differing.proofs.counting.count_frame.Given as goal
 
 abbrev pub invariant-loop-s : goal.invariant-loop-s
-invariant-loop-s l = (l.s ≤ l.row.sets) × SumsTo l.row l.one l.other (l.f * l.row.digits + l.s * l.row.set) l.sums
-
-abbrev pub decreases-loop-s : goal.decreases-loop-s
-decreases-loop-s l = l.row.sets - l.s
+invariant-loop-s l = SumsTo l.row l.one l.other (l.f * l.row.digits + l.s * l.row.set) l.sums

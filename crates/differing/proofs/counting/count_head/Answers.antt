@@ -1,5 +1,4 @@
 -- `count_head`: the first set's head, or a later one's.
-use native.Mathlib.Omega.{arith}
 use Rattle.differing.proofs.SumsByKind.{first-place, first-end}
 use Rattle.differing.proofs.counting.count_head.Goals as goal
 
@@ -10,11 +9,3 @@ count_first-requires c =
 
 pub returns-then-s-eq0 : goal.returns-then-s-eq0
 returns-then-s-eq0 c = first-end _ _ _ _ _ _ c.if-s-eq0.true c.count_first.ensures
-
-pub count_later-requires : goal.count_later-requires
-count_later-requires c =
-    let b = c.requires in
-    (b.0, b.1, omega (arith, c.if-s-eq0.false), b.2, b.3)
-
-pub returns : goal.returns
-returns c = c.count_later.ensures

@@ -8,7 +8,6 @@ pub overflow_mul-p : goal.overflow_mul-p
 overflow_mul-p c =
     let a = c.args in
     let b = c.requires in
-    let sh = b.0.shared in
     let i = set-inside a.row a.one.now a.other.now b.0 a.f b.1 a.s b.3 in
     omega (arith, i, b.0.short)
 
@@ -16,7 +15,6 @@ pub overflow_mul-p-2 : goal.overflow_mul-p-2
 overflow_mul-p-2 c =
     let a = c.args in
     let b = c.requires in
-    let sh = b.0.shared in
     let i = set-inside a.row a.one.now a.other.now b.0 a.f b.1 a.s b.3 in
     omega (arith, i, b.0.short)
 
@@ -24,7 +22,6 @@ pub overflow_add-p : goal.overflow_add-p
 overflow_add-p c =
     let a = c.args in
     let b = c.requires in
-    let sh = b.0.shared in
     let i = set-inside a.row a.one.now a.other.now b.0 a.f b.1 a.s b.3 in
     omega (arith, i, b.0.short)
 
@@ -40,19 +37,12 @@ count_column-requires c =
       few-sums _ _ _ b.0 a.f b.1 (a.f * a.row.digits + a.s * a.row.set) _ (omega (arith, i)) b.4,
     )
 
-pub overflow_sub-row : goal.overflow_sub-row
-overflow_sub-row c = omega (arith, c.requires.0.shared.later_set)
-
 pub overflow_add-p-then-s-row : goal.overflow_add-p-then-s-row
 overflow_add-p-then-s-row c =
     let a = c.args in
     let b = c.requires in
-    let sh = b.0.shared in
     let i = set-inside a.row a.one.now a.other.now b.0 a.f b.1 a.s b.3 in
     omega (arith, i, b.0.short)
-
-pub overflow_sub-row-then-s-row : goal.overflow_sub-row-then-s-row
-overflow_sub-row-then-s-row c = omega (arith, c.requires.0.shared.last_least)
 
 pub count_few-requires : goal.count_few-requires
 count_few-requires c =
@@ -72,21 +62,15 @@ pub returns-then-s-row : goal.returns-then-s-row
 returns-then-s-row c =
     let a = c.args in
     let b = c.requires in
-    let sh = b.0.shared in
-    let i = set-inside a.row a.one.now a.other.now b.0 a.f b.1 a.s b.3 in
     let c1 = control-sums _ _ _ b.0 a.f b.1 _ _ a.s b.3 b.2 b.4 c.count_column.ensures in
     justification-sums _ _ _ b.0 a.f b.1 _ _ a.s b.3 b.2 c.if-s-row.true c1 c.count_few.ensures
 
-pub overflow_add-p-2 : goal.overflow_add-p-2
-overflow_add-p-2 c =
+pub overflow_add-p-else-s-row : goal.overflow_add-p-else-s-row
+overflow_add-p-else-s-row c =
     let a = c.args in
     let b = c.requires in
-    let sh = b.0.shared in
     let i = set-inside a.row a.one.now a.other.now b.0 a.f b.1 a.s b.3 in
     omega (arith, i, b.0.short)
-
-pub overflow_sub-row-2 : goal.overflow_sub-row-2
-overflow_sub-row-2 c = omega (arith, c.requires.0.shared.middle_least)
 
 pub count_kind-requires : goal.count_kind-requires
 count_kind-requires c =
@@ -102,11 +86,9 @@ count_kind-requires c =
       few-sums _ _ _ b.0 a.f b.1 (a.f * a.row.digits + a.s * a.row.set + 4) _ (omega (arith, i, sh.room)) c1,
     )
 
-pub returns : goal.returns
-returns c =
+pub returns-else-s-row : goal.returns-else-s-row
+returns-else-s-row c =
     let a = c.args in
     let b = c.requires in
-    let sh = b.0.shared in
-    let i = set-inside a.row a.one.now a.other.now b.0 a.f b.1 a.s b.3 in
     let c1 = control-sums _ _ _ b.0 a.f b.1 _ _ a.s b.3 b.2 b.4 c.count_column.ensures in
     fixed-sums _ _ _ b.0 a.f b.1 _ _ a.s b.3 b.2 c.if-s-row.false c1 c.count_kind.ensures

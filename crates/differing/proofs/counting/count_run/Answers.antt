@@ -6,37 +6,25 @@ use Rattle.levels.proofs.Runs.{head-end-in}
 use Rattle.differing.proofs.SumsByKind.{even, set-inside, few-sums, run-columns, run-whole, run-first, run-rest}
 use Rattle.differing.proofs.counting.count_run.Goals as goal
 
-pub head_end-head-requires : goal.head_end-head-requires
-head_end-head-requires c = c.requires.0.shared
-
 pub overflow_mul-p : goal.overflow_mul-p
 overflow_mul-p c =
     let a = c.args in
     let b = c.requires in
-    let sh = b.0.shared in
     let i = set-inside a.row a.one.now a.other.now b.0 a.f b.1 a.s b.2 in
-    let e = c.head_end-head.ensures in
-    let hin = head-end-in a.row sh a.s in
     omega (arith, i, b.0.short)
 
 pub overflow_mul-p-2 : goal.overflow_mul-p-2
 overflow_mul-p-2 c =
     let a = c.args in
     let b = c.requires in
-    let sh = b.0.shared in
     let i = set-inside a.row a.one.now a.other.now b.0 a.f b.1 a.s b.2 in
-    let e = c.head_end-head.ensures in
-    let hin = head-end-in a.row sh a.s in
     omega (arith, i, b.0.short)
 
 pub overflow_add-p : goal.overflow_add-p
 overflow_add-p c =
     let a = c.args in
     let b = c.requires in
-    let sh = b.0.shared in
     let i = set-inside a.row a.one.now a.other.now b.0 a.f b.1 a.s b.2 in
-    let e = c.head_end-head.ensures in
-    let hin = head-end-in a.row sh a.s in
     omega (arith, i, b.0.short)
 
 pub overflow_add-p-2 : goal.overflow_add-p-2
@@ -54,7 +42,6 @@ overflow_sub-columns c =
     let a = c.args in
     let b = c.requires in
     let sh = b.0.shared in
-    let i = set-inside a.row a.one.now a.other.now b.0 a.f b.1 a.s b.2 in
     let e = c.head_end-head.ensures in
     let hin = head-end-in a.row sh a.s in
     omega (arith, e, hin)
@@ -78,14 +65,11 @@ pub returns-then-columns-le-MOST : goal.returns-then-columns-le-MOST
 returns-then-columns-le-MOST c =
     let a = c.args in
     let b = c.requires in
-    let sh = b.0.shared in
-    let i = set-inside a.row a.one.now a.other.now b.0 a.f b.1 a.s b.2 in
     let e = c.head_end-head.ensures in
-    let hin = head-end-in a.row sh a.s in
     run-whole _ _ _ b.0 a.f b.1 _ _ a.s b.2 c.head_end-head.result e b.3 c.count_columns.ensures
 
-pub count_columns-requires-2 : goal.count_columns-requires-2
-count_columns-requires-2 c =
+pub count_columns-requires-else-columns-le-MOST : goal.count_columns-requires-else-columns-le-MOST
+count_columns-requires-else-columns-le-MOST c =
     let a = c.args in
     let b = c.requires in
     let sh = b.0.shared in
@@ -99,11 +83,8 @@ count_columns-requires-2 c =
       few-sums _ _ _ b.0 a.f b.1 (a.f * a.row.digits + a.s * a.row.set + head_end a.row a.s) _ (omega (arith, i, hin)) b.3,
     )
 
-pub overflow_mul-count_columns : goal.overflow_mul-count_columns
-overflow_mul-count_columns c = omega arith
-
-pub overflow_add-p-3 : goal.overflow_add-p-3
-overflow_add-p-3 c =
+pub overflow_add-p-else-columns-le-MOST : goal.overflow_add-p-else-columns-le-MOST
+overflow_add-p-else-columns-le-MOST c =
     let a = c.args in
     let b = c.requires in
     let sh = b.0.shared in
@@ -112,18 +93,15 @@ overflow_add-p-3 c =
     let hin = head-end-in a.row sh a.s in
     omega (arith, i, b.0.short, e, hin)
 
-pub overflow_sub-columns-2 : goal.overflow_sub-columns-2
-overflow_sub-columns-2 c = omega (arith, c.if-columns-le-MOST.false)
-
-pub count_columns-requires-3 : goal.count_columns-requires-3
-count_columns-requires-3 c =
+pub count_columns-requires-else-columns-le-MOST-2 : goal.count_columns-requires-else-columns-le-MOST-2
+count_columns-requires-else-columns-le-MOST-2 c =
     let a = c.args in
     let b = c.requires in
     let sh = b.0.shared in
     let i = set-inside a.row a.one.now a.other.now b.0 a.f b.1 a.s b.2 in
     let e = c.head_end-head.ensures in
     let hin = head-end-in a.row sh a.s in
-    let s1 = run-first _ _ _ b.0 a.f b.1 _ _ a.s b.2 c.head_end-head.result e (omega (arith, c.if-columns-le-MOST.false)) b.3 c.count_columns-2.ensures in (
+    let s1 = run-first _ _ _ b.0 a.f b.1 _ _ a.s b.2 c.head_end-head.result e (omega (arith, c.if-columns-le-MOST.false)) b.3 c.count_columns-else-columns-le-MOST.ensures in (
       even _ _ _ b.0,
       omega (arith, i, e, hin, c.if-columns-le-MOST.false),
       omega (arith, run-columns _ _ _ b.0 a.f b.1 a.s, e),
@@ -131,13 +109,10 @@ count_columns-requires-3 c =
       few-sums _ _ _ b.0 a.f b.1 (a.f * a.row.digits + a.s * a.row.set + c.head_end-head.result + 4 * 192) _ (omega (arith, i, e, hin, c.if-columns-le-MOST.false)) s1,
     )
 
-pub returns : goal.returns
-returns c =
+pub returns-else-columns-le-MOST : goal.returns-else-columns-le-MOST
+returns-else-columns-le-MOST c =
     let a = c.args in
     let b = c.requires in
-    let sh = b.0.shared in
-    let i = set-inside a.row a.one.now a.other.now b.0 a.f b.1 a.s b.2 in
     let e = c.head_end-head.ensures in
-    let hin = head-end-in a.row sh a.s in
-    let s1 = run-first _ _ _ b.0 a.f b.1 _ _ a.s b.2 c.head_end-head.result e (omega (arith, c.if-columns-le-MOST.false)) b.3 c.count_columns-2.ensures in
-    run-rest _ _ _ b.0 a.f b.1 _ _ a.s b.2 c.head_end-head.result e (omega (arith, c.if-columns-le-MOST.false)) s1 c.count_columns-3.ensures
+    let s1 = run-first _ _ _ b.0 a.f b.1 _ _ a.s b.2 c.head_end-head.result e (omega (arith, c.if-columns-le-MOST.false)) b.3 c.count_columns-else-columns-le-MOST.ensures in
+    run-rest _ _ _ b.0 a.f b.1 _ _ a.s b.2 c.head_end-head.result e (omega (arith, c.if-columns-le-MOST.false)) s1 c.count_columns-else-columns-le-MOST-2.ensures

@@ -18,13 +18,7 @@ equal_bytes-requires c =
     let b = c.requires in
     (omega arith, frame-bytes _ _ _ b.0 c.args.f b.1, b.0.same_length, omega (arith, b.0.shared.packed, b.0.shared.short))
 
-pub returns-then-equal_bytes : goal.returns-then-equal_bytes
-returns-then-equal_bytes c =
+pub returns-else-not-equal_bytes : goal.returns-else-not-equal_bytes
+returns-else-not-equal_bytes c =
     let b = c.requires in
-    equal-frame _ _ _ b.0 c.args.f b.1 _ (c.equal_bytes.ensures c.if-equal_bytes.true) b.2
-
-pub count_frame-requires : goal.count_frame-requires
-count_frame-requires c = (c.requires.0, c.requires.1, c.requires.2)
-
-pub returns : goal.returns
-returns c = c.count_frame.ensures
+    equal-frame _ _ _ b.0 c.args.f b.1 _ (c.equal_bytes.ensures c.if-not-equal_bytes.false) b.2

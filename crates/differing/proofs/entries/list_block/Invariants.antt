@@ -1,10 +1,7 @@
 -- `list_block`: byte after byte, nothing of a block that is equal, and nothing once the list is full.
-use Prim.Native.Nat.{◌-◌, ◌*◌, ◌≤◌}
+use Prim.Native.Nat.{◌*◌}
 use Rattle.differing.specs.Counting.{Listed}
 use Rattle.differing.proofs.entries.list_block.Given as goal
 
 abbrev pub invariant-loop-i : goal.invariant-loop-i
-invariant-loop-i l = (l.from ≤ l.i) × (l.i ≤ l.to) × Listed l.row l.one l.other (8 * l.i) l.all l.places
-
-abbrev pub decreases-loop-i : goal.decreases-loop-i
-decreases-loop-i l = l.to - l.i
+invariant-loop-i l = Listed l.row l.one l.other (8 * l.i) l.all l.places

@@ -5,7 +5,4 @@ use Rattle.digits.specs.Digits.{between, zeros_in}
 use Rattle.digits.proofs.zeros.zeros_by_digit.Given as goal
 
 abbrev pub invariant-loop-p : goal.invariant-loop-p
-invariant-loop-p l = (l.first ≤ l.p) × (l.p ≤ l.end) × (l.zeros ≡ zeros_in (between l.s l.first l.p)) × (l.zeros ≤ l.p - l.first)
-
-abbrev pub decreases-loop-p : goal.decreases-loop-p
-decreases-loop-p l = l.end - l.p
+invariant-loop-p l = (l.zeros ≡ zeros_in (between l.s l.first l.p)) × (l.zeros ≤ l.p - l.first)

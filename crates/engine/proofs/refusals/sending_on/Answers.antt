@@ -1,20 +1,27 @@
--- `sending_on` is `sending_on`: each return rewrites with the tests that lead to it.
-use borrow.Author.Tests.{lt-ltb, le-ltb, eq-eqb, ne_eqb}
-use Rattle.engine.specs.Engine.{sending_on}
+-- `sending_on` is `sending_on`: what refuses extraction, or what the notes lack.
+use mathlib.Core.Path.{refl}
+use borrow.Author.Tests.{ne_eqb}
+use Rattle.std.proofs.lemmas.Result.{err_from_is_err_and}
+use Rattle.refusal.proofs.Numbers.{number-some}
+use Rattle.engine.specs.Engine.{sending_on, too_few}
+use Rattle.engine.proofs.Search.{found, absent}
 use Rattle.engine.proofs.refusals.sending_on.Goals as goal
 
-pub returns-then-v-ne0 : goal.returns-then-v-ne0
+pub returns-in_err-refusal_on : goal.returns-in_err-refusal_on
 unfolding sending_on
-returns-then-v-ne0 c = rw (← c.refusal_on-v.ensures, ne_eqb _ _ c.if-v-ne0.true)
+returns-in_err-refusal_on c =
+    let p = err_from_is_err_and c.from_residual.result c.from_residual.ensures.1 in
+    let e = c.in_err-refusal_on in
+    rw (p.1, p.2, ← e.ensures, ne_eqb _ _ (number-some e.field-0.0.refusal)) refl
 
-pub returns-then-lacking-notes : goal.returns-then-lacking-notes
+pub returns-in-Some : goal.returns-in-Some
 unfolding sending_on
-returns-then-lacking-notes c =
-    rw (← c.refusal_on-v.ensures, eq-eqb _ _ c.if-v-ne0.false, ← c.first_lacking-lacking.ensures, lt-ltb _ _ c.if-lacking-notes.true)
-    c.refused.ensures
+returns-in-Some c =
+    let w = found (too_few c.args.row) c.args.notes.now c.in-Some.f c.in-Some.ensures in
+    rw (← c.in_ok-refusal_on.ensures, w.0, w.1) c.refuse.ensures
 
-pub returns : goal.returns
+pub returns-in_default : goal.returns-in_default
 unfolding sending_on
-returns c =
-    rw (← c.refusal_on-v.ensures, eq-eqb _ _ c.if-v-ne0.false, ← c.first_lacking-lacking.ensures, le-ltb _ _ c.if-lacking-notes.false)
-    c.refused-2.ensures
+returns-in_default c =
+    let w = absent (too_few c.args.row) c.args.notes.now c.in_default.ensures in
+    rw (← c.in_ok-refusal_on.ensures, w) refl

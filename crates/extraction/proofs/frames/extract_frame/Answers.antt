@@ -15,27 +15,15 @@ pub preceding_of-preceding-requires : goal.preceding_of-preceding-requires
 preceding_of-preceding-requires c =
     c.requires.0
 
-pub overflow_mul-start : goal.overflow_mul-start
-overflow_mul-start c =
-    omega (arith, set-inside c.requires.1.fits c.args.f 0 c.requires.0 (omega (arith, c.requires.1.fits.shared.later_set)), line_short c.requires.1.fits)
-
 pub loop-s-init : goal.loop-s-init
 loop-s-init c =
     let row = c.args.row in
     let none : c.args.f * columns row + 0 * wide row ≡ c.args.f * columns row = rw (zero-mul (wide row)) (add-zero (c.args.f * columns row)) in
-    (omega arith, refl, rw none c.requires.1)
-
-pub overflow_mul-p : goal.overflow_mul-p
-overflow_mul-p c =
-    omega (arith, set-inside c.requires.1.fits c.args.f c.loop-s.s c.requires.0 c.loop-s-test.true, line_short c.requires.1.fits)
-
-pub overflow_add-p : goal.overflow_add-p
-overflow_add-p c =
-    omega (arith, set-inside c.requires.1.fits c.args.f c.loop-s.s c.requires.0 c.loop-s-test.true, line_short c.requires.1.fits)
+    (refl, rw none c.requires.1)
 
 pub receive_set-w-requires : goal.receive_set-w-requires
 receive_set-w-requires c =
-    let so_far = c.loop-s.invariant.2 in
+    let so_far = c.loop-s.invariant.1 in
     let inside = set-inside c.requires.1.fits c.args.f c.loop-s.s c.requires.0 c.loop-s-test.true in (
       c.requires.1.fits.shared,
       inside,
@@ -44,29 +32,16 @@ receive_set-w-requires c =
       set-roomy c.args.f c.loop-s.s so_far c.requires.0 c.loop-s-test.true refl c.preceding_of-preceding.ensures c.note_of-note.ensures,
     )
 
-pub overflow_add-s : goal.overflow_add-s
-overflow_add-s c =
-    omega (arith, c.loop-s-test.true)
-
-pub loop-s-smaller : goal.loop-s-smaller
-loop-s-smaller c =
-    omega (arith, c.loop-s-test.true)
-
 pub loop-s-preserved : goal.loop-s-preserved
 loop-s-preserved c =
     let kept = c.receive_set-w.auto.buffer in (
-      omega (arith, c.loop-s-test.true),
-      kept ∙ c.loop-s.invariant.1,
-      handing-set c.args.f c.loop-s.s c.loop-s.invariant.2 c.requires.0 c.loop-s-test.true refl c.preceding_of-preceding.ensures c.note_of-note.ensures c.receive_set-w.ensures kept,
+      kept ∙ c.loop-s.invariant.0,
+      handing-set c.args.f c.loop-s.s c.loop-s.invariant.1 c.requires.0 c.loop-s-test.true refl c.preceding_of-preceding.ensures c.note_of-note.ensures c.receive_set-w.ensures kept,
     )
-
-pub shape_of-buffer : goal.shape_of-buffer
-shape_of-buffer c =
-    c.loop-s.invariant.1
 
 pub returns : goal.returns
 returns c =
-    let all : c.loop-s.s ≡ c.args.row.sets = omega (arith, c.loop-s.invariant.0, c.loop-s-test.false) in
+    let all : c.loop-s.s ≡ c.args.row.sets = omega arith in
     let end : c.args.f * columns c.args.row + c.loop-s.s * wide c.args.row ≡ (c.args.f + 1) * columns c.args.row =
     rw all (frame-all c.requires.1.fits c.args.f) in
-    rw end at c.loop-s.invariant.2
+    rw end at c.loop-s.invariant.1

@@ -1,5 +1,5 @@
 -- `extract_frames` hands out the frames of a line: the invariant is `Handing`, of the columns up to the next frame.
-use mathlib.Core.Path.{◌≡◌, refl, ◌∙◌}
+use mathlib.Core.Path.{◌≡◌, refl}
 use Prim.Native.Nat.{ℕ, ◌*◌}
 use native.Mathlib.Omega.{arith}
 use native.Mathlib.Nat.{zero-mul}
@@ -18,35 +18,14 @@ pub loop-f-init : goal.loop-f-init
 loop-f-init c =
     let line = c.args.line.now in
     let notes = c.args.notes.now in (
-      omega arith,
       refl,
       rw (zero-mul (columns c.args.row))
           (handing-none c.args.earlier line notes c.args.buffer.now c.requires.0 c.requires.1 _
           (of_four (λ (j : ℕ). writer_of (record { a = first; b = first; c = first; d = first }) j ≡ first) refl refl refl refl)),
     )
 
-pub extract_frame-w-requires : goal.extract_frame-w-requires
-extract_frame-w-requires c =
-    (c.loop-f-test.true, c.loop-f.invariant.2)
-
-pub overflow_add-f : goal.overflow_add-f
-overflow_add-f c =
-    omega (arith, c.loop-f-test.true)
-
-pub loop-f-smaller : goal.loop-f-smaller
-loop-f-smaller c =
-    omega (arith, c.loop-f-test.true)
-
-pub loop-f-preserved : goal.loop-f-preserved
-loop-f-preserved c =
-    (omega (arith, c.loop-f-test.true), c.extract_frame-w.auto.buffer ∙ c.loop-f.invariant.1, c.extract_frame-w.ensures)
-
-pub shape_of-buffer : goal.shape_of-buffer
-shape_of-buffer c =
-    c.loop-f.invariant.1
-
 pub returns : goal.returns
 returns c =
-    let all : c.loop-f.f ≡ length c.args.notes.now = omega (arith, c.loop-f.invariant.0, c.loop-f-test.false) in
+    let all : c.loop-f.f ≡ length c.args.notes.now = omega arith in
     let end : c.loop-f.f * columns c.args.row ≡ 2 * length c.args.line.now = rw all (frames-all c.requires.0) in
-    rw end at c.loop-f.invariant.2
+    rw end at c.loop-f.invariant.1

@@ -9,7 +9,7 @@ use Rattle.judge.specs.Verdict.{decided}
 use Rattle.judge.proofs.changes.changes_of.Given as goal
 
 abbrev pub invariant-loop-f : goal.invariant-loop-f
-invariant-loop-f l = (l.f ≤ length l.notes - 1) × (l.changes ≡ sum_to l.f (λ (k : ℕ). cond (eqb (decided l.notes l.j (suc k)) (decided l.notes l.j k)) 0 1)) × (l.changes ≤ l.f)
-
-abbrev pub decreases-loop-f : goal.decreases-loop-f
-decreases-loop-f l = length l.notes - l.f
+invariant-loop-f l =
+    (l.f - 1 ≤ length l.notes - 1)
+    × (l.changes ≡ sum_to (l.f - 1) (λ (k : ℕ). cond (eqb (decided l.notes l.j (suc k)) (decided l.notes l.j k)) 0 1))
+    × (l.changes ≤ l.f - 1)

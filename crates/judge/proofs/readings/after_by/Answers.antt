@@ -26,6 +26,6 @@ returns c =
     let e : F + 2 - 2 ≡ F = omega arith in
     let moved = set a.votes (F + 1) a.unknown in
     let notes = ap (λ (n : ℕ). take n (drop 2 moved)) e ∙ early-votes c.requires.1 a.unknown few in
-    let first = c.as_earlier-first.ensures ∙ early-first c.requires.1 a.unknown few in
+    let first = c.from-first.ensures ∙ early-first c.requires.1 a.unknown few in
     c.wrong_by.ensures
     ∙ by-votes a.row line a.pattern a.buffer.now (after_votes (majorities a.row line) a.unknown) first notes

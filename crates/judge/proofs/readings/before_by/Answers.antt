@@ -1,5 +1,5 @@
 -- `before_by`: the votes moved towards the end, the vote before them first.
-use mathlib.Core.Path.{◌≡◌, refl, ◌∙◌, ap}
+use mathlib.Core.Path.{◌≡◌, ◌∙◌, ap}
 use Prim.Native.Nat.{ℕ, ◌-◌, ◌/◌}
 use native.Mathlib.Omega.{arith}
 use lib.ListN.{length, set, take}
@@ -30,4 +30,4 @@ returns c =
     ∙ ap (λ (x : ℕ). take F (set a.votes 0 x)) w.ensures
     ∙ late-votes c.requires.1 _ in
     c.wrong_by.ensures
-    ∙ by-votes a.row line a.pattern a.buffer.now (before_votes a.row a.earlier (majorities a.row line) a.unknown) refl notes
+    ∙ by-votes a.row line a.pattern a.buffer.now (before_votes a.row a.earlier (majorities a.row line) a.unknown) c.from.ensures notes

@@ -14,5 +14,5 @@ overflow_cast-result c =
 pub returns-then-has_negative : goal.returns-then-has_negative
 returns-then-has_negative c = rw (sym c.has_negative.ensures ∙ c.if-has_negative.true)
 
-pub returns : goal.returns
-returns c = rw (sym c.has_negative.ensures ∙ c.if-has_negative.false)
+pub returns-else-has_negative : goal.returns-else-has_negative
+returns-else-has_negative c = rw (sym c.has_negative.ensures ∙ c.if-has_negative.false)

@@ -7,14 +7,14 @@ use Rattle.judge.proofs.readings.wrong_of.Goals as goal
 pub overflow_mul-a : goal.overflow_mul-a
 overflow_mul-a c = omega (arith, quarter-in c.args.j (length c.args.buffer.now) c.requires.0)
 
-pub overflow_add-e : goal.overflow_add-e
-overflow_add-e c = omega (arith, quarter-in c.args.j (length c.args.buffer.now) c.requires.0)
+pub overflow_add-a : goal.overflow_add-a
+overflow_add-a c = omega (arith, quarter-in c.args.j (length c.args.buffer.now) c.requires.0)
 
 pub overflow_mul-b : goal.overflow_mul-b
 overflow_mul-b c = omega (arith, quarter-in c.args.j (length c.args.read.now) c.requires.0)
 
-pub overflow_add-f : goal.overflow_add-f
-overflow_add-f c = omega (arith, quarter-in c.args.j (length c.args.read.now) c.requires.0)
+pub overflow_add-b : goal.overflow_add-b
+overflow_add-b c = omega (arith, quarter-in c.args.j (length c.args.read.now) c.requires.0)
 
 pub slice_bounds-wrong_in-end : goal.slice_bounds-wrong_in-end
 slice_bounds-wrong_in-end c = omega (arith, quarter-in c.args.j (length c.args.buffer.now) c.requires.0)

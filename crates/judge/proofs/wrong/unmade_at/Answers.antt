@@ -15,15 +15,9 @@ use Rattle.judge.proofs.wrong.unmade_at.Goals as goal
 abbrev sum_ones : ℕ → ℕ → ℕ → ℕ
 sum_ones read stage other = ones (bit_xor other (bit_xor read stage))
 
-pub overflow_add-stage : goal.overflow_add-stage
-overflow_add-stage c = omega arith
-
 pub overflow_sub-stage : goal.overflow_sub-stage
 overflow_sub-stage c =
     omega (arith, c.stage_of.ensures, c.requires.1.stage c.requires.0)
-
-pub overflow_add-pattern : goal.overflow_add-pattern
-overflow_add-pattern c = omega arith
 
 pub overflow_cast-result : goal.overflow_cast-result
 overflow_cast-result c =

@@ -15,5 +15,5 @@ unmade_at-requires c =
     let pre = c.requires in
     (c.if-pattern-eq0.false, pre.0, pre.2, pre.3, pre.4, pre.5)
 
-pub returns : goal.returns
-returns c = (c.unmade_at.ensures.0 _, c.unmade_at.ensures.1)
+pub returns-else-pattern-eq0 : goal.returns-else-pattern-eq0
+returns-else-pattern-eq0 c = (c.unmade_at.ensures.0 _, c.unmade_at.ensures.1)

@@ -23,8 +23,8 @@ count_wrong-requires c =
     let pre = c.requires in
     (pre.2, λ e. omega (arith, pre.3 e), omega (arith, pre.0, c.if-n-pattern.false), omega (arith, pre.1))
 
-pub returns : goal.returns
-returns c =
+pub returns-else-n-pattern : goal.returns-else-n-pattern
+returns-else-n-pattern c =
     let a = c.args in
     let h : a.n ≤ length (digits_of a.read.now) = omega (arith, c.requires.0, digits-length a.read.now) in
     c.count_wrong.ensures ∙ wrong-counted a.pattern (digits_of a.read.now) (digits_of a.sent.now) a.n h

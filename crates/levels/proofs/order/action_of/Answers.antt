@@ -7,6 +7,6 @@ pub returns-then-has_negative : goal.returns-then-has_negative
 unfolding action_of
 returns-then-has_negative c = rw (c.by_both.ensures, sym c.has_negative.ensures ∙ c.if-has_negative.true, c.is_stuffed-own.ensures)
 
-pub returns : goal.returns
+pub returns-else-has_negative : goal.returns-else-has_negative
 unfolding action_of
-returns c = rw (c.by_own.ensures, sym c.has_negative.ensures ∙ c.if-has_negative.false, c.is_stuffed-own.ensures)
+returns-else-has_negative c = rw (c.by_own.ensures, sym c.has_negative.ensures ∙ c.if-has_negative.false, c.is_stuffed-own.ensures)

@@ -11,6 +11,6 @@ pub returns-then-set-row : goal.returns-then-set-row
 unfolding head_end
 returns-then-set-row c = rw (ne_eqb _ _ c.if-set-eq0.false, eq-eqb _ _ c.if-set-row.true)
 
-pub returns : goal.returns
+pub returns-else-set-row : goal.returns-else-set-row
 unfolding head_end
-returns c = rw (ne_eqb _ _ c.if-set-eq0.false, ne_eqb _ _ c.if-set-row.false)
+returns-else-set-row c = rw (ne_eqb _ _ c.if-set-eq0.false, ne_eqb _ _ c.if-set-row.false)

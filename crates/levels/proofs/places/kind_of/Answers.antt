@@ -3,9 +3,6 @@ use borrow.Author.Tests.{eq-eqb, ne_eqb}
 use Rattle.levels.specs.Places.{kind_of}
 use Rattle.levels.proofs.places.kind_of.Goals as goal
 
-pub first_set-requires : goal.first_set-requires
-first_set-requires c = c.requires
-
 pub returns-then-at-eq0 : goal.returns-then-at-eq0
 unfolding kind_of
 returns-then-at-eq0 c = rw (c.first_set.ensures, eq-eqb _ _ c.if-at-eq0.true)
@@ -15,7 +12,7 @@ unfolding kind_of
 returns-then-at-row c =
     rw (c.last_set.ensures, ne_eqb _ _ c.if-at-eq0.false, eq-eqb _ _ c.if-at-row.true)
 
-pub returns : goal.returns
+pub returns-else-at-row : goal.returns-else-at-row
 unfolding kind_of
-returns c =
+returns-else-at-row c =
     rw (c.middle_set.ensures, ne_eqb _ _ c.if-at-eq0.false, ne_eqb _ _ c.if-at-row.false)

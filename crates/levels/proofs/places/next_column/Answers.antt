@@ -10,6 +10,6 @@ pub returns-then-set-row : goal.returns-then-set-row
 returns-then-set-row c =
     λ p e. next-set c.args.row c.requires.0 p c.args.at e c.if-place-row.false c.if-set-row.true
 
-pub returns : goal.returns
-returns c =
+pub returns-else-set-row : goal.returns-else-set-row
+returns-else-set-row c =
     λ p e. next-frame c.args.row c.requires.0 p c.args.at e c.if-place-row.false c.if-set-row.false

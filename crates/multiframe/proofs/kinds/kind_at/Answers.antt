@@ -15,15 +15,16 @@ between b h z s =
       | no g ↦ absurd (elim (dec_lt b 16) [ yes l ↦ z (omega arith) | no l ↦ s (omega arith) ])
     ]
 
-pub returns-then-byte-eq0 : goal.returns-then-byte-eq0
-returns-then-byte-eq0 c = c.first_byte.ensures ∙ sym (kind-first c.args.p c.if-byte-eq0.true)
+pub returns-in-0 : goal.returns-in-0
+returns-in-0 c = c.first_byte.ensures ∙ sym (kind-first c.args.p c.in-0.is)
 
-pub returns-then-byte-eq16 : goal.returns-then-byte-eq16
-returns-then-byte-eq16 c =
-    c.sixteenth_byte.ensures ∙ sym (kind-sixteenth c.args.p c.if-byte-eq16.true)
+pub returns-in-16 : goal.returns-in-16
+returns-in-16 c = c.sixteenth_byte.ensures ∙ sym (kind-sixteenth c.args.p c.in-16.is)
 
-pub returns : goal.returns
-returns c =
+pub returns-in_default : goal.returns-in_default
+returns-in_default c =
     let p = c.args.p in
-    let g = between (p / 8 % 32) (omega arith) c.if-byte-eq0.false c.if-byte-eq16.false in
+    let z : p / 8 % 32 ≡ 0 → ⊥ = λ e. omega (arith, c.in_default) in
+    let s : p / 8 % 32 ≡ 16 → ⊥ = λ e. omega (arith, c.in_default) in
+    let g = between (p / 8 % 32) (omega arith) z s in
     ap Channel c.channel_of.ensures ∙ sym (kind-channel p (omega (arith, g)))

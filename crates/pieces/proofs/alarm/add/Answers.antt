@@ -7,6 +7,6 @@ pub returns-then-st-n : goal.returns-then-st-n
 unfolding added
 returns-then-st-n c = rw (eq-eqb _ _ c.if-st-n.true, c.alarm_after-alarm.ensures)
 
-pub returns : goal.returns
+pub returns-else-st-n : goal.returns-else-st-n
 unfolding added
-returns c = rw (ne_eqb _ _ c.if-st-n.false)
+returns-else-st-n c = rw (ne_eqb _ _ c.if-st-n.false)

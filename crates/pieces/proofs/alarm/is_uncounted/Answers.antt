@@ -7,6 +7,6 @@ pub returns-then-row-st : goal.returns-then-row-st
 unfolding uncounted
 returns-then-row-st c = rw (le-leb _ _ c.if-row-st.true)
 
-pub returns : goal.returns
+pub returns-else-row-st : goal.returns-else-row-st
 unfolding uncounted
-returns c = rw (lt-leb _ _ c.if-row-st.false)
+returns-else-row-st c = rw (lt-leb _ _ c.if-row-st.false)

@@ -1,12 +1,12 @@
 -- `is_ready` is `ready_of`.
-use mathlib.Core.Path.{sym, ◌∙◌}
+use Rattle.std.proofs.Common.{rules}
 use Rattle.pieces.specs.Frame.{ready_of}
 use Rattle.pieces.proofs.frame.is_ready.Goals as goal
 
 pub returns-then-is_aligned : goal.returns-then-is_aligned
 unfolding ready_of
-returns-then-is_aligned c = rw (sym c.is_aligned.ensures ∙ c.if-is_aligned.true)
+returns-then-is_aligned c = search rules
 
-pub returns : goal.returns
+pub returns-else-is_aligned : goal.returns-else-is_aligned
 unfolding ready_of
-returns c = rw (sym c.is_aligned.ensures ∙ c.if-is_aligned.false)
+returns-else-is_aligned c = search rules

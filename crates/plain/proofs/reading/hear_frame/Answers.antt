@@ -8,32 +8,25 @@ use Rattle.plain.proofs.Votes.{wrong-more, wrong-none}
 use Rattle.plain.proofs.reading.hear_frame.Goals as goal
 
 pub loop-q-init : goal.loop-q-init
-loop-q-init c = (omega arith, sym (wrong-none _ _ _), omega arith, c.requires.2)
+loop-q-init c = (sym (wrong-none _ _ _), omega arith, c.requires.2)
 
 pub hear_place-wrong-requires : goal.hear_place-wrong-requires
 hear_place-wrong-requires c =
-    (c.requires.0, c.loop-q-test.true, c.requires.1, c.loop-q.invariant.3)
+    (c.requires.0, omega arith, c.requires.1, c.loop-q.invariant.2)
 
 pub overflow_add-wrong : goal.overflow_add-wrong
 overflow_add-wrong c =
-    omega (arith, c.loop-q.invariant.2, c.requires.0.short, c.hear_place-wrong.ensures.1, c.loop-q-test.true)
-
-pub overflow_add-q : goal.overflow_add-q
-overflow_add-q c =
-    omega (arith, c.requires.0.short, c.loop-q-test.true)
-
-pub loop-q-smaller : goal.loop-q-smaller
-loop-q-smaller c = omega arith
+    omega (arith, c.loop-q.invariant.1, c.requires.0.short, c.hear_place-wrong.ensures.1)
 
 pub loop-q-preserved : goal.loop-q-preserved
 loop-q-preserved c =
     let i = c.loop-q.invariant in
     let h = c.hear_place-wrong.ensures in
-    (omega arith, rw (h.0, i.1) (sym (wrong-more _ _ _ _)), omega (arith, h.1, i.2), h.2)
+    (rw (h.0, i.0) (sym (wrong-more _ _ _ _)), omega (arith, h.1, i.1), h.2)
 
 pub returns : goal.returns
 returns c =
     let i = c.loop-q.invariant in
-    let end : c.loop-q.q ≡ c.args.row.digits = omega (arith, i.0, c.loop-q-test.false) in
+    let end : c.loop-q.q ≡ c.args.row.digits = omega arith in
     let a = c.args in
-    (i.1 ∙ ap (wrong_to a.row a.line.now a.f) end, omega arith, subst (λ (n : ℕ). Voted a.row a.line.now a.f n c.loop-q.votes) end i.3)
+    (i.0 ∙ ap (wrong_to a.row a.line.now a.f) end, omega arith, subst (λ (n : ℕ). Voted a.row a.line.now a.f n c.loop-q.votes) end i.2)

@@ -5,42 +5,27 @@ use Rattle.plain.proofs.reading.read.Goals as goal
 
 pub loop-f-init : goal.loop-f-init
 loop-f-init c =
-    (omega arith, noting-none c.args.row c.args.line.now c.args.notes.now c.requires.0 c.requires.1)
+    noting-none c.args.row c.args.line.now c.args.notes.now c.requires.0 c.requires.1
 
 pub said_by-said-requires : goal.said_by-said-requires
 said_by-said-requires c =
-    (c.requires.0, within c.loop-f.invariant.1 (omega (arith, c.loop-f-test.true, c.loop-f.invariant.1.size)))
-
-pub bounds-notes-f : goal.bounds-notes-f
-bounds-notes-f c = omega arith
+    (c.requires.0, within c.loop-f.invariant (omega (arith, c.loop-f.invariant.size)))
 
 pub four_sums-sums-requires : goal.four_sums-sums-requires
 four_sums-sums-requires c =
     let said = c.said_by-said in
-    sums-ask c.loop-f.invariant.1 (omega (arith, c.loop-f-test.true, c.loop-f.invariant.1.size)) said.result.dissent said.ensures.3
+    sums-ask c.loop-f.invariant (omega (arith, c.loop-f.invariant.size)) said.result.dissent said.ensures.3
 
 pub overflow_add-alignment : goal.overflow_add-alignment
 overflow_add-alignment c =
-    omega (arith, alignment-small c.loop-f.invariant.1 (omega (arith, c.loop-f-test.true, c.loop-f.invariant.1.size)), c.said_by-said.ensures.2, c.requires.0.short)
-
-pub overflow_add-f : goal.overflow_add-f
-overflow_add-f c = omega arith
-
-pub loop-f-smaller : goal.loop-f-smaller
-loop-f-smaller c =
-    omega (arith, c.loop-f-test.true, c.loop-f.invariant.1.size)
+    omega (arith, alignment-small c.loop-f.invariant (omega (arith, c.loop-f.invariant.size)), c.said_by-said.ensures.2, c.requires.0.short)
 
 pub loop-f-preserved : goal.loop-f-preserved
 loop-f-preserved c =
     let said = c.said_by-said in
-    let sums = c.four_sums-sums in (
-      omega (arith, c.loop-f-test.true, c.loop-f.invariant.1.size),
-      noting-more c.loop-f.invariant.1 (omega (arith, c.loop-f-test.true, c.loop-f.invariant.1.size)) said.result.dissent said.ensures.3 said.result.note
-          said.result.wrong sums.result said.ensures.0 said.ensures.1 said.ensures.2 sums.ensures,
-    )
-
-pub shape_of-notes : goal.shape_of-notes
-shape_of-notes c = omega (arith, c.loop-f.invariant.1.size)
+    let sums = c.four_sums-sums in
+    (noting-more c.loop-f.invariant (omega (arith, c.loop-f.invariant.size)) said.result.dissent said.ensures.3 said.result.note
+    said.result.wrong sums.result said.ensures.0 said.ensures.1 said.ensures.2 sums.ensures)
 
 pub returns : goal.returns
-returns c = noting-all c.loop-f.invariant.1 (omega (arith, c.loop-f-test.false, c.loop-f.invariant.0, c.loop-f.invariant.1.size))
+returns c = noting-all c.loop-f.invariant (omega (arith, c.loop-f.invariant.size))

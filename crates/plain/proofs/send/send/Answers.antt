@@ -13,8 +13,6 @@ overflow_mul-end c =
 
 pub loop-p-init : goal.loop-p-init
 loop-p-init c = (
-  omega arith,
-  refl,
   refl,
   omega (arith, line_short _ c.requires.0 _ _ c.requires.1),
   counted_start _ _ _,
@@ -24,7 +22,7 @@ loop-p-init c = (
 pub sent_at-d-requires : goal.sent_at-d-requires
 sent_at-d-requires c =
     let i = c.loop-p.invariant in
-    (c.requires.0, frame_noted _ c.requires.0 _ _ c.requires.1 _ (omega arith), i.4)
+    (c.requires.0, frame_noted _ c.requires.0 _ _ c.requires.1 _ (omega arith), i.2)
 
 pub put_from-requires : goal.put_from-requires
 put_from-requires c = (omega arith, c.sent_at-d.ensures.1)
@@ -32,32 +30,21 @@ put_from-requires c = (omega arith, c.sent_at-d.ensures.1)
 pub count_place-requires : goal.count_place-requires
 count_place-requires c =
     let i = c.loop-p.invariant in
-    (c.requires.0, omega arith, frame_noted _ c.requires.0 _ _ c.requires.1 _ (omega arith), i.4)
-
-pub overflow_add-p : goal.overflow_add-p
-overflow_add-p c = omega arith
-
-pub loop-p-smaller : goal.loop-p-smaller
-loop-p-smaller c = omega arith
+    (c.requires.0, omega arith, frame_noted _ c.requires.0 _ _ c.requires.1 _ (omega arith), i.2)
 
 pub loop-p-preserved : goal.loop-p-preserved
 loop-p-preserved c =
     let i = c.loop-p.invariant in
     let put = c.put_from in (
       omega arith,
-      i.1,
       omega arith,
-      i.3,
       c.count_place.ensures,
-      sent-more _ _ _ _ _ _ _ _ i.5 _ c.sent_at-d.ensures.0 put.ensures.0 put.ensures.1 (omega arith),
+      sent-more _ _ _ _ _ _ _ _ i.3 _ c.sent_at-d.ensures.0 put.ensures.0 put.ensures.1 (omega arith),
     )
-
-pub shape_of-line : goal.shape_of-line
-shape_of-line c = omega arith
 
 pub returns : goal.returns
 returns c =
     let i = c.loop-p.invariant in
     let p = c.loop-p.p in
     let end : p ≡ 8 * length c.args.line.now = omega arith in
-    (rw end at (counted-all _ _ _ _ _ i.4), sent-all _ _ _ _ _ _ _ i.5 end)
+    (rw end at (counted-all _ _ _ _ _ i.2), sent-all _ _ _ _ _ _ _ i.3 end)

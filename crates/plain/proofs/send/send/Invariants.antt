@@ -1,6 +1,6 @@
 -- `send`: one place after the other, by the laws of Counting and Sending.
 use mathlib.Core.Path.{◌≡◌}
-use Prim.Native.Nat.{◌*◌, ◌-◌, ◌≤◌, ◌<◌}
+use Prim.Native.Nat.{◌*◌, ◌<◌}
 use lib.ListN.{length}
 use Rattle.engine.specs.Walk.{Counted}
 use Rattle.plain.specs.Walk.{Sent}
@@ -8,12 +8,7 @@ use Rattle.plain.proofs.send.send.Given as goal
 
 abbrev pub invariant-loop-p : goal.invariant-loop-p
 invariant-loop-p l =
-    (l.p ≤ l.end)
-    × (l.end ≡ 8 * length l.initial.line)
-    × (length l.line ≡ length l.initial.line)
-    × (l.end < 1000000)
+    (length l.line ≡ length l.initial.line)
+    × (8 * length l.line < 1000000)
     × Counted l.row l.earlier l.notes l.p l.next
     × Sent l.row l.earlier l.notes l.buffer l.p (length l.initial.line) l.line
-
-abbrev pub decreases-loop-p : goal.decreases-loop-p
-decreases-loop-p l = l.end - l.p

@@ -1,24 +1,27 @@
--- `mode_of` is `mode_of`: each return rewrites with the tests that lead to it.
-use borrow.Author.Tests.{eq-eqb, ne_eqb, le-leb, lt-leb}
+-- `mode_of` is `mode_of`.
+use native.Mathlib.Omega.{arith}
+use Rattle.std.proofs.Common.{rules}
+use Rattle.std.proofs.lemmas.Grind.{common_steps}
+use Rattle.std.proofs.lemmas.Bool.Decides.{nat_tests}
 use Rattle.receiver.specs.Numbers.{mode_of}
 use Rattle.receiver.proofs.numbers.mode_of.Goals as goal
 
-pub returns-then-n-eq0 : goal.returns-then-n-eq0
+pub returns-in-0 : goal.returns-in-0
 unfolding mode_of
-returns-then-n-eq0 c = rw (eq-eqb _ _ c.if-n-eq0.true)
+returns-in-0 c = search rules
 
-pub returns-then-n-eq1 : goal.returns-then-n-eq1
+pub returns-in-1 : goal.returns-in-1
 unfolding mode_of
-returns-then-n-eq1 c = rw (ne_eqb _ _ c.if-n-eq0.false, eq-eqb _ _ c.if-n-eq1.true)
+returns-in-1 c = search rules
 
-pub returns-then-n-eq2 : goal.returns-then-n-eq2
+pub returns-in-2 : goal.returns-in-2
 unfolding mode_of
-returns-then-n-eq2 c = rw (ne_eqb _ _ c.if-n-eq0.false, ne_eqb _ _ c.if-n-eq1.false, eq-eqb _ _ c.if-n-eq2.true)
+returns-in-2 c = search rules
 
-pub returns-then-n-le6 : goal.returns-then-n-le6
+pub returns-in-3-to-6 : goal.returns-in-3-to-6
 unfolding mode_of
-returns-then-n-le6 c = rw (ne_eqb _ _ c.if-n-eq0.false, ne_eqb _ _ c.if-n-eq1.false, ne_eqb _ _ c.if-n-eq2.false, le-leb _ _ c.if-n-le6.true)
+returns-in-3-to-6 c = grind (arith, common_steps, nat_tests)
 
-pub returns : goal.returns
+pub returns-in_default : goal.returns-in_default
 unfolding mode_of
-returns c = rw (ne_eqb _ _ c.if-n-eq0.false, ne_eqb _ _ c.if-n-eq1.false, ne_eqb _ _ c.if-n-eq2.false, lt-leb _ _ c.if-n-le6.false)
+returns-in_default c = grind (arith, common_steps, nat_tests)

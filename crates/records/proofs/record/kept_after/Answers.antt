@@ -5,5 +5,5 @@ use Rattle.records.proofs.record.kept_after.Goals as goal
 pub returns-then-refusal-ne0 : goal.returns-then-refusal-ne0
 returns-then-refusal-ne0 c = rw (ne_eqb _ _ c.if-refusal-ne0.true)
 
-pub returns : goal.returns
-returns c = rw (eq-eqb _ _ c.if-refusal-ne0.false, c.record_of-kept.ensures)
+pub returns-else-refusal-ne0 : goal.returns-else-refusal-ne0
+returns-else-refusal-ne0 c = rw (eq-eqb _ _ c.if-refusal-ne0.false, c.record_of.ensures)

@@ -2,4 +2,4 @@
 use Rattle.records.proofs.record.state_of.Goals as goal
 
 pub returns : goal.returns
-returns c = rw c.mode_of-mode.ensures
+returns c = rw c.mode_of.ensures

@@ -7,6 +7,6 @@ pub returns-then-number-le64 : goal.returns-then-number-le64
 unfolding counted_to
 returns-then-number-le64 c = rw (le-ltb _ _ c.if-number-le64.true)
 
-pub returns : goal.returns
+pub returns-else-number-le64 : goal.returns-else-number-le64
 unfolding counted_to
-returns c = rw (lt-ltb _ _ c.if-number-le64.false)
+returns-else-number-le64 c = rw (lt-ltb _ _ c.if-number-le64.false)

@@ -11,6 +11,6 @@ pub returns-then-number-gt64 : goal.returns-then-number-gt64
 unfolding list_refusal
 returns-then-number-gt64 c = rw (lt-leb _ _ c.if-number-line.false, lt-ltb _ _ c.if-number-gt64.true)
 
-pub returns : goal.returns
+pub returns-else-number-gt64 : goal.returns-else-number-gt64
 unfolding list_refusal
-returns c = rw (lt-leb _ _ c.if-number-line.false, le-ltb _ _ c.if-number-gt64.false)
+returns-else-number-gt64 c = rw (lt-leb _ _ c.if-number-line.false, le-ltb _ _ c.if-number-gt64.false)

@@ -8,6 +8,6 @@ pub returns-then-number-le64 : goal.returns-then-number-le64
 unfolding count_refusal
 returns-then-number-le64 c = rw (le-ltb _ _ c.if-number-le64.true) (refl, refl)
 
-pub returns : goal.returns
+pub returns-else-number-le64 : goal.returns-else-number-le64
 unfolding count_refusal
-returns c = rw (lt-ltb _ _ c.if-number-le64.false) (refl, refl)
+returns-else-number-le64 c = rw (lt-ltb _ _ c.if-number-le64.false) (refl, refl)

@@ -6,48 +6,28 @@ use Rattle.strides.proofs.copies.copy_digits.Goals as goal
 
 pub loop-p-init : goal.loop-p-init
 loop-p-init c =
-    (omega arith, c.requires.0, refl, puts_none c.args.piece.now _ _ c.args.first)
-
-pub overflow_sub-p : goal.overflow_sub-p
-overflow_sub-p c = c.loop-p.invariant.0
-
-pub overflow_add-to : goal.overflow_add-to
-overflow_add-to c =
-    omega (arith, c.requires.3, c.requires.4, c.loop-p.invariant.0, c.loop-p.invariant.1)
-
-pub digit_at-requires : goal.digit_at-requires
-digit_at-requires c =
-    omega (arith, c.requires.1, c.loop-p-test.true)
+    (refl, puts_none c.args.piece.now _ _ c.args.first)
 
 pub put_digit-requires : goal.put_digit-requires
 put_digit-requires c =
     let l = c.loop-p in
-    (omega (arith, c.requires.3, l.invariant.0, l.invariant.2, c.loop-p-test.true), c.digit_at.ensures.1)
-
-pub overflow_add-p : goal.overflow_add-p
-overflow_add-p c =
-    omega (arith, c.requires.1, c.requires.2, c.loop-p-test.true)
-
-pub loop-p-smaller : goal.loop-p-smaller
-loop-p-smaller c = omega (arith, c.loop-p-test.true)
+    (omega (arith, c.requires.3, l.invariant.0, c.loop-p-test.true), c.digit_at.ensures.1)
 
 pub loop-p-preserved : goal.loop-p-preserved
 loop-p-preserved c =
     let l = c.loop-p in
     let t = c.loop-p-test.true in
     let put = c.put_digit in (
-      omega (arith, l.invariant.0),
-      omega (arith, t),
-      put.auto.s ∙ l.invariant.2,
-      puts_one c.args.piece.now _ c.args.to c.args.first l.p _ _ l.f _ l.invariant.0 (omega (arith, t, c.requires.1)) refl
-          c.digit_at.ensures.0 l.invariant.3 (put_is _ _ _ _ put.ensures.0 put.ensures.1),
+      put.auto.s ∙ l.invariant.0,
+      puts_one c.args.piece.now _ c.args.to c.args.first l.p _ _ l.f _ (omega arith) (omega (arith, t, c.requires.1)) refl
+          c.digit_at.ensures.0 l.invariant.1 (put_is _ _ _ _ put.ensures.0 put.ensures.1),
     )
 
 pub shape_of-f : goal.shape_of-f
-shape_of-f c = c.loop-p.invariant.2
+shape_of-f c = c.loop-p.invariant.0
 
 pub returns : goal.returns
 returns c =
     let l = c.loop-p in
-    let e : l.p ≡ c.args.end = omega (arith, l.invariant.1, c.loop-p-test.false) in
-    rw e at l.invariant.3
+    let e : l.p ≡ c.args.end = omega (arith, c.requires.0) in
+    rw e at l.invariant.1

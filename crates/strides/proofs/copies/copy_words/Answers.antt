@@ -6,23 +6,7 @@ use Rattle.strides.proofs.copies.copy_words.Goals as goal
 
 pub loop-k-init : goal.loop-k-init
 loop-k-init c =
-    (omega arith, (λ i. omega (arith, c.type_inv.f i)), refl, puts-start c.args.piece.now _ _ c.args.first _ (omega arith))
-
-pub overflow_mul-k : goal.overflow_mul-k
-overflow_mul-k c =
-    omega (arith, c.requires.2, c.requires.3, c.loop-k-test.true)
-
-pub overflow_add-at : goal.overflow_add-at
-overflow_add-at c =
-    omega (arith, c.requires.2, c.requires.3, c.loop-k-test.true)
-
-pub overflow_mul-k-in-loop-k : goal.overflow_mul-k-in-loop-k
-overflow_mul-k-in-loop-k c =
-    omega (arith, c.requires.0, c.requires.1, c.loop-k-test.true)
-
-pub overflow_add-first : goal.overflow_add-first
-overflow_add-first c =
-    omega (arith, c.requires.0, c.requires.1, c.loop-k-test.true)
+    ((λ i. omega (arith, c.type_inv.f i)), refl, puts-start c.args.piece.now _ _ c.args.first _ (omega arith))
 
 pub read_digits-requires : goal.read_digits-requires
 read_digits-requires c =
@@ -31,14 +15,7 @@ read_digits-requires c =
 pub store4-requires : goal.store4-requires
 store4-requires c =
     let l = c.loop-k in
-    omega (arith, c.requires.2, l.invariant.2, c.loop-k-test.true)
-
-pub overflow_add-k : goal.overflow_add-k
-overflow_add-k c =
-    omega (arith, c.requires.2, c.requires.3, c.loop-k-test.true)
-
-pub loop-k-smaller : goal.loop-k-smaller
-loop-k-smaller c = omega (arith, c.loop-k-test.true)
+    omega (arith, c.requires.2, l.invariant.1, c.loop-k-test.true)
 
 pub loop-k-preserved : goal.loop-k-preserved
 loop-k-preserved c =
@@ -46,15 +23,15 @@ loop-k-preserved c =
     let t = c.loop-k-test.true in
     let s = c.store4 in
     let on =
-    puts_word c.args.piece.now _ l.f _ c.args.at c.args.first l.k _ l.invariant.1 (omega (arith, c.requires.2, l.invariant.2, t)) (omega (arith, c.requires.0, t)) l.invariant.3
+    puts_word c.args.piece.now _ l.f _ c.args.at c.args.first l.k _ l.invariant.0 (omega (arith, c.requires.2, l.invariant.1, t)) (omega (arith, c.requires.0, t)) l.invariant.2
     c.read_digits.ensures.0 s.ensures in
-    (omega (arith, t), on.0, s.auto.s ∙ l.invariant.2, on.1)
+    (on.0, s.auto.s ∙ l.invariant.1, on.1)
 
 pub shape_of-f : goal.shape_of-f
-shape_of-f c = c.loop-k.invariant.2
+shape_of-f c = c.loop-k.invariant.1
 
 pub returns : goal.returns
 returns c =
     let l = c.loop-k in
-    let e : l.k ≡ c.args.n = omega (arith, l.invariant.0, c.loop-k-test.false) in
-    rw e at l.invariant.3
+    let e : l.k ≡ c.args.n = omega arith in
+    rw e at l.invariant.2

@@ -14,8 +14,8 @@ returns-then-is_better c =
     let told = rw (e, g) at c.is_better.ensures in
     (omega arith, rw (sym told ∙ c.if-is_better.true))
 
-pub returns : goal.returns
-returns c =
+pub returns-else-is_better : goal.returns-else-is_better
+returns-else-is_better c =
     let a = c.args in
     let at = 11 + 42 * (4 + a.j) in
     let bt = 11 + 42 * (8 + a.j) in

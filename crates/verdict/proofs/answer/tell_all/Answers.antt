@@ -11,9 +11,6 @@ use Rattle.verdict.proofs.answer.tell_all.Goals as goal
 pub loop-j-init : goal.loop-j-init
 loop-j-init c = (omega arith, c.requires.2, told_none c.args.state.now c.args.out.now)
 
-pub offset_bounds-out-a : goal.offset_bounds-out-a
-offset_bounds-out-a c = omega (arith, c.loop-j.invariant.1)
-
 pub slice_bounds-tell_tributary-end : goal.slice_bounds-tell_tributary-end
 slice_bounds-tell_tributary-end c = omega (arith, c.loop-j.invariant.1)
 
@@ -42,21 +39,3 @@ returns c =
     let l = c.loop-j in
     let end : l.j ≡ 4 = omega arith in
     sym (take_all l.out 88 l.invariant.1) ∙ (rw end at l.invariant.2) ∙ told-all c.args.state.now
-
-pub overflow_mul-a : goal.overflow_mul-a
-overflow_mul-a c = omega arith
-
-pub overflow_add-e : goal.overflow_add-e
-overflow_add-e c = omega arith
-
-pub slice_bounds-tell_tributary-count : goal.slice_bounds-tell_tributary-count
-slice_bounds-tell_tributary-count c = omega arith
-
-pub slice_bounds-tell_tributary-start : goal.slice_bounds-tell_tributary-start
-slice_bounds-tell_tributary-start c = omega arith
-
-pub overflow_add-j : goal.overflow_add-j
-overflow_add-j c = omega arith
-
-pub loop-j-smaller : goal.loop-j-smaller
-loop-j-smaller c = omega arith

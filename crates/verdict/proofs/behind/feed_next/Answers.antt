@@ -23,15 +23,15 @@ returns-then-next-eq16 c = rw (eq-eqb c.args.next 16 c.if-next-eq16.true) c.feed
 pub feed_after-requires : goal.feed_after-requires
 feed_after-requires c = (c.requires.0, c.requires.1, c.requires.2, c.requires.3, omega (arith, c.requires.4, c.if-next-eq16.false))
 
-pub shape_of-state : goal.shape_of-state
-shape_of-state c = c.feed_after.auto.state
+pub shape_of-state-else-next-eq16 : goal.shape_of-state-else-next-eq16
+shape_of-state-else-next-eq16 c = c.feed_after.auto.state
 
-pub shape_of-room : goal.shape_of-room
-shape_of-room c = c.feed_after.auto.room
+pub shape_of-room-else-next-eq16 : goal.shape_of-room-else-next-eq16
+shape_of-room-else-next-eq16 c = c.feed_after.auto.room
 
-pub shape_of-scratch : goal.shape_of-scratch
-shape_of-scratch c = c.feed_after.auto.scratch
+pub shape_of-scratch-else-next-eq16 : goal.shape_of-scratch-else-next-eq16
+shape_of-scratch-else-next-eq16 c = c.feed_after.auto.scratch
 
-pub returns : goal.returns
+pub returns-else-next-eq16 : goal.returns-else-next-eq16
 unfolding ran_after
-returns c = rw (ne_eqb c.args.next 16 c.if-next-eq16.false) c.feed_after.ensures
+returns-else-next-eq16 c = rw (ne_eqb c.args.next 16 c.if-next-eq16.false) c.feed_after.ensures

@@ -43,9 +43,9 @@ returns-then-next-gt16 c =
     let three : (eqb (get_or a.state.now 1 0) 0 && not (eqb (a.sent % 4) 0)) ≡ false = sym c.bad_sent.ensures ∙ c.if-bad_sent.false in
     rw (one, two, three, lt-ltb 16 a.next c.if-next-gt16.true)
 
-pub returns : goal.returns
+pub returns-else-next-gt16 : goal.returns-else-next-gt16
 unfolding feed_fault state_from
-returns c =
+returns-else-next-gt16 c =
     let a = c.args in
     let one : is_valid (state_from a.state.now) ≡ true = sym c.is_valid.ensures ∙ c.if-not-is_valid.false in
     let two : bad_line a.row a.line ≡ false = sym c.bad_line.ensures ∙ c.if-bad_line.false in

@@ -54,4 +54,4 @@ returns c =
     let lent : ℕ → ℕ → ℕ = λ (j : ℕ). lent_from a.base (digits_of (quarter_of a.sent.now j)) in
     c.feed_way.ensures
     ∙ by-votes a.row a.pattern lent a.line.now (after_votes (majorities a.row a.line.now) a.next) a.state.now 3
-    (c.as_earlier-first.ensures ∙ early-first p.2 a.next few) (rw e (early-votes p.2 a.next few)) size
+    (c.from-first.ensures ∙ early-first p.2 a.next few) (rw e (early-votes p.2 a.next few)) size

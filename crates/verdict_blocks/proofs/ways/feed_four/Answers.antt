@@ -23,16 +23,7 @@ ran_in state w row earlier notes pattern room sent base j =
     (block_at state (4 * w + j)) (length notes)
 
 pub loop-j-init : goal.loop-j-init
-loop-j-init c = (omega arith, sym (several-none c.args.state.now (4 * c.args.w) _ c.requires.0), c.requires.0, c.requires.8)
-
-pub overflow_mul-w : goal.overflow_mul-w
-overflow_mul-w c = omega arith
-
-pub overflow_add-w : goal.overflow_add-w
-overflow_add-w c = omega arith
-
-pub offset_bounds-counts-j : goal.offset_bounds-counts-j
-offset_bounds-counts-j c = omega arith
+loop-j-init c = (sym (several-none c.args.state.now (4 * c.args.w) _ c.requires.0), c.requires.0, c.requires.8)
 
 pub bounds-counts-j : goal.bounds-counts-j
 bounds-counts-j c = omega arith
@@ -45,17 +36,11 @@ feed_at-requires c =
     let r = p.6 l.j (omega arith) in
     let same =
     several-ahead a.state.now (4 * a.w) (ran_in a.state.now a.w a.row a.earlier a.notes.now a.pattern a.room.now a.sent.now a.base) p.0
-    l.j l.state l.invariant.1 (omega (arith, p.1))
+    l.j l.state l.invariant.0 (omega (arith, p.1))
     (λ i hi.
     run-whole a.row p.2 a.pattern (lent_from a.base (digits_of (quarter_of a.sent.now i))) (digits_of (quarter_of a.room.now i)) a.earlier a.notes.now i
     (block_at a.state.now (4 * a.w + i)) p.3 (p.6 i (omega arith))) in
-    (l.invariant.2, omega (arith, p.1), (p.2, omega arith, p.3, p.4, p.5, rw same r.known, rw same r.sound, p.7, l.invariant.3), counted-by a.row p.2 a.earlier a.notes.now _ l.j (omega arith) p.9)
-
-pub overflow_add-j : goal.overflow_add-j
-overflow_add-j c = omega arith
-
-pub loop-j-smaller : goal.loop-j-smaller
-loop-j-smaller c = omega arith
+    (l.invariant.1, omega (arith, p.1), (p.2, omega arith, p.3, p.4, p.5, rw same r.known, rw same r.sound, p.7, l.invariant.2), counted-by a.row p.2 a.earlier a.notes.now _ l.j (omega arith) p.9)
 
 pub loop-j-preserved : goal.loop-j-preserved
 loop-j-preserved c =
@@ -64,25 +49,24 @@ loop-j-preserved c =
     let a = c.args in
     let g : ℕ → Block = ran_in a.state.now a.w a.row a.earlier a.notes.now a.pattern a.room.now a.sent.now a.base in
     let same =
-    several-ahead a.state.now (4 * a.w) g p.0 l.j l.state l.invariant.1 (omega (arith, p.1))
+    several-ahead a.state.now (4 * a.w) g p.0 l.j l.state l.invariant.0 (omega (arith, p.1))
     (λ i hi.
     run-whole a.row p.2 a.pattern (lent_from a.base (digits_of (quarter_of a.sent.now i))) (digits_of (quarter_of a.room.now i)) a.earlier a.notes.now i
     (block_at a.state.now (4 * a.w + i)) p.3 (p.6 i (omega arith))) in
     let fed : c.feed_at.new.state ≡ with_block l.state (4 * a.w + l.j) (g l.j) = rw same at c.feed_at.ensures in (
-      omega arith,
-      several-next a.state.now (4 * a.w) g p.0 l.j (l.j + 1) l.state c.feed_at.new.state refl l.invariant.1 fed,
-      omega (arith, c.feed_at.auto.state, l.invariant.2),
-      omega (arith, c.feed_at.auto.scratch, l.invariant.3),
+      several-next a.state.now (4 * a.w) g p.0 l.j (l.j + 1) l.state c.feed_at.new.state refl l.invariant.0 fed,
+      omega (arith, c.feed_at.auto.state, l.invariant.1),
+      omega (arith, c.feed_at.auto.scratch, l.invariant.2),
     )
 
 pub shape_of-state : goal.shape_of-state
-shape_of-state c = omega (arith, c.loop-j.invariant.2, c.requires.0)
+shape_of-state c = omega (arith, c.loop-j.invariant.1, c.requires.0)
 
 pub shape_of-scratch : goal.shape_of-scratch
-shape_of-scratch c = omega (arith, c.loop-j.invariant.3, c.requires.8)
+shape_of-scratch c = omega (arith, c.loop-j.invariant.2, c.requires.8)
 
 pub returns : goal.returns
 returns c =
     let l = c.loop-j in
     let end : l.j ≡ 4 = omega arith in
-    rw end at l.invariant.1
+    rw end at l.invariant.0

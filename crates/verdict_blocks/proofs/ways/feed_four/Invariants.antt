@@ -1,7 +1,7 @@
 -- `feed_four`: tributary after tributary.
 use mathlib.Core.Path.{◌≡◌}
 use mathlib.Core.List.{List}
-use Prim.Native.Nat.{ℕ, ◌+◌, ◌-◌, ◌*◌, ◌≤◌}
+use Prim.Native.Nat.{ℕ, ◌+◌, ◌*◌}
 use lib.ListN.{length}
 use Rattle.digits.specs.Digits.{digits_of}
 use Rattle.table.specs.declared.Row.{Row}
@@ -21,10 +21,6 @@ ran_in state w row earlier notes pattern room sent base j =
 
 abbrev pub invariant-loop-j : goal.invariant-loop-j
 invariant-loop-j l =
-    (l.j ≤ 4)
-    × (l.state ≡ with_blocks l.initial.state (4 * l.w) (ran_in l.initial.state l.w l.row l.earlier l.notes l.pattern l.room l.sent l.base) l.j)
+    (l.state ≡ with_blocks l.initial.state (4 * l.w) (ran_in l.initial.state l.w l.row l.earlier l.notes l.pattern l.room l.sent l.base) l.j)
     × (length l.state ≡ 683)
     × (length l.scratch ≡ 128)
-
-abbrev pub decreases-loop-j : goal.decreases-loop-j
-decreases-loop-j l = 4 - l.j

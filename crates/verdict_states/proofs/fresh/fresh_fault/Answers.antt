@@ -11,6 +11,6 @@ pub returns-then-bad_earlier : goal.returns-then-bad_earlier
 unfolding fresh_fault
 returns-then-bad_earlier c = rw (sym c.bad_pattern.ensures ∙ c.if-bad_pattern.false, sym c.bad_earlier.ensures ∙ c.if-bad_earlier.true)
 
-pub returns : goal.returns
+pub returns-else-bad_earlier : goal.returns-else-bad_earlier
 unfolding fresh_fault
-returns c = rw (sym c.bad_pattern.ensures ∙ c.if-bad_pattern.false, sym c.bad_earlier.ensures ∙ c.if-bad_earlier.false)
+returns-else-bad_earlier c = rw (sym c.bad_pattern.ensures ∙ c.if-bad_pattern.false, sym c.bad_earlier.ensures ∙ c.if-bad_earlier.false)

@@ -13,10 +13,7 @@ use Rattle.verdict_states.proofs.fresh.put_blocks.Goals as goal
 
 pub loop-b-init : goal.loop-b-init
 unfolding blocks_numbers
-loop-b-init c = (omega arith, c.requires, sym (append-nil (take 11 c.args.state.now)))
-
-pub put_fresh_at-requires : goal.put_fresh_at-requires
-put_fresh_at-requires c = (c.loop-b.invariant.1, omega arith)
+loop-b-init c = (c.requires, sym (append-nil (take 11 c.args.state.now)))
 
 pub loop-b-preserved : goal.loop-b-preserved
 loop-b-preserved c =
@@ -24,23 +21,16 @@ loop-b-preserved c =
     let l = c.loop-b in
     let p = c.put_fresh_at in
     let x = fresh_block a.pattern in (
-      omega arith,
-      ap length p.ensures ∙ with-length l.state l.b x l.invariant.1 (omega arith) (fresh-whole a.pattern),
+      ap length p.ensures ∙ with-length l.state l.b x l.invariant.0 (omega arith) (fresh-whole a.pattern),
       ap (take (11 + 42 * (l.b + 1))) p.ensures
-          ∙ blocks_more l.state (take 11 a.state.now) l.b (λ (k : ℕ). x) (omega (arith, l.invariant.1)) (fresh-whole a.pattern) l.invariant.2,
+          ∙ blocks_more l.state (take 11 a.state.now) l.b (λ (k : ℕ). x) (omega (arith, l.invariant.0)) (fresh-whole a.pattern) l.invariant.1,
     )
 
 pub shape_of-state : goal.shape_of-state
-shape_of-state c = c.loop-b.invariant.1 ∙ sym c.requires
+shape_of-state c = c.loop-b.invariant.0 ∙ sym c.requires
 
 pub returns : goal.returns
 returns c =
     let l = c.loop-b in
     let end : l.b ≡ 16 = omega arith in
-    sym (take_all l.state 683 l.invariant.1) ∙ (rw end at l.invariant.2)
-
-pub overflow_add-b : goal.overflow_add-b
-overflow_add-b c = omega arith
-
-pub loop-b-smaller : goal.loop-b-smaller
-loop-b-smaller c = omega arith
+    sym (take_all l.state 683 l.invariant.0) ∙ (rw end at l.invariant.1)

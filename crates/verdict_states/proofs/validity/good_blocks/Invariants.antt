@@ -1,13 +1,9 @@
 -- `good_blocks`: block after block.
 use mathlib.Core.Path.{◌≡◌}
 use mathlib.Core.Bool.{true}
-use Prim.Native.Nat.{◌-◌, ◌≤◌}
 use Rattle.verdict_blocks.specs.Keeping.{block_at}
 use Rattle.verdict_states.specs.States.{good_blocks}
 use Rattle.verdict_states.proofs.validity.good_blocks.Given as goal
 
 abbrev pub invariant-loop-b : goal.invariant-loop-b
-invariant-loop-b l = (l.b ≤ 16) × (good_blocks l.pattern (block_at l.state) l.b ≡ true)
-
-abbrev pub decreases-loop-b : goal.decreases-loop-b
-decreases-loop-b l = 16 - l.b
+invariant-loop-b l = good_blocks l.pattern (block_at l.state) l.b ≡ true

@@ -1,6 +1,5 @@
 -- `good_lanes`: lane after lane.
 use mathlib.Core.Path.{◌≡◌, sym, ◌∙◌}
-use mathlib.Core.Bool.{true}
 use Prim.Native.Nat.{◌+◌}
 use native.Mathlib.Omega.{arith}
 use lib.ListN.{get_or}
@@ -16,53 +15,29 @@ returns-then-v-gt4611686018427387904 c =
 pub loop-k-init : goal.loop-k-init
 loop-k-init c =
     let v = c.args.v.now in
-    (omega arith, sym (lanes-first v) ∙ le-leb (get_or v 0 0) 4611686018427387904 c.if-v-gt4611686018427387904.false)
+    sym (lanes-first v) ∙ le-leb (get_or v 0 0) 4611686018427387904 c.if-v-gt4611686018427387904.false
 
 pub good_pair-requires : goal.good_pair-requires
 good_pair-requires c =
     let l = c.loop-k in
-    lane_low c.args.v.now l.k l.invariant.1
+    lane_low c.args.v.now l.k l.invariant
 
 pub returns-then-not-good_pair : goal.returns-then-not-good_pair
 returns-then-not-good_pair c =
     let v = c.args.v.now in
     let l = c.loop-k in
-    let next = lanes_next v l.k c.good_pair.result l.invariant.1 c.good_pair.ensures in
+    let next = lanes_next v l.k c.good_pair.result l.invariant c.good_pair.ensures in
     sym (lanes-bad v (l.k + 1) 16 (omega arith) (sym next ∙ c.if-not-good_pair.true))
 
 pub loop-k-preserved : goal.loop-k-preserved
 loop-k-preserved c =
     let v = c.args.v.now in
     let l = c.loop-k in
-    let next = lanes_next v l.k c.good_pair.result l.invariant.1 c.good_pair.ensures in
-    (omega arith, sym next ∙ c.if-not-good_pair.false)
+    let next = lanes_next v l.k c.good_pair.result l.invariant c.good_pair.ensures in
+    sym next ∙ c.if-not-good_pair.false
 
 pub returns : goal.returns
 returns c =
     let l = c.loop-k in
     let end : l.k ≡ 16 = omega arith in
-    sym (rw end at l.invariant.1)
-
-pub bounds-v-0 : goal.bounds-v-0
-bounds-v-0 c = omega arith
-
-pub offset_bounds-v-k : goal.offset_bounds-v-k
-offset_bounds-v-k c = omega arith
-
-pub bounds-v-k : goal.bounds-v-k
-bounds-v-k c = omega arith
-
-pub overflow_add-k : goal.overflow_add-k
-overflow_add-k c = omega arith
-
-pub offset_bounds-v-k-in-loop-k : goal.offset_bounds-v-k-in-loop-k
-offset_bounds-v-k-in-loop-k c = omega arith
-
-pub bounds-v-k-in-loop-k : goal.bounds-v-k-in-loop-k
-bounds-v-k-in-loop-k c = omega arith
-
-pub overflow_add-k-in-loop-k : goal.overflow_add-k-in-loop-k
-overflow_add-k-in-loop-k c = omega arith
-
-pub loop-k-smaller : goal.loop-k-smaller
-loop-k-smaller c = omega arith
+    sym (rw end at l.invariant)

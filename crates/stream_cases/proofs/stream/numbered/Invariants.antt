@@ -1,6 +1,0 @@
--- Each pass is one index further.
-use Rattle.std.proofs.Common.{◌-◌}
-use Rattle.stream_cases.proofs.stream.numbered.Given as goal
-
-abbrev pub decreases-loop-i : goal.decreases-loop-i
-decreases-loop-i g l = 9 - l.i

@@ -1,6 +1,0 @@
--- Each pass is one index further.
-use Rattle.std.proofs.Common.{◌-◌, length}
-use Rattle.telling.proofs.inputs.fill.Given as goal
-
-abbrev pub decreases-loop-i : goal.decreases-loop-i
-decreases-loop-i l = length l.s - l.i
