@@ -5,8 +5,7 @@ ghost use Rattle.std.specs.Prelude.{◌≡◌};
 ghost use Rattle.engine.specs.Engine.{answered_in, notes_read_in};
 
 use engine::Errors;
-use engine::refusals::Refused;
-use refusal::Refusal;
+use engine::refusals::{Refusal, Refused};
 
 // An answer as C is given it: the refusal's number, and the numbers of the array.
 fn answered_numbers(answered: Result<[usize; 4], Refused>) -> (u64, [u64; 5])
