@@ -34,7 +34,7 @@ use reading::Errors;
 use receiver::numbers;
 use refusal::Refusal;
 
-// Each answer is the numbers of the array that C lends for it: here four digit counts and the named frame, of either engine.
+// Each answer is the numbers of the array that C lends for it: here four digit counts and the named frame.
 fn counted_numbers(counts: [usize; 4], frame: usize) -> [u64; 5]
     ensures { result ≡ get_or counts 0 0 ∷ get_or counts 1 0 ∷ get_or counts 2 0 ∷ get_or counts 3 0 ∷ frame ∷ [] }
 {
@@ -78,7 +78,7 @@ pub extern "C" fn spritbobbin_multiplex(
     refusal
 }
 
-// Alignment digits that differ and dissenting digits, of either engine.
+// Alignment digits that differ and dissenting digits.
 fn noted_numbers(alignment: usize, dissent: [usize; 4]) -> [u64; 5]
     ensures { result ≡ alignment ∷ get_or dissent 0 0 ∷ get_or dissent 1 0 ∷ get_or dissent 2 0 ∷ get_or dissent 3 0 ∷ [] }
 {
