@@ -21,8 +21,10 @@ use Rattle.engine.specs.declared.refusals.Refused as plain
 use Rattle.engine.specs.declared.Errors as plain-errors
 use Rattle.engine.specs.Engine as engine
 use Rattle.engine.proofs.Numbers as plain-numbers
+use Rattle.multiframe.specs.declared.Refusal as multiframe-refusal
 use Rattle.multiframe.specs.declared.Refused as building
 use Rattle.multiframe.specs.Calls as multiframes
+use Rattle.multiframe.proofs.Numbers as multiframe-numbers
 use Rattle.begins.specs.declared.Candidate.{Candidate}
 use Rattle.begins.specs.Begins as begins
 use Rattle.multiframe_start.specs.Start as starting
@@ -109,12 +111,19 @@ notes-read-told (Err f) (Err g) e = ap (λ (x : plain-refusal.Refusal). Err x) (
 -- building a multiframe
 pub built-told : (r s : Result (Unit {0}) building.Refused) → multiframes.numbers_of r ≡ multiframes.numbers_of s → r ≡ s
 built-told (Ok x) (Ok y) e = λ i. Ok tt
-built-told (Ok x) (Err g) e = absurd (number-some g.refusal (sym (ap (λ (a : multiframes.Built). a.refusal) e)))
-built-told (Err f) (Ok y) e = absurd (number-some f.refusal (ap (λ (a : multiframes.Built). a.refusal) e))
+built-told (Ok x) (Err g) e = absurd (multiframe-numbers.number-some g.refusal (sym (ap (λ (a : multiframes.Built). a.refusal) e)))
+built-told (Err f) (Ok y) e = absurd (multiframe-numbers.number-some f.refusal (ap (λ (a : multiframes.Built). a.refusal) e))
 built-told (Err f) (Err g) e =
-    let same : f.refusal ≡ g.refusal = one-refusal f.refusal g.refusal (ap (λ (a : multiframes.Built). a.refusal) e) in
+    let same : f.refusal ≡ g.refusal = multiframe-numbers.one-refusal f.refusal g.refusal (ap (λ (a : multiframes.Built). a.refusal) e) in
     let channel : f.channel ≡ g.channel = ap (λ (a : multiframes.Built). a.channel) e in
     λ i. Err (record { refusal = same i; channel = channel i })
+
+-- taking one apart, which answers nothing but whether it is refused
+pub apart-told : (r s : Result (Unit {0}) multiframe-refusal.Refusal) → multiframes.refusal_in r ≡ multiframes.refusal_in s → r ≡ s
+apart-told (Ok x) (Ok y) e = λ i. Ok tt
+apart-told (Ok x) (Err g) e = absurd (multiframe-numbers.number-some g (sym e))
+apart-told (Err f) (Ok y) e = absurd (multiframe-numbers.number-some f e)
+apart-told (Err f) (Err g) e = ap (λ (x : multiframe-refusal.Refusal). Err x) (multiframe-numbers.one-refusal f g e)
 
 -- where a recording begins
 pub begun-told : (r s : Result Candidate Refusal) → begins.numbers_of r ≡ begins.numbers_of s → r ≡ s

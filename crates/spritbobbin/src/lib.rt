@@ -266,6 +266,16 @@ pub extern "C" fn spritbobbin_multiframe_build(
     refusal
 }
 
+// Taking apart answers nothing but whether it is refused: the refusal's number, or 0.
+fn apart_number(apart: Result<(), multiframe::Refusal>) -> u64
+    ensures { result ≡ building.refusal_in apart }
+{
+    match apart {
+        Ok(()) => 0,
+        Err(refusal) => u64::from(refusal),
+    }
+}
+
 // Takes a multiframe apart into channels, signalling and spare digits.
 #[unsafe(no_mangle)]
 pub extern "C" fn spritbobbin_multiframe_apart(
@@ -277,5 +287,5 @@ pub extern "C" fn spritbobbin_multiframe_apart(
     ensures { MultiframeApartMet multiframe.now channels.old signalling.old spare.old result
         channels.new signalling.new spare.new }
 {
-    refused::number_in(multiframe::apart(multiframe, channels, signalling, spare))
+    apart_number(multiframe::apart(multiframe, channels, signalling, spare))
 }
