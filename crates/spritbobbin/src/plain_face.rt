@@ -12,16 +12,7 @@ fn answered_numbers(answered: Result<[usize; 4], Refused>) -> (u64, [u64; 5])
     ensures { (result.0 ≡ (answered_in answered).refusal) × (result.1 ≡ answered_answer (answered_in answered)) }
 {
     match answered {
-        Ok(c) => (
-            0,
-            [
-                c[0] as u64,
-                c[1] as u64,
-                c[2] as u64,
-                c[3] as u64,
-                0,
-            ],
-        ),
+        Ok(c) => (0, [c[0] as u64, c[1] as u64, c[2] as u64, c[3] as u64, 0]),
         Err(refused) => (
             u64::from(refused.refusal),
             [0, 0, 0, 0, refused.frame as u64],
