@@ -5,4 +5,5 @@ pub mod Counting
 pub mod Search
 pub mod Quarters
 pub mod Judged
+pub mod Numbers
 pub mod Answers

@@ -1,15 +1,15 @@
 -- The plain engine: multiplexing and demultiplexing as G.742 and G.751 have them, and with positive/zero/negative justification (document 02,
--- request 10), digit by digit. This file is the whole of its specification; besides it only the level table (table/specs/Table.antt)
--- and the refusals' numbers (refusal/specs/Refusal.antt) have to be read. Its order is that of the Recommendations: digits, the frame,
--- justification, what is sent, what is received; after them the calls, with document 01's refusals and answers.
+-- request 10), digit by digit. This file is the whole of its specification; besides it only the level table (table/specs/Table.antt) has to
+-- be read. Its order is that of the Recommendations: digits, the frame, justification, what is sent, what is received; after them the calls,
+-- with document 01's refusals and answers.
 -- Everything is counted from 0: frames, the places of a frame, tributaries, digits. Tributary j is the Recommendations' j + 1.
 use Rattle.std.specs.Prelude.{◌≡◌, Bool, cond, true, false, not, ◌&&◌, ◌||◌, List, [], ◌∷◌, ◌++◌, ℕ, zero, suc, ◌+◌, ◌*◌, ◌-◌, ◌/◌, ◌%◌, ◌^◌, min, eqb, ltb, leb, length, get_or, Option, Some, None, Result, Ok, Err}
 use Rattle.table.specs.declared.Row.{Row}
 use Rattle.table.specs.Table.{level_of}
 use Rattle.engine.specs.declared.frame.Place.{Place}
 use Rattle.engine.specs.declared.frame.Place.TheVariants.{Alignment, Service, Fixed, Control, Negative, Positive, Tributary}
-use Rattle.refusal.specs.declared.Refusal as reason
-use Rattle.refusal.specs.Refusal.{number_of}
+use Rattle.engine.specs.declared.refusals.Refusal as reason
+use Rattle.engine.specs.declared.refusals.Refusal.TheVariants.{Level, Line, Notes, Buffer, NoteBits, National}
 use Rattle.engine.specs.declared.refusals.Refused.{Refused}
 use Rattle.engine.specs.declared.Errors.{Errors}
 
@@ -300,6 +300,19 @@ sending_on row earlier line notes buffer =
     cond (eqb (refusal_on row earlier line notes buffer).refusal 0)
     (cond (ltb (first_lacking row notes) (length notes)) (refusal_with 10 (first_lacking row notes)) (refusal_with 0 0))
     (refusal_on row earlier line notes buffer)
+
+-- the number of each refusal that the code knows, and the number that a call answers C with: 0 is accepted
+abbrev pub number_of : reason.Refusal → ℕ
+number_of Level = 1
+number_of Line = 2
+number_of Notes = 3
+number_of Buffer = 4
+number_of NoteBits = 5
+number_of National = 10
+
+abbrev pub refusal_in : {A : Type 0} → Result A reason.Refusal → ℕ
+refusal_in (Ok _) = 0
+refusal_in (Err refusal) = number_of refusal
 
 -- these in what the code answers
 abbrev pub fault_in : {A : Type 0} → Result A Refused → Refusal

@@ -1,12 +1,43 @@
 // The refusals of the three calls, in the documents' order.
 ghost use Rattle.std.specs.Prelude.{◌≡◌, ◌/◌, ◌^◌, ◌<◌, ◌≤◌, position};
 ghost use Rattle.engine.specs.Engine.{bad_line, bad_buffer, bad_earlier, too_much, national_ones, too_few, refusal_with, refusal_on, sending_on, reading_on};
-ghost use Rattle.engine.specs.Engine.{fault_in};
+ghost use Rattle.engine.specs.Engine.{number_of, refusal_in, fault_in};
 ghost use Rattle.engine.specs.Walk.{Regular};
-ghost use Rattle.refusal.specs.Refusal.{number_of, refusal_in};
 
-use refusal::Refusal;
 use table::Row;
+
+// The refusals that the three calls know, of those of the table of docs/GUIDE.md. An enum of the plain engine's own: it shares none with the
+// quick one.
+#[derive(Clone, Copy, Debug, PartialEq, Eq, Hash)]
+pub enum Refusal {
+    // no such level
+    Level,
+    // the line is no whole number of frames, or has over 64
+    Line,
+    // the notes are not a byte to a frame
+    Notes,
+    // the buffer is no four equal quarters, or has too little room
+    Buffer,
+    // a note has a bit that its level has not, or the vote before the first frame is none
+    NoteBits,
+    // a national digit of 0
+    National,
+}
+
+impl From<Refusal> for u64 {
+    ghost from_gives = { λ refusal number. number ≡ number_of refusal };
+
+    fn from(refusal: Refusal) -> u64 {
+        match refusal {
+            Refusal::Level => 1,
+            Refusal::Line => 2,
+            Refusal::Notes => 3,
+            Refusal::Buffer => 4,
+            Refusal::NoteBits => 5,
+            Refusal::National => 10,
+        }
+    }
+}
 
 // Why a call is refused, and the frame that refusal 5 or 10 names, or 0.
 #[derive(Clone, Copy, Debug, PartialEq, Eq, Hash)]

@@ -60,14 +60,20 @@ fn by_own(own: bool) -> Action
     }
 }
 
-// By the preceding frame's vote and its own.
+// By the preceding frame's vote and its own. A choice in a choice: as a `match` on the pair it costs multiplexing a fifth of its instructions.
 fn by_both(preceding: bool, own: bool) -> Action
     ensures { result ≡ by_both preceding own }
 {
-    match (preceding, own) {
-        (true, true) => Action::Stuffed,
-        (false, false) => Action::BothCarry,
-        _ => Action::PositiveCarries,
+    if own {
+        if preceding {
+            Action::Stuffed
+        } else {
+            Action::PositiveCarries
+        }
+    } else if preceding {
+        Action::PositiveCarries
+    } else {
+        Action::BothCarry
     }
 }
 

@@ -18,8 +18,7 @@ use Rattle.digits.specs.Digits.{digits_of, Bytes}
 use Rattle.digits.proofs.Laws.{digits-inj, digits-length, part-digit, bytes-by-place}
 use Rattle.multiframe.specs.declared.Kind.TheVariants.{Channel}
 use Rattle.multiframe.specs.Multiframe.{channel_from, digit_for, multiframe_of}
-use Rattle.refusal.specs.Refusal.{refusal_in}
-use Rattle.multiframe.specs.Calls.{Built, numbers_of, lengths_right, first_silent, built_of, BuildMet, Taken, ApartMet}
+use Rattle.multiframe.specs.Calls.{Built, refusal_in, numbers_of, lengths_right, first_silent, built_of, BuildMet, Taken, ApartMet}
 use Rattle.multiframe.specs.Trips.{FixedRight, channel_bytes, SameAt}
 use Rattle.multiframe.proofs.Lengths.{right-lengths}
 use Rattle.multiframe.proofs.Told.{Told, fixed, spare, signalled, channelled, told, signalling-there}

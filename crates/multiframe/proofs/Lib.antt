@@ -7,4 +7,5 @@ pub mod Told
 pub mod Made
 pub mod Lengths
 pub mod Places
+pub mod Numbers
 pub mod Answers

@@ -1,8 +1,8 @@
 -- What `build` and `apart` answer and leave, refused or not, for any input. Request 3 of document 02.
 use Rattle.std.specs.Prelude.{◌≡◌, Bool, cond, false, ◌&&◌, List, ℕ, zero, suc, ◌+◌, ◌<◌, ◌≤◌, eqb, length, get_or, Result, Ok, Err}
 use Rattle.digits.specs.Digits.{digits_of, Bytes}
-use Rattle.refusal.specs.declared.Refusal.{Refusal}
-use Rattle.refusal.specs.Refusal.{number_of}
+use Rattle.multiframe.specs.declared.Refusal.{Refusal}
+use Rattle.multiframe.specs.declared.Refusal.TheVariants.{Line, Signalling}
 use Rattle.multiframe.specs.declared.Refused.{Refused}
 use Rattle.multiframe.specs.Multiframe.{kind_at, is_fixed, signalling_from, digit_for, multiframe_of}
 
@@ -10,6 +10,17 @@ use Rattle.multiframe.specs.Multiframe.{kind_at, is_fixed, signalling_from, digi
 abbrev pub lengths_right : ℕ → ℕ → ℕ → ℕ → Bool
 lengths_right multiframe channels signalling spare =
     eqb multiframe 512 && (eqb channels 480 && (eqb signalling 15 && eqb spare 9))
+
+-- ---- the refusals' numbers
+
+-- the number of each refusal that the code knows, and the number that a call answers C with: 0 is accepted
+abbrev pub number_of : Refusal → ℕ
+number_of Line = 2
+number_of Signalling = 11
+
+abbrev pub refusal_in : {A : Type 0} → Result A Refusal → ℕ
+refusal_in (Ok _) = 0
+refusal_in (Err refusal) = number_of refusal
 
 -- ---- building
 

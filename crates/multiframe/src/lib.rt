@@ -10,11 +10,9 @@ ghost use Rattle.digits.specs.Digits.{digits_of, byte_of};
 ghost use Rattle.multiframe.specs.Steps.{ColumnPut, ColumnTaken, column_of, Channelled, Laid};
 ghost use Rattle.multiframe.specs.Steps.{word_byte, other_byte, first_bytes, sixteenth_byte, at, spare_bytes};
 ghost use Rattle.multiframe.specs.Calls.{lengths_right, BuildMet, ApartMet, Taken};
-ghost use Rattle.multiframe.specs.Calls.{naming_none, numbers_of};
-ghost use Rattle.refusal.specs.Refusal.{refusal_in};
+ghost use Rattle.multiframe.specs.Calls.{number_of, refusal_in, naming_none, numbers_of};
 
 use digits::digit_at;
-use refusal::Refusal;
 
 // The spare digits by their names: reserved for international use (M), alarm (A), for use at home, and in byte 16 of frame 0 X and Y.
 #[derive(Clone, Copy)]
@@ -33,6 +31,26 @@ pub enum Kind {
     Spare(SpareDigit),
     Signalling(usize),
     Channel(usize),
+}
+
+// The refusals that the two calls know, of those of the table of docs/GUIDE.md. An enum of this crate's own, which stands on `digits` alone.
+#[derive(Clone, Copy, Debug, PartialEq, Eq, Hash)]
+pub enum Refusal {
+    // a slice has not the length that it has for one multiframe
+    Line,
+    // signalling 0000 for one of channels 1 to 15
+    Signalling,
+}
+
+impl From<Refusal> for u64 {
+    ghost from_gives = { λ refusal number. number ≡ number_of refusal };
+
+    fn from(refusal: Refusal) -> u64 {
+        match refusal {
+            Refusal::Line => 2,
+            Refusal::Signalling => 11,
+        }
+    }
 }
 
 // Why `build` is refused, and the channel that the refusal names: 0 where it names none.

@@ -1,6 +1,6 @@
-// The plain engine: multiplexing and demultiplexing digit by digit. Besides the level table and the refusals' numbers it shares nothing with the
-// quick engine (crates multiplex, reading and extraction); the whole of its specification is specs/Engine.antt of crate engine, where what the three
-// calls share stands too. For each place of a line, in order: ask what the place is, then read or write one digit.
+// The plain engine: multiplexing and demultiplexing digit by digit. Besides the level table it shares nothing with the quick engine (crates
+// multiplex, reading and extraction); the whole of its specification is specs/Engine.antt of crate engine, where what the three calls share
+// stands too. For each place of a line, in order: ask what the place is, then read or write one digit.
 #![tactic(auto)]
 
 pub mod reading;
@@ -12,9 +12,8 @@ ghost use Rattle.engine.specs.Engine.{refusal_on, sending_on, reading_on, Multip
 ghost use Rattle.engine.specs.Engine.{answered_in, notes_read_in, answer_by, sent_line, read_answer, read_left, taken_buffer};
 ghost use Rattle.engine.specs.Walk.{Regular};
 
-use engine::refusals::Refused;
+use engine::refusals::{Refusal, Refused};
 use engine::{Errors, refusals};
-use refusal::Refusal;
 use table::Row;
 
 // A level's row is known.

@@ -16,11 +16,15 @@ use Rattle.swap.specs.Swap as swapping
 use Rattle.repair.specs.declared.Changes.{Changes}
 use Rattle.repair.specs.Repair as repairing
 use Rattle.captures.specs.Captures as capturing
+use Rattle.engine.specs.declared.refusals.Refusal as plain-refusal
 use Rattle.engine.specs.declared.refusals.Refused as plain
 use Rattle.engine.specs.declared.Errors as plain-errors
 use Rattle.engine.specs.Engine as engine
+use Rattle.engine.proofs.Numbers as plain-numbers
+use Rattle.multiframe.specs.declared.Refusal as multiframe-refusal
 use Rattle.multiframe.specs.declared.Refused as building
 use Rattle.multiframe.specs.Calls as multiframes
+use Rattle.multiframe.proofs.Numbers as multiframe-numbers
 use Rattle.begins.specs.declared.Candidate.{Candidate}
 use Rattle.begins.specs.Begins as begins
 use Rattle.multiframe_start.specs.Start as starting
@@ -87,32 +91,39 @@ written-told (Err f) (Err g) e = ap (λ (x : Refusal). Err x) (one-refusal f g (
 -- the plain multiplexing and extraction
 pub answered-told : (r s : Result (List ℕ) plain.Refused) → engine.answered_in r ≡ engine.answered_in s → r ≡ s
 answered-told (Ok x) (Ok y) e = ap (λ (n : List ℕ). Ok n) (ap (λ (a : engine.Answered). a.counts) e)
-answered-told (Ok x) (Err g) e = absurd (number-some g.refusal (sym (ap (λ (a : engine.Answered). a.refusal) e)))
-answered-told (Err f) (Ok y) e = absurd (number-some f.refusal (ap (λ (a : engine.Answered). a.refusal) e))
+answered-told (Ok x) (Err g) e = absurd (plain-numbers.number-some g.refusal (sym (ap (λ (a : engine.Answered). a.refusal) e)))
+answered-told (Err f) (Ok y) e = absurd (plain-numbers.number-some f.refusal (ap (λ (a : engine.Answered). a.refusal) e))
 answered-told (Err f) (Err g) e =
-    let same : f.refusal ≡ g.refusal = one-refusal f.refusal g.refusal (ap (λ (a : engine.Answered). a.refusal) e) in
+    let same : f.refusal ≡ g.refusal = plain-numbers.one-refusal f.refusal g.refusal (ap (λ (a : engine.Answered). a.refusal) e) in
     let frame : f.frame ≡ g.frame = ap (λ (a : engine.Answered). a.frame) e in
     λ i. Err (record { refusal = same i; frame = frame i })
 
 -- the plain reading
-pub notes-read-told : (r s : Result plain-errors.Errors Refusal) → engine.notes_read_in r ≡ engine.notes_read_in s → r ≡ s
+pub notes-read-told : (r s : Result plain-errors.Errors plain-refusal.Refusal) → engine.notes_read_in r ≡ engine.notes_read_in s → r ≡ s
 notes-read-told (Ok x) (Ok y) e =
     let alignment : x.alignment ≡ y.alignment = ap (λ (a : engine.NotesRead). a.alignment) e in
     let dissent : x.dissent ≡ y.dissent = ap (λ (a : engine.NotesRead). a.dissent) e in
     λ i. Ok (record { alignment = alignment i; dissent = dissent i })
-notes-read-told (Ok x) (Err g) e = absurd (number-some g (sym (ap (λ (a : engine.NotesRead). a.refusal) e)))
-notes-read-told (Err f) (Ok y) e = absurd (number-some f (ap (λ (a : engine.NotesRead). a.refusal) e))
-notes-read-told (Err f) (Err g) e = ap (λ (x : Refusal). Err x) (one-refusal f g (ap (λ (a : engine.NotesRead). a.refusal) e))
+notes-read-told (Ok x) (Err g) e = absurd (plain-numbers.number-some g (sym (ap (λ (a : engine.NotesRead). a.refusal) e)))
+notes-read-told (Err f) (Ok y) e = absurd (plain-numbers.number-some f (ap (λ (a : engine.NotesRead). a.refusal) e))
+notes-read-told (Err f) (Err g) e = ap (λ (x : plain-refusal.Refusal). Err x) (plain-numbers.one-refusal f g (ap (λ (a : engine.NotesRead). a.refusal) e))
 
 -- building a multiframe
 pub built-told : (r s : Result (Unit {0}) building.Refused) → multiframes.numbers_of r ≡ multiframes.numbers_of s → r ≡ s
 built-told (Ok x) (Ok y) e = λ i. Ok tt
-built-told (Ok x) (Err g) e = absurd (number-some g.refusal (sym (ap (λ (a : multiframes.Built). a.refusal) e)))
-built-told (Err f) (Ok y) e = absurd (number-some f.refusal (ap (λ (a : multiframes.Built). a.refusal) e))
+built-told (Ok x) (Err g) e = absurd (multiframe-numbers.number-some g.refusal (sym (ap (λ (a : multiframes.Built). a.refusal) e)))
+built-told (Err f) (Ok y) e = absurd (multiframe-numbers.number-some f.refusal (ap (λ (a : multiframes.Built). a.refusal) e))
 built-told (Err f) (Err g) e =
-    let same : f.refusal ≡ g.refusal = one-refusal f.refusal g.refusal (ap (λ (a : multiframes.Built). a.refusal) e) in
+    let same : f.refusal ≡ g.refusal = multiframe-numbers.one-refusal f.refusal g.refusal (ap (λ (a : multiframes.Built). a.refusal) e) in
     let channel : f.channel ≡ g.channel = ap (λ (a : multiframes.Built). a.channel) e in
     λ i. Err (record { refusal = same i; channel = channel i })
+
+-- taking one apart, which answers nothing but whether it is refused
+pub apart-told : (r s : Result (Unit {0}) multiframe-refusal.Refusal) → multiframes.refusal_in r ≡ multiframes.refusal_in s → r ≡ s
+apart-told (Ok x) (Ok y) e = λ i. Ok tt
+apart-told (Ok x) (Err g) e = absurd (multiframe-numbers.number-some g (sym e))
+apart-told (Err f) (Ok y) e = absurd (multiframe-numbers.number-some f e)
+apart-told (Err f) (Err g) e = ap (λ (x : multiframe-refusal.Refusal). Err x) (multiframe-numbers.one-refusal f g e)
 
 -- where a recording begins
 pub begun-told : (r s : Result Candidate Refusal) → begins.numbers_of r ≡ begins.numbers_of s → r ≡ s

@@ -34,7 +34,7 @@ use reading::Errors;
 use receiver::numbers;
 use refusal::Refusal;
 
-// Each answer is the numbers of the array that C lends for it: here four digit counts and the named frame, of either engine.
+// Each answer is the numbers of the array that C lends for it: here four digit counts and the named frame.
 fn counted_numbers(counts: [usize; 4], frame: usize) -> [u64; 5]
     ensures { result ≡ get_or counts 0 0 ∷ get_or counts 1 0 ∷ get_or counts 2 0 ∷ get_or counts 3 0 ∷ frame ∷ [] }
 {
@@ -78,7 +78,7 @@ pub extern "C" fn spritbobbin_multiplex(
     refusal
 }
 
-// Alignment digits that differ and dissenting digits, of either engine.
+// Alignment digits that differ and dissenting digits.
 fn noted_numbers(alignment: usize, dissent: [usize; 4]) -> [u64; 5]
     ensures { result ≡ alignment ∷ get_or dissent 0 0 ∷ get_or dissent 1 0 ∷ get_or dissent 2 0 ∷ get_or dissent 3 0 ∷ [] }
 {
@@ -266,6 +266,16 @@ pub extern "C" fn spritbobbin_multiframe_build(
     refusal
 }
 
+// Taking apart answers nothing but whether it is refused: the refusal's number, or 0.
+fn apart_number(apart: Result<(), multiframe::Refusal>) -> u64
+    ensures { result ≡ building.refusal_in apart }
+{
+    match apart {
+        Ok(()) => 0,
+        Err(refusal) => u64::from(refusal),
+    }
+}
+
 // Takes a multiframe apart into channels, signalling and spare digits.
 #[unsafe(no_mangle)]
 pub extern "C" fn spritbobbin_multiframe_apart(
@@ -277,5 +287,5 @@ pub extern "C" fn spritbobbin_multiframe_apart(
     ensures { MultiframeApartMet multiframe.now channels.old signalling.old spare.old result
         channels.new signalling.new spare.new }
 {
-    refused::number_in(multiframe::apart(multiframe, channels, signalling, spare))
+    apart_number(multiframe::apart(multiframe, channels, signalling, spare))
 }

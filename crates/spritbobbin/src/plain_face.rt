@@ -5,18 +5,17 @@ ghost use Rattle.std.specs.Prelude.{◌≡◌};
 ghost use Rattle.engine.specs.Engine.{answered_in, notes_read_in};
 
 use engine::Errors;
-use engine::refusals::Refused;
-use refusal::Refusal;
+use engine::refusals::{Refusal, Refused};
 
-// An answer as C is given it: the refusal's number, and the numbers of the array.
+// An answer as C is given it: the refusal's number, and the numbers of the array. No line of it is the quick engine's.
 fn answered_numbers(answered: Result<[usize; 4], Refused>) -> (u64, [u64; 5])
     ensures { (result.0 ≡ (answered_in answered).refusal) × (result.1 ≡ answered_answer (answered_in answered)) }
 {
     match answered {
-        Ok(counts) => (0, crate::counted_numbers(counts, 0)),
+        Ok(c) => (0, [c[0] as u64, c[1] as u64, c[2] as u64, c[3] as u64, 0]),
         Err(refused) => (
             u64::from(refused.refusal),
-            crate::counted_numbers([0; 4], refused.frame),
+            [0, 0, 0, 0, refused.frame as u64],
         ),
     }
 }
@@ -25,8 +24,20 @@ fn errors_numbers(read: Result<Errors, Refusal>) -> (u64, [u64; 5])
     ensures { (result.0 ≡ (notes_read_in read).refusal) × (result.1 ≡ notes_read_answer (notes_read_in read)) }
 {
     match read {
-        Ok(errors) => (0, crate::noted_numbers(errors.alignment, errors.dissent)),
-        Err(refusal) => (u64::from(refusal), crate::noted_numbers(0, [0; 4])),
+        Ok(errors) => {
+            let e = errors.dissent;
+            (
+                0,
+                [
+                    errors.alignment as u64,
+                    e[0] as u64,
+                    e[1] as u64,
+                    e[2] as u64,
+                    e[3] as u64,
+                ],
+            )
+        }
+        Err(refusal) => (u64::from(refusal), [0; 5]),
     }
 }
 

@@ -15,6 +15,7 @@ use Rattle.digits.proofs.Written.{written-cat, written-mod, low_digit}
 use Rattle.digits.proofs.Windows.{window-first, window-last}
 use Rattle.words.specs.declared.Writer.{Writer}
 use Rattle.words.specs.Turning.{TurnedOver}
+use Rattle.unweave.specs.declared.Columns.{Columns}
 use Rattle.unweave.specs.Lanes.{picked, row_of}
 use Rattle.unweave.specs.Quarters.{number_of, Numbered, Within}
 
@@ -82,7 +83,7 @@ module _ (ds : List ℕ) (bin : Binary ds) where
   -- ---- columns as four numbers, by the rows of a word
 
   -- fewer than sixteen
-  pub numbered-few : (p n x rows : ℕ) (r : List ℕ) → n ≤ 16 → x ≡ window_at ds p (4 * n) → TurnedOver rows x
+  pub numbered-few : (p n x rows : ℕ) (r : Columns) → n ≤ 16 → x ≡ window_at ds p (4 * n) → TurnedOver rows x
       → ((j : ℕ) → j < 4 → (number_of r j ≡ row_of rows j % 2 ^ n) × (number_of r j < 2 ^ n)) → Numbered ds p n r
   numbered-few p n x rows r few ex turned last =
       record {
@@ -93,7 +94,7 @@ module _ (ds : List ℕ) (bin : Binary ds) where
       }
 
   -- the first sixteen, and the last ones of the last sixteen
-  pub numbered-many : (p p' n m x y first last : ℕ) (r : List ℕ) → n ≡ 16 + m → p' ≡ p + 4 * m → m ≤ 16 → x ≡ window_at ds p 64 → TurnedOver first x
+  pub numbered-many : (p p' n m x y first last : ℕ) (r : Columns) → n ≡ 16 + m → p' ≡ p + 4 * m → m ≤ 16 → x ≡ window_at ds p 64 → TurnedOver first x
       → y ≡ window_at ds p' 64 → TurnedOver last y
       → ((j : ℕ) → j < 4 → (number_of r j ≡ row_of first j * 2 ^ m + row_of last j % 2 ^ m) × (number_of r j < 2 ^ (16 + m)))
       → Numbered ds p n r

@@ -1,9 +1,10 @@
 -- Four writers, each in its quarter of one buffer: how many digits more have room, and what they have put out.
-use Rattle.std.specs.Prelude.{◌≡◌, ◌≢◌, List, ◌++◌, ℕ, zero, suc, ◌+◌, ◌*◌, ◌^◌, ◌<◌, ◌≤◌, length, take, drop, get_or}
+use Rattle.std.specs.Prelude.{◌≡◌, ◌≢◌, List, ◌++◌, ℕ, zero, suc, ◌+◌, ◌*◌, ◌^◌, ◌<◌, ◌≤◌, length, take, drop}
 use Rattle.digits.specs.Digits.{written}
 use Rattle.words.specs.declared.Writer.{Writer}
 use Rattle.words.specs.Words.{Ready, out_from}
 use Rattle.unweave.specs.declared.Writers.{Writers}
+use Rattle.unweave.specs.declared.Columns.{Columns}
 use Rattle.unweave.specs.Lanes.{run_digits}
 
 -- quarter j (from 0) of a buffer, of q bytes
@@ -18,14 +19,17 @@ writer_of w (suc (suc zero)) = w.c
 writer_of w (suc (suc (suc j))) = w.d
 
 -- tributary j's number (from 0) of four, and that each has at most n digits
-abbrev pub number_of : List ℕ → ℕ → ℕ
-number_of x j = get_or x j 0
+abbrev pub number_of : Columns → ℕ → ℕ
+number_of x zero = x.a
+number_of x (suc zero) = x.b
+number_of x (suc (suc zero)) = x.c
+number_of x (suc (suc (suc j))) = x.d
 
-abbrev pub Below : ℕ → List ℕ → Type 0
+abbrev pub Below : ℕ → Columns → Type 0
 Below n x = (j : ℕ) → j < 4 → number_of x j < 2 ^ n
 
 -- the four numbers are each tributary's digits of n columns from place p on
-pub record Numbered (ds : List ℕ) (p n : ℕ) (x : List ℕ) : Type 0 where
+pub record Numbered (ds : List ℕ) (p n : ℕ) (x : Columns) : Type 0 where
   pub below : Below n x
   pub digits : (j : ℕ) → j < 4 → written n (number_of x j) ≡ run_digits ds p n j
 

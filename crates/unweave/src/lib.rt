@@ -35,58 +35,65 @@ fn put_quarter(buffer: &mut [u8], q: usize, j: usize, w: Writer, word: u64, n: u
     words::put(&mut buffer[a..e], w, word, n)
 }
 
-// Appends n digits to those of each tributary, whose numbers these are, in order.
-fn put_four(buffer: &mut [u8], q: usize, w: Writers, x: [u64; 4], n: usize) -> Writers
+// The tributaries' digits, in order, each as a number. Four names and no array, an early return in `columns_at`, and in `receive_columns` a loop by
+// what was taken: without any of the three extraction takes up to a twelfth more instructions.
+#[derive(Clone, Copy)]
+struct Columns {
+    a: u64,
+    b: u64,
+    c: u64,
+    d: u64,
+}
+
+// Appends n digits to those of each tributary.
+fn put_four(buffer: &mut [u8], q: usize, w: Writers, x: Columns, n: usize) -> Writers
     requires { (4 * q ≤ length buffer.old) × (n ≤ 32) × Below n x × Roomy q (λ (j : ℕ). n) w }
     ensures { Grown q buffer.old buffer.new w result (λ (j : ℕ). written n (number_of x j)) }
 {
-    let a = put_quarter(buffer, q, 0, w.a, x[0], n);
-    let b = put_quarter(buffer, q, 1, w.b, x[1], n);
-    let c = put_quarter(buffer, q, 2, w.c, x[2], n);
-    let d = put_quarter(buffer, q, 3, w.d, x[3], n);
+    let a = put_quarter(buffer, q, 0, w.a, x.a, n);
+    let b = put_quarter(buffer, q, 1, w.b, x.b, n);
+    let c = put_quarter(buffer, q, 2, w.c, x.c, n);
+    let d = put_quarter(buffer, q, 3, w.d, x.d, n);
     Writers { a, b, c, d }
 }
 
 // Fewer than sixteen columns from place p of the line on, each tributary's digits as a number.
-fn few_columns(line: &[u8], p: usize, n: usize) -> [u64; 4]
+fn few_columns(line: &[u8], p: usize, n: usize) -> Columns
     requires { (p + 4 * n ≤ 8 * length line.now) × (p < 2 ^ 31) × (0 < n) × (n < 16) }
     ensures { Numbered (digits_of line.now) p n result }
 {
     let rows = turning::from_columns(words::read_wide(line, p, 4 * n));
-    [
-        sorting::last_of(rows, 0, n),
-        sorting::last_of(rows, 1, n),
-        sorting::last_of(rows, 2, n),
-        sorting::last_of(rows, 3, n),
-    ]
+    let a = sorting::last_of(rows, 0, n);
+    let b = sorting::last_of(rows, 1, n);
+    let c = sorting::last_of(rows, 2, n);
+    let d = sorting::last_of(rows, 3, n);
+    Columns { a, b, c, d }
 }
 
 // Sixteen columns or more from place p of the line on, up to 32: the first sixteen and the last sixteen, which may have some in common.
-fn many_columns(line: &[u8], p: usize, n: usize) -> [u64; 4]
+fn many_columns(line: &[u8], p: usize, n: usize) -> Columns
     requires { (p + 4 * n ≤ 8 * length line.now) × (p < 2 ^ 31) × (16 ≤ n) × (n ≤ 32) }
     ensures { Numbered (digits_of line.now) p n result }
 {
     let more = n - 16;
     let first = turning::from_columns(words::read_word(line, p));
     let last = turning::from_columns(words::read_word(line, p + 4 * more));
-    [
-        sorting::both_of(first, last, 0, more),
-        sorting::both_of(first, last, 1, more),
-        sorting::both_of(first, last, 2, more),
-        sorting::both_of(first, last, 3, more),
-    ]
+    let a = sorting::both_of(first, last, 0, more);
+    let b = sorting::both_of(first, last, 1, more);
+    let c = sorting::both_of(first, last, 2, more);
+    let d = sorting::both_of(first, last, 3, more);
+    Columns { a, b, c, d }
 }
 
 // Up to 32 columns from place p of the line on.
-fn columns_at(line: &[u8], p: usize, n: usize) -> [u64; 4]
+fn columns_at(line: &[u8], p: usize, n: usize) -> Columns
     requires { (p + 4 * n ≤ 8 * length line.now) × (p < 2 ^ 31) × (0 < n) × (n ≤ 32) }
     ensures { Numbered (digits_of line.now) p n result }
 {
     if n < 16 {
-        few_columns(line, p, n)
-    } else {
-        many_columns(line, p, n)
+        return few_columns(line, p, n);
     }
+    many_columns(line, p, n)
 }
 
 // The columns between two heads, from place p of the line on, up to 32 a turn: each tributary is handed every fourth digit. One call puts out whole turns
@@ -103,10 +110,12 @@ fn receive_columns(
     ensures { Grown q buffer.old buffer.new w0 result (run_digits (digits_of line.now) p columns) }
 {
     let mut w = w0;
-    for k in (0..columns).step_by(32) {
-        let n = (columns - k).min(32);
+    let mut k: usize = 0;
+    while k < columns {
+        let n = words::at_most(columns - k, 32);
         let x = columns_at(line, p + 4 * k, n);
         w = put_four(buffer, q, w, x, n);
+        k += n;
     }
     w
 }

@@ -4,7 +4,7 @@ use Prim.Native.Nat.{ℕ}
 use mathlib.Core.Path.{refl, sym, ap₂}
 use borrow.Author.Tests.{eq-eqb, ne_eqb}
 use Rattle.std.proofs.lemmas.Result.{err_from_is_err_and}
-use Rattle.refusal.proofs.Numbers.{number-some}
+use Rattle.engine.proofs.Numbers.{number-some}
 use Rattle.engine.proofs.Judged.{readable}
 use Rattle.plain.proofs.read_notes_on.Goals as goal
 

@@ -2,7 +2,7 @@
 use mathlib.Core.Path.{refl}
 use borrow.Author.Tests.{ne_eqb}
 use Rattle.std.proofs.lemmas.Result.{err_from_is_err_and}
-use Rattle.refusal.proofs.Numbers.{number-some}
+use Rattle.engine.proofs.Numbers.{number-some}
 use Rattle.engine.specs.Engine.{sending_on, too_few}
 use Rattle.engine.proofs.Search.{found, absent}
 use Rattle.engine.proofs.refusals.sending_on.Goals as goal
