@@ -35,8 +35,7 @@ fn put_quarter(buffer: &mut [u8], q: usize, j: usize, w: Writer, word: u64, n: u
     words::put(&mut buffer[a..e], w, word, n)
 }
 
-// The tributaries' digits, in order, each as a number. Four names and no array, an early return in `columns_at`, and in `receive_columns` a loop by
-// what was taken: without any of the three extraction takes up to a twelfth more instructions.
+// The tributaries' digits, in order, each as a number.
 #[derive(Clone, Copy)]
 struct Columns {
     a: u64,
@@ -91,13 +90,15 @@ fn columns_at(line: &[u8], p: usize, n: usize) -> Columns
     ensures { Numbered (digits_of line.now) p n result }
 {
     if n < 16 {
-        return few_columns(line, p, n);
+        few_columns(line, p, n)
+    } else {
+        many_columns(line, p, n)
     }
-    many_columns(line, p, n)
 }
 
 // The columns between two heads, from place p of the line on, up to 32 a turn: each tributary is handed every fourth digit. One call puts out whole turns
-// and what is left, so that the writers stay where the compiler has them.
+// and what is left, so that the writers stay where the compiler has them. The loop goes by what was taken: in a range of turns, or with `step_by`,
+// extraction takes a tenth more instructions.
 fn receive_columns(
     line: &[u8],
     p: usize,
@@ -112,7 +113,7 @@ fn receive_columns(
     let mut w = w0;
     let mut k: usize = 0;
     while k < columns {
-        let n = words::at_most(columns - k, 32);
+        let n = (columns - k).min(32);
         let x = columns_at(line, p + 4 * k, n);
         w = put_four(buffer, q, w, x, n);
         k += n;
@@ -173,7 +174,8 @@ fn receive_column(
 }
 
 // The head of set s, from place p of the line on: of the last set's, the columns behind the control digits, each by what its places are, so that the
-// negative places come before the positive ones. One call hands out either, so that the writers stay where the compiler has them.
+// negative places come before the positive ones. One call hands out either, so that the writers stay where the compiler has them. The loop goes by hand:
+// with `step_by` extraction takes a twelfth more instructions, in a range of columns a fiftieth.
 fn receive_head(
     row: Row,
     line: &[u8],
@@ -196,7 +198,8 @@ fn receive_head(
         return w0;
     }
     let mut w = w0;
-    for r in (CONTROL_END + 1..row.last).step_by(4) {
+    let mut r: usize = CONTROL_END + 1;
+    while r < row.last {
         let kind = places::kind_of(
             row,
             At {
@@ -206,6 +209,7 @@ fn receive_head(
             },
         );
         w = receive_column(row, line, p + r, kind, preceding, note, buffer, q, w);
+        r += 4;
     }
     w
 }

@@ -10,12 +10,12 @@ fn row_of(rows: u64, j: usize) -> u64
     (rows >> (16 * (3 - j))) & 65535
 }
 
-// The last n digits of tributary j's row.
+// The last n digits of tributary j's row. One mask takes away the digits before them and the rows before it.
 pub fn last_of(rows: u64, j: usize, n: usize) -> u64
     requires { (j < 4) × (n ≤ 16) }
     ensures { (result ≡ row_of rows j % 2 ^ n) × (result < 2 ^ n) }
 {
-    row_of(rows, j) & words::ones(n)
+    (rows >> (16 * (3 - j))) & words::ones(n)
 }
 
 // Tributary j's row, then the last n digits of its row in another word.

@@ -13,9 +13,6 @@ loop-k-init c = receiving-none _ _ _ _ _ _ c.requires.roomy
 pub overflow_sub-columns : goal.overflow_sub-columns
 overflow_sub-columns c = omega (arith, c.loop-k.invariant.to)
 
-pub at_most-n-requires : goal.at_most-n-requires
-at_most-n-requires c = (omega (arith, c.loop-k-test.true), omega arith)
-
 pub overflow_mul-k : goal.overflow_mul-k
 overflow_mul-k c =
     omega (arith, c.loop-k.invariant.to, c.requires.small)
@@ -26,29 +23,29 @@ overflow_add-p c =
 
 pub columns_at-x-requires : goal.columns_at-x-requires
 columns_at-x-requires c =
-    let n = c.at_most-n.ensures in
     let to = c.loop-k.invariant.to in
-    (omega (arith, to, n.0, c.requires.inside), omega (arith, to, c.requires.small), n.2, n.1)
+    let n = c.min-n.ensures in
+    (omega (arith, n, to, c.requires.inside), omega (arith, n, to, c.requires.small), omega (arith, n, c.loop-k-test.true), omega (arith, n))
 
 pub put_four-w-requires : goal.put_four-w-requires
 put_four-w-requires c =
-    let n = c.at_most-n.ensures in
+    let n = c.min-n.ensures in
     let so_far = c.loop-k.invariant in
-    (omega (arith, so_far.kept, c.requires.quarters), n.1, c.columns_at-x.ensures.below, receiving-room so_far _ n.0 c.requires.roomy)
+    (omega (arith, so_far.kept, c.requires.quarters), omega (arith, n), c.columns_at-x.ensures.below, receiving-room so_far _ (omega (arith, n)) c.requires.roomy)
 
 pub overflow_add-k : goal.overflow_add-k
 overflow_add-k c =
-    omega (arith, c.at_most-n.ensures.0, c.loop-k.invariant.to, c.requires.small)
+    omega (arith, c.min-n.ensures, c.loop-k.invariant.to, c.requires.small)
 
 pub loop-k-smaller : goal.loop-k-smaller
 loop-k-smaller c =
-    omega (arith, c.at_most-n.ensures.2, c.loop-k-test.true)
+    omega (arith, c.min-n.ensures, c.loop-k-test.true)
 
 pub loop-k-preserved : goal.loop-k-preserved
 loop-k-preserved c =
-    let n = c.at_most-n.result in
+    let n = c.min-n.result in
     let so_far = c.loop-k.invariant in
-    let more : c.loop-k.k + n ≤ c.args.columns = omega (arith, so_far.to, c.at_most-n.ensures.0) in
+    let more : c.loop-k.k + n ≤ c.args.columns = omega (arith, so_far.to, c.min-n.ensures) in
     let run = run_digits (digits_of c.args.line.now) (c.args.p + 4 * c.loop-k.k) n in
     receiving-more so_far n more c.put_four-w.auto.buffer (grown-as run c.put_four-w.ensures c.columns_at-x.ensures.digits)
 

@@ -37,6 +37,10 @@ receive_column-w-requires c =
       heading-room _ _ _ _ _ _ _ _ so_far c.requires.0 c.if-s-row.false c.loop-r-test.true c.requires.4,
     )
 
+pub overflow_add-r-in-loop-r : goal.overflow_add-r-in-loop-r
+overflow_add-r-in-loop-r c =
+    omega (arith, c.loop-r.invariant.to, c.requires.0.last_most)
+
 pub loop-r-smaller : goal.loop-r-smaller
 loop-r-smaller c = omega (arith, c.loop-r-test.true)
 
@@ -45,12 +49,9 @@ loop-r-preserved c =
     heading-more _ _ _ _ _ _ _ _ c.loop-r.invariant c.loop-r-test.true c.requires.0.last_fours c.receive_column-w.auto.buffer
     (rw c.kind_of-kind.ensures at c.receive_column-w.ensures)
 
-pub returns-else-s-row : goal.returns-else-s-row
-returns-else-s-row c =
-    heading-all _ _ _ _ _ _ _ _ c.loop-r.invariant c.requires.0 c.if-s-row.false (omega (arith, c.loop-r.invariant.to, c.loop-r-test.false))
+pub shape_of-buffer : goal.shape_of-buffer
+shape_of-buffer c = c.loop-r.invariant.kept
 
-pub returns-else-s-row-2 : goal.returns-else-s-row-2
-returns-else-s-row-2 c =
-    let h = heading-more _ _ _ _ _ _ _ _ c.loop-r.invariant c.loop-r-test.true c.requires.0.last_fours c.receive_column-w.auto.buffer
-    (rw c.kind_of-kind.ensures at c.receive_column-w.ensures) in
-    heading-all _ _ _ _ _ _ _ _ h c.requires.0 c.if-s-row.false (omega (arith, h.to))
+pub returns : goal.returns
+returns c =
+    heading-all _ _ _ _ _ _ _ _ c.loop-r.invariant c.requires.0 c.if-s-row.false (omega (arith, c.loop-r.invariant.to, c.loop-r-test.false))
